@@ -1,0 +1,101 @@
+-- The answer of every public call, and the bytes after it.
+use Prim.Native.Nat.{ℕ, zero, suc, _+_}
+use mathlib.Core.Bool.{Bool, true, false, cond, _&&_}
+use mathlib.Core.List.{List, [], _∷_}
+use lib.Dec.{eqb, ltb}
+use Rattle.matrix.specs.declared.Fields.{Fields}
+use Rattle.matrix.specs.declared.Answer.{Answer}
+use Rattle.matrix.specs.declared.Answer.the-variants.{Accepted, Refused}
+use Rattle.matrix.specs.declared.Holding.{Holding}
+use Rattle.matrix.specs.declared.Holding.the-variants.{Yes, No}
+use Rattle.matrix.specs.declared.Outcome.{Outcome}
+use Rattle.matrix.specs.Names.{nameOf}
+use Rattle.matrix.specs.Rights.{rightOf}
+use Rattle.matrix.specs.State.{State, held}
+use Rattle.matrix.specs.Commands.{Raw}
+use Rattle.matrix.specs.Tests.{test, firstFailed}
+use Rattle.matrix.specs.Step.{refusal, links, next, answer}
+use Rattle.matrix.specs.Shape.{Shape, shapeOf, bitsOf, basicsOf, columns}
+use Rattle.matrix.specs.Reading.{stateOf, bytesOf}
+use Rattle.matrix.specs.Record.{recordRefusal}
+use Rattle.matrix.specs.CommandList.{wellFormed, commandsOf}
+
+-- Whether a record is valid: "no exactly where 1 to 5 would turn it down, and never a refusal".
+unfoldable pub validAnswer : List ℕ → Bool
+validAnswer b = eqb (recordRefusal b) 0
+
+-- Refusal 7 of a question: "i or s ≥ n, o ≥ n + p, .. right > 15".
+abbrev pub questionFits : Shape → ℕ → ℕ → ℕ → Bool
+questionFits f s o right = ltb s (f .n) && ltb o (columns f) && ltb right (bitsOf f)
+
+-- Whether a right is held: 1 to 5, then 7.
+unfoldable pub heldRefusal : List ℕ → ℕ → ℕ → ℕ → ℕ
+heldRefusal b s o right = firstFailed (test (recordRefusal b) (eqb (recordRefusal b) 0) ∷ test 7 (questionFits (shapeOf b) s o right) ∷ [])
+
+unfoldable pub heldAnswer : List ℕ → ℕ → ℕ → ℕ → Holding
+heldAnswer b s o right =
+    cond (eqb (heldRefusal b s o right) 0)
+    (cond (held (stateOf b) (rightOf right) s (nameOf (shapeOf b .n) o)) Yes No)
+    (Rattle.matrix.specs.declared.Holding.the-variants.Refused (heldRefusal b s o right))
+
+-- A command as given to a record of a shape: "in a written list o below n is subject o, any other is plain name o".
+abbrev pub rawOf : Shape → Fields → Raw
+rawOf f c = record { code = c .code; i = c .i; s = c .s; o = nameOf (f .n) (c .o); k = c .k }
+
+-- "i or s ≥ n, o ≥ n + p"
+abbrev pub namesFit : Shape → Fields → Bool
+namesFit f c = ltb (c .i) (f .n) && ltb (c .s) (f .n) && ltb (c .o) (columns f)
+
+-- the refusal, 6 to 14, of a command on a state of a shape, or 0; the links that are answered with it; and the state after it
+unfoldable pub refusalOn : Shape → State → Fields → ℕ
+refusalOn f S c = refusal (basicsOf f) (namesFit f c) S (rawOf f c)
+
+unfoldable pub linksOn : Shape → State → Fields → ℕ
+linksOn f S c = links (basicsOf f) (namesFit f c) S (rawOf f c)
+
+unfoldable pub nextOn : Shape → State → Fields → State
+nextOn f S c = next (basicsOf f) (namesFit f c) S (rawOf f c)
+
+-- A command on a record: 1 to 5, then 6 to 14. "A refusal changes nothing."
+unfoldable pub commandAnswer : List ℕ → Fields → Answer
+commandAnswer b c =
+    cond (eqb (recordRefusal b) 0)
+    (answer (refusalOn (shapeOf b) (stateOf b) c) (linksOn (shapeOf b) (stateOf b) c))
+    (Refused (recordRefusal b) 0)
+
+unfoldable pub commandBytes : List ℕ → Fields → List ℕ
+commandBytes b c =
+    cond (eqb (recordRefusal b) 0 && eqb (refusalOn (shapeOf b) (stateOf b) c) 0)
+    (bytesOf (shapeOf b) (nextOn (shapeOf b) (stateOf b) c))
+    b
+
+-- A run over a list of commands. "The run stops at the first refused command and answers the number accepted and the refusal,
+-- 0 if none."
+pub record Ran : Type 0 where
+  pub accepted : ℕ
+  pub refusal : ℕ
+  pub state : State
+
+unfoldable pub runFrom : ℕ → Shape → State → List Fields → Ran
+runFrom accepted f S [] = record { accepted = accepted; refusal = 0; state = S }
+runFrom accepted f S (c ∷ cs) =
+    cond (eqb (refusalOn f S c) 0)
+    (runFrom (accepted + 1) f (nextOn f S c) cs)
+    (record { accepted = accepted; refusal = refusalOn f S c; state = S })
+
+-- A list run on a record: 1 to 5, then 16, then each command. "Refusals 1 to 5 and 16 come with 0 accepted."
+unfoldable pub runRefusal : List ℕ → List ℕ → ℕ
+runRefusal b l = firstFailed (test (recordRefusal b) (eqb (recordRefusal b) 0) ∷ test 16 (wellFormed l) ∷ [])
+
+abbrev pub ranOn : List ℕ → List ℕ → Ran
+ranOn b l = runFrom 0 (shapeOf b) (stateOf b) (commandsOf l)
+
+unfoldable pub runAnswer : List ℕ → List ℕ → Outcome
+runAnswer b l =
+    cond (eqb (runRefusal b l) 0)
+    (record { accepted = ranOn b l .accepted; refusal = ranOn b l .refusal })
+    (record { accepted = 0; refusal = runRefusal b l })
+
+-- "a list run keeps what it accepted before"
+unfoldable pub runBytes : List ℕ → List ℕ → List ℕ
+runBytes b l = cond (eqb (runRefusal b l) 0) (bytesOf (shapeOf b) (ranOn b l .state)) b

@@ -1,0 +1,43 @@
+-- A list of commands: "Version byte 1, a four-byte L of the bytes that follow (at most 60,000), then records of a length byte 05
+-- and the five fields, one byte each."
+use Prim.Native.Nat.{ℕ, zero, suc, _+_, _*_, _/_, _%_}
+use mathlib.Core.Bool.{Bool, true, false, _&&_}
+use mathlib.Core.List.{List, [], _∷_}
+use lib.Dec.{eqb, leb}
+use lib.ListN.{length, getD}
+use Rattle.matrix.specs.declared.Fields.{Fields}
+use Rattle.matrix.specs.Bounded.{all}
+use Rattle.matrix.specs.Bytes.{numberAt}
+
+-- the bytes of one command in a list, and the most that may follow the list's head of 5 bytes
+abbrev pub recordBytes : ℕ
+recordBytes = 6
+
+abbrev pub mostListBytes : ℕ
+mostListBytes = 60000
+
+-- the number of commands that the list's L says, and the place of the j-th
+abbrev pub commandsIn : List ℕ → ℕ
+commandsIn l = numberAt l 1 4 / recordBytes
+
+abbrev pub commandPlace : ℕ → ℕ
+commandPlace j = 5 + recordBytes * j
+
+-- Refusal 16's condition is that this fails: "list under 5 bytes, version, L, or a length byte wrong; L over 60,000 or no
+-- multiple of 6".
+unfoldable pub wellFormed : List ℕ → Bool
+wellFormed l =
+    leb 5 (length l) && eqb (getD l 0 0) 1 && eqb (5 + numberAt l 1 4) (length l) && leb (numberAt l 1 4) mostListBytes
+    && eqb (numberAt l 1 4 % recordBytes) 0 && all (commandsIn l) (λ j. eqb (getD l (commandPlace j) 0) 5)
+
+abbrev pub fieldsAt : List ℕ → ℕ → Fields
+fieldsAt l at =
+    record { code = getD l (at + 1) 0; i = getD l (at + 2) 0; s = getD l (at + 3) 0; o = getD l (at + 4) 0; k = getD l (at + 5) 0 }
+
+-- m commands from the one numbered j on
+unfoldable pub commandsFrom : List ℕ → ℕ → ℕ → List Fields
+commandsFrom l j zero = []
+commandsFrom l j (suc m) = fieldsAt l (commandPlace j) ∷ commandsFrom l (suc j) m
+
+abbrev pub commandsOf : List ℕ → List Fields
+commandsOf l = commandsFrom l 0 (commandsIn l)

@@ -1,0 +1,19 @@
+-- The definitions, in the order of the paper. A reader who checks these against the paper has checked what every promise says.
+pub mod Bounded
+pub mod Names
+pub mod Rights
+pub mod State
+pub mod Owners
+pub mod Valid
+pub mod Commands
+pub mod Tests
+pub mod Changes
+pub mod Touched
+pub mod Step
+pub mod Bytes
+pub mod Shape
+pub mod Reading
+pub mod Shaped
+pub mod Record
+pub mod CommandList
+pub mod Calls

@@ -1,0 +1,41 @@
+-- The state that is read from a record's bytes, and the bytes that a state is written as.
+use Prim.Native.Nat.{ℕ, _+_, _*_}
+use mathlib.Core.Bool.{Bool, true, false, _&&_}
+use mathlib.Core.List.{List, [], _∷_, _++_}
+use lib.Dec.{ltb}
+use Rattle.matrix.specs.declared.Name.{Name}
+use Rattle.matrix.specs.declared.Right.{Right}
+use Rattle.matrix.specs.declared.Right.the-variants.{Own, Control, Basic}
+use Rattle.matrix.specs.Names.{nameOf, columnOf, named}
+use Rattle.matrix.specs.Rights.{codeOf, rightOf}
+use Rattle.matrix.specs.State.{State, has}
+use Rattle.matrix.specs.Bytes.{numberAt, setNumber, bytesOfNumber, bit, fromBits, joined}
+use Rattle.matrix.specs.Shape.{Shape, shapeOf, bitsOf, columns, cellPlace, countOf}
+
+-- the cell of row r and column c, as a number; the bytes with another number there
+unfoldable pub cellAt : List ℕ → ℕ → ℕ → ℕ
+cellAt b r c = numberAt b (cellPlace (shapeOf b) r c) (shapeOf b .width)
+
+unfoldable pub setCell : List ℕ → ℕ → ℕ → ℕ → List ℕ
+setCell b r c v = setNumber b (cellPlace (shapeOf b) r c) (shapeOf b .width) v
+
+-- Bit j of the cell of row w and column x: "with every cell beyond the record zero".
+unfoldable pub bitAt : List ℕ → ℕ → ℕ → Name → Bool
+bitAt b j w x =
+    ltb w (shapeOf b .n) && named (shapeOf b .n) (shapeOf b .p) x && ltb j (bitsOf (shapeOf b)) && bit j (cellAt b w (columnOf x))
+
+-- "Row s is subject s." A right's bit is the one of its code.
+unfoldable pub stateOf : List ℕ → State
+stateOf b =
+    record { top = shapeOf b .n; owns = bitAt b (codeOf Own); controls = bitAt b (codeOf Control); basic = λ k f. bitAt b (codeOf (Basic k f)) }
+
+-- the cell's number in a state, and the bytes of a row
+abbrev pub cellOf : Shape → State → ℕ → ℕ → ℕ
+cellOf f S r c = fromBits (bitsOf f) (λ j. has S (rightOf j) r (nameOf (f .n) c))
+
+abbrev pub rowOf : Shape → State → ℕ → List ℕ
+rowOf f S r = joined (columns f) (λ c. bytesOfNumber (f .width) (cellOf f S r c))
+
+-- "In demand 2 a state is written in its record's version": the header, then n rows of n + p cells.
+unfoldable pub bytesOf : Shape → State → List ℕ
+bytesOf f S = (f .version ∷ bytesOfNumber 4 (countOf f) ++ (f .n ∷ f .p ∷ [])) ++ joined (f .n) (rowOf f S)

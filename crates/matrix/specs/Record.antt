@@ -1,0 +1,61 @@
+-- Validity of a record's bytes, and the refusals 1 to 5. The five conditions are tests here, over the record's names; that they
+-- are the five conditions of Valid is proved, both ways.
+use Prim.Native.Nat.{ℕ, zero, suc, _+_}
+use mathlib.Core.Bool.{Bool, true, false, cond, not, _&&_, _||_}
+use mathlib.Core.List.{List, [], _∷_}
+use lib.Dec.{eqb, ltb, leb}
+use lib.ListN.{length}
+use Rattle.matrix.specs.declared.Name.{Name}
+use Rattle.matrix.specs.declared.Name.the-variants.{Subject, Plain}
+use Rattle.matrix.specs.Bounded.{any, all, count}
+use Rattle.matrix.specs.Names.{U, nameOf}
+use Rattle.matrix.specs.Rights.{rightOf}
+use Rattle.matrix.specs.State.{State, has, exists, existsName}
+use Rattle.matrix.specs.Owners.{ownerOf}
+use Rattle.matrix.specs.Tests.{test, firstFailed}
+use Rattle.matrix.specs.Shape.{Shape, shapeOf, knownVersion, inRange, sized, bitsOf, columns}
+use Rattle.matrix.specs.Reading.{stateOf}
+
+-- the cell of row w and column x has no bit set
+abbrev pub emptyCell : Shape → State → ℕ → Name → Bool
+emptyCell f S w x = not (any (bitsOf f) (λ j. has S (rightOf j) w x))
+
+-- "rows and columns of absent names are all zero"
+abbrev pub absentZero : Shape → State → Bool
+absentZero f S = all (f .n) (λ w. all (columns f) (λ c. emptyCell f S w (nameOf (f .n) c) || exists S w && existsName S (nameOf (f .n) c)))
+
+-- "no plain column has control"
+abbrev pub plainUncontrolled : Shape → State → Bool
+plainUncontrolled f S = all (f .n) (λ w. all (columns f) (λ c. ltb c (f .n) || not (S .controls w (Plain c))))
+
+-- "U exists, with no owner and no other controller"
+abbrev pub rootRight : Shape → State → Bool
+rootRight f S = exists S U && all (f .n) (λ w. not (S .owns w (Subject U)) && (eqb w U || not (S .controls w (Subject U))))
+
+-- "every other existing subject has exactly one owner and at most one controller besides itself"
+abbrev pub oneOwnerEach : Shape → State → Bool
+oneOwnerEach f S =
+    all (f .n) (λ s. eqb s U || not (exists S s) ||
+    eqb (count (f .n) (λ w. S .owns w (Subject s))) 1 && leb (count (f .n) (λ w. S .controls w (Subject s) && not (eqb w s))) 1)
+
+-- the subject that is come to by following `links` owners upward from s; U and a subject with no owner stay where they are
+unfoldable pub climb : ℕ → (ℕ → Name → Bool) → ℕ → ℕ → ℕ
+climb top owns zero s = s
+climb top owns (suc links) s = climb top owns links (cond (ltb (ownerOf top owns s) top) (ownerOf top owns s) s)
+
+-- "no subject is met again by following owners upward": n owners up from an existing subject is U
+abbrev pub allRooted : Shape → State → Bool
+allRooted f S = all (f .n) (λ s. not (exists S s) || eqb (climb (f .n) (S .owns) (f .n) s) U)
+
+unfoldable pub validMatrix : Shape → State → Bool
+validMatrix f S = absentZero f S && plainUncontrolled f S && rootRight f S && oneOwnerEach f S && allRooted f S
+
+-- The refusals 1 to 5: "record under 7 bytes", "version not 1", "n or p outside its range", "L or true length wrong",
+-- "matrix not valid".
+unfoldable pub recordRefusal : List ℕ → ℕ
+recordRefusal b =
+    firstFailed (test 1 (leb 7 (length b)) ∷
+    test 2 (knownVersion (shapeOf b .version)) ∷
+    test 3 (inRange (shapeOf b)) ∷
+    test 4 (sized b) ∷
+    test 5 (validMatrix (shapeOf b) (stateOf b)) ∷ [])

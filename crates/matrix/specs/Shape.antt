@@ -1,0 +1,63 @@
+-- The record's layout: "Byte 0: version, 1. Bytes 1 to 4: the count L of bytes after byte 4. Byte 5: n, subject names, 1 to 64.
+-- Byte 6: p, plain names, 0 to 192. Then n rows of n + p cells of 16 bits; L = 2 + 2·n·(n + p)."
+use Prim.Native.Nat.{ℕ, _+_, _-_, _*_}
+use mathlib.Core.Bool.{Bool, true, false, _&&_}
+use mathlib.Core.List.{List, [], _∷_}
+use lib.Dec.{eqb, leb}
+use lib.ListN.{length, getD}
+use Rattle.matrix.specs.Bytes.{numberAt}
+
+-- What a record's version and its bytes 5 and 6 fix: version, n and p, the bytes of a cell, the place of the first cell.
+pub record Shape : Type 0 where
+  pub version : ℕ
+  pub n : ℕ
+  pub p : ℕ
+  pub width : ℕ
+  pub first : ℕ
+
+abbrev pub knownVersion : ℕ → Bool
+knownVersion v = eqb v 1
+
+abbrev pub mostSubjects : ℕ
+mostSubjects = 64
+
+abbrev pub mostPlain : ℕ
+mostPlain = 192
+
+-- the bytes of a cell, and the place of the first cell, in a version
+abbrev pub widthOf : ℕ → ℕ
+widthOf v = 2
+
+abbrev pub firstOf : ℕ → ℕ
+firstOf v = 7
+
+unfoldable pub shapeOf : List ℕ → Shape
+shapeOf b = record { version = getD b 0 0; n = getD b 5 0; p = getD b 6 0; width = widthOf (getD b 0 0); first = firstOf (getD b 0 0) }
+
+-- a cell's bits, and the number of basic rights that they have room for: own, control and two for each basic right
+abbrev pub bitsOf : Shape → ℕ
+bitsOf f = 8 * f .width
+
+abbrev pub basicsOf : Shape → ℕ
+basicsOf f = 4 * f .width - 1
+
+abbrev pub columns : Shape → ℕ
+columns f = f .n + f .p
+
+-- the place of the cell of row r and column c, and the bytes of the whole record
+abbrev pub cellPlace : Shape → ℕ → ℕ → ℕ
+cellPlace f r c = f .first + f .width * (r * columns f + c)
+
+abbrev pub sizeOf : Shape → ℕ
+sizeOf f = f .first + f .width * (f .n * columns f)
+
+-- the count L that a record of this shape has
+abbrev pub countOf : Shape → ℕ
+countOf f = sizeOf f - 5
+
+abbrev pub inRange : Shape → Bool
+inRange f = leb 1 (f .n) && leb (f .n) mostSubjects && leb (f .p) mostPlain
+
+-- refusal 4's condition is that this fails: "L or true length wrong"
+abbrev pub sized : List ℕ → Bool
+sized b = eqb (numberAt b 1 4) (countOf (shapeOf b)) && eqb (length b) (sizeOf (shapeOf b))

@@ -1,0 +1,90 @@
+// The types that the definitions and the code share. The definitions are in specs/.
+
+// A name: subjects (logins) and plain objects (logs) are two separate kinds.
+pub enum Name {
+    Subject(u64),
+    Plain(u64),
+}
+
+// A basic right is held plain or starred; the star is the source's copy flag.
+pub enum Form {
+    Plain,
+    Starred,
+}
+
+// A right: own, control, or the basic right of a number, plain or starred.
+pub enum Right {
+    Own,
+    Control,
+    Basic(u64, Form),
+}
+
+// What a command does. Transfer, grant and delete name the right that they act on.
+pub enum Act {
+    Transfer(Right),
+    Grant(Right),
+    Delete(Right),
+    CreateObject,
+    DestroyObject,
+    CreateSubject,
+    DestroySubject,
+}
+
+// The kind that a command needs its o to be of.
+pub enum Kind {
+    AnyName,
+    SubjectName,
+    PlainName,
+}
+
+// A row of the table of commands: which of the fields s, o and k it uses, the kind that o has to be of, and what it does.
+pub struct Rule {
+    pub s: bool,
+    pub o: bool,
+    pub k: bool,
+    pub kind: Kind,
+    pub act: Act,
+}
+
+// The five fields of a command as a caller gives them.
+pub struct Fields {
+    pub code: u64,
+    pub i: u64,
+    pub s: u64,
+    pub o: u64,
+    pub k: u64,
+}
+
+// A decoded command: the initiator, the subject, the name o, and what is done.
+pub struct Command {
+    pub i: u64,
+    pub s: u64,
+    pub o: Name,
+    pub act: Act,
+}
+
+// What the owner walk finds, with the number of owner links followed.
+pub enum Walked {
+    Meets(u64),
+    Root(u64),
+    Lost,
+}
+
+// The answer to a command: accepted with the links of the walk, or refused with the number and the links.
+pub enum Answer {
+    Accepted(u64),
+    Refused(u64, u64),
+}
+
+// The answer to whether a right is held.
+pub enum Holding {
+    Yes,
+    No,
+    Refused(u64),
+}
+
+// The answer of a list run: the number of commands accepted, and the refusal that ended it, 0 if none.
+pub struct Outcome {
+    pub accepted: u64,
+    pub refusal: u64,
+}
