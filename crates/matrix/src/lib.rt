@@ -2,8 +2,8 @@
 
 // A name: subjects (logins) and plain objects (logs) are two separate kinds.
 pub enum Name {
-    Subject(u64),
-    Plain(u64),
+    Subject(usize),
+    Plain(usize),
 }
 
 // A basic right is held plain or starred; the star is the source's copy flag.
@@ -16,7 +16,7 @@ pub enum Form {
 pub enum Right {
     Own,
     Control,
-    Basic(u64, Form),
+    Basic(usize, Form),
 }
 
 // What a command does. Transfer, grant and delete name the right that they act on.
@@ -48,43 +48,43 @@ pub struct Rule {
 
 // The five fields of a command as a caller gives them.
 pub struct Fields {
-    pub code: u64,
-    pub i: u64,
-    pub s: u64,
-    pub o: u64,
-    pub k: u64,
+    pub code: usize,
+    pub i: usize,
+    pub s: usize,
+    pub o: usize,
+    pub k: usize,
 }
 
 // A decoded command: the initiator, the subject, the name o, and what is done.
 pub struct Command {
-    pub i: u64,
-    pub s: u64,
+    pub i: usize,
+    pub s: usize,
     pub o: Name,
     pub act: Act,
 }
 
 // What the owner walk finds, with the number of owner links followed.
 pub enum Walked {
-    Meets(u64),
-    Root(u64),
+    Meets(usize),
+    Root(usize),
     Lost,
 }
 
 // The answer to a command: accepted with the links of the walk, or refused with the number and the links.
 pub enum Answer {
-    Accepted(u64),
-    Refused(u64, u64),
+    Accepted(usize),
+    Refused(usize, usize),
 }
 
 // The answer to whether a right is held.
 pub enum Holding {
     Yes,
     No,
-    Refused(u64),
+    Refused(usize),
 }
 
 // The answer of a list run: the number of commands accepted, and the refusal that ended it, 0 if none.
 pub struct Outcome {
-    pub accepted: u64,
-    pub refusal: u64,
+    pub accepted: usize,
+    pub refusal: usize,
 }
