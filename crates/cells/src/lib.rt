@@ -1,0 +1,62 @@
+// The cells of a record's bytes: reading one, storing one, and the one search over the rows of a column.
+
+ghost use mathlib.Core.Path.{_≡_};
+ghost use Prim.Native.Nat.{_+_, _<_};
+ghost use Rattle.matrix.specs.Bounded.{least};
+ghost use Rattle.matrix.specs.Bytes.{bit};
+ghost use Rattle.matrix.specs.Reading.{cellAt, setCell};
+ghost use Rattle.cells.specs.Station.{Cell, Station};
+ghost use Rattle.cells.specs.Places.{placeOf};
+ghost use Rattle.cells.specs.Rows.{rowHas};
+
+// The place of the first byte of the cell of row r and column c.
+fn place(n: usize, p: usize, r: usize, c: usize) -> usize
+    requires { ⌜ (n < 65) × (p < 193) × (r < n) × (c < n + p) ⌝ }
+    ensures { λ x. ⌜ x ≡ placeOf n p r c ⌝ }
+{
+    7 + 2 * (r * (n + p) + c)
+}
+
+// The cell of row r and column c.
+pub fn cell(b: &[u8], n: usize, p: usize, r: usize, c: usize) -> usize
+    requires { ⌜ Cell (now b) n p r c ⌝ }
+    ensures { λ v. ⌜ v ≡ cellAt (now (b .entry)) r c ⌝ }
+{
+    let at = place(n, p, r, c);
+    let high = b[at] as usize;
+    let low = b[at + 1] as usize;
+    high * 256 + low
+}
+
+// The cell of row r and column c becomes v.
+pub fn store(b: &mut [u8], n: usize, p: usize, r: usize, c: usize, v: usize)
+    requires { ⌜ Cell (now b) n p r c ⌝ }
+    ensures { λ _. ⌜ now (b .exit) ≡ setCell (now (b .entry)) r c v ⌝ }
+{
+    let at = place(n, p, r, c);
+    b[at] = (v / 256 % 256) as u8;
+    b[at + 1] = (v % 256) as u8;
+}
+
+// Whether bit j of v is set.
+pub fn bit_of(v: usize, j: usize) -> bool
+    requires { ⌜ j < 64 ⌝ }
+    ensures { λ t. ⌜ t ≡ bit j v ⌝ }
+{
+    (v >> j) % 2 == 1
+}
+
+// The lowest row but `skip` that has bit j in column c, or n if there is none.
+pub fn first_row(b: &[u8], n: usize, p: usize, c: usize, j: usize, skip: usize) -> usize
+    requires { ⌜ Station (now b) n p × (c < n + p) × (j < 64) ⌝ }
+    ensures { λ w. ⌜ w ≡ least n (rowHas (now (b .entry)) c j skip) ⌝ }
+{
+    for r in 0..n {
+        if r != skip {
+            if bit_of(cell(b, n, p, r, c), j) {
+                return r;
+            }
+        }
+    }
+    n
+}
