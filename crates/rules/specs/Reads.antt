@@ -1,0 +1,121 @@
+-- The state of a record's bytes, read from the cells.
+use Prim.Native.Nat.{ℕ, _+_, _*_, _<_, _≤_}
+use native.Mathlib.Omega.{arith}
+use mathlib.Core.Path.{_≡_, refl, sym, _∙_, ap, ap₂, subst}
+use mathlib.Core.Logic.{⊎-elim}
+use mathlib.Core.Bool.{Bool, true, false, not, cond, _&&_}
+use mathlib.Core.List.{List}
+use lib.Dec.{eqb, ltb}
+use borrow.Author.Tests.{lt-ltb, ltb-true, ne-eqb, le-ltb}
+use Rattle.matrix.specs.declared.Name.{Name}
+use Rattle.matrix.specs.declared.Name.the-variants.{Subject, Plain}
+use Rattle.matrix.specs.declared.Form.the-variants.{Starred}
+use Rattle.matrix.specs.declared.Form.{Form}
+use Rattle.matrix.specs.declared.Right.{Right}
+use Rattle.matrix.specs.declared.Right.the-variants.{Own, Control, Basic}
+use Rattle.matrix.specs.Bounded.{any, least}
+use Rattle.matrix.specs.Names.{named, columnOf, sameName}
+use Rattle.matrix.specs.Rights.{codeOf}
+use Rattle.matrix.specs.State.{State, has, existsName}
+use Rattle.matrix.specs.Owners.{ownerOf}
+use Rattle.matrix.specs.Tests.{otherController}
+use Rattle.matrix.specs.Bytes.{bit}
+use Rattle.matrix.specs.Shape.{shapeOf}
+use Rattle.matrix.specs.Reading.{cellAt, bitAt, stateOf}
+use Rattle.laws.specs.Tests.{and-left, and-right, way}
+use Rattle.laws.specs.Bounded.{least-same, any-same, least-first, least-none}
+use Rattle.cells.specs.Station.{Station}
+use Rattle.cells.specs.Rows.{rowHas}
+use Rattle.rules.specs.Needs.{basicOf, NameIn}
+
+-- the code of a right whose basic right is below 7 is below 16
+pub code-small : (y : Right) → basicOf y < 7 → codeOf y < 16
+code-small Own h = omega arith
+code-small Control h = omega arith
+code-small (Basic k Rattle.matrix.specs.declared.Form.the-variants.Plain) h = omega arith
+code-small (Basic k Starred) h = omega arith
+
+-- a basic right, taken apart
+pub basic-code : {y : Right} {k : ℕ} {f : Form} (g : Form) → y ≡ Basic k f → f ≡ g → codeOf (Basic k g) ≡ codeOf y
+basic-code {k = k} g e h = sym (ap codeOf e ∙ ap (λ (f : Form). codeOf (Basic k f)) h)
+
+pub basic-small : {y : Right} {k : ℕ} {f : Form} → y ≡ Basic k f → basicOf y < 7 → k < 7
+basic-small e h = subst (λ (y : Right). basicOf y < 7) e h
+
+-- a name of the record has a column of the record
+pub named-column : (n p : ℕ) (x : Name) → named n p x ≡ true → columnOf x < n + p
+named-column n p (Subject c) h = let l : c < n = ltb-true c n h in omega arith
+named-column n p (Plain c) h = ltb-true c (n + p) (and-right (not (ltb c n)) (ltb c (n + p)) h)
+
+and-swap : (t u : Bool) → (t && u) ≡ (u && t)
+and-swap true true = refl
+and-swap true false = refl
+and-swap false true = refl
+and-swap false false = refl
+
+-- something passes exactly where the search finds a number below the bound
+pub any-least : (n : ℕ) (f : ℕ → Bool) → any n f ≡ ltb (least n f) n
+any-least n f =
+    ⊎-elim (λ a. a ∙ sym (lt-ltb (least n f) n (least-first n f a .below)))
+    (λ a. let e : least n f ≡ n = least-none n f a in a ∙ sym (le-ltb (least n f) n (omega arith))) (way (any n f))
+
+module _ (b : List ℕ) (n p : ℕ) (h : Station b n p) where
+  bit-in : (j w : ℕ) (x : Name) → j < 16 → w < n → named n p x ≡ true → bitAt b j w x ≡ bit j (cellAt b w (columnOf x))
+  unfolding bitAt shapeOf
+  bit-in j w x hj hw hx =
+      let e : ltb w (shapeOf b .n) ≡ true = subst (λ (m : ℕ). ltb w m ≡ true) (h .subjects) (lt-ltb w n hw) in
+      let g : named (shapeOf b .n) (shapeOf b .p) x ≡ true = rw (← h .subjects, ← h .plains) hx in
+      rw (e, g, lt-ltb j 16 hj) refl
+
+  -- a bit of the state is the bit of the right's code in the cell
+  pub read-bit : (y : Right) (w : ℕ) (x : Name) → basicOf y < 7 → w < n → named n p x ≡ true → has (stateOf b) y w x ≡ bit (codeOf y) (cellAt b w (columnOf x))
+  unfolding stateOf
+  read-bit Own w x hy hw hx = bit-in 0 w x (omega arith) hw hx
+  read-bit Control w x hy hw hx = bit-in 1 w x (omega arith) hw hx
+  read-bit (Basic k f) w x hy hw hx = bit-in (codeOf (Basic k f)) w x (code-small (Basic k f) hy) hw hx
+
+  -- the state's bound is n
+  pub top-is : stateOf b .top ≡ n
+  unfolding stateOf
+  top-is = sym (h .subjects)
+
+  -- the search over the rows of a column, none of them left out
+  pub search-bit : (y : Right) (x : Name) → basicOf y < 7 → named n p x ≡ true → least n (rowHas b (columnOf x) (codeOf y) n) ≡ least (stateOf b .top) (λ w. has (stateOf b) y w x)
+  unfolding rowHas
+  search-bit y x hy hx =
+      least-same n (rowHas b (columnOf x) (codeOf y) n) (λ w. has (stateOf b) y w x)
+      (λ w l. rw (ne-eqb w n (λ e. omega arith)) (sym (read-bit y w x hy l hx)))
+      ∙ ap (λ (m : ℕ). least m (λ w. has (stateOf b) y w x)) (sym top-is)
+
+  -- the search for a controller of subject o other than itself
+  pub search-other : (o : ℕ) → o < n → least n (rowHas b o 1 o) ≡ least (stateOf b .top) (λ w. stateOf b .controls w (Subject o) && not (eqb w o))
+  unfolding rowHas
+  search-other o ho =
+      least-same n (rowHas b o 1 o) (λ w. stateOf b .controls w (Subject o) && not (eqb w o))
+      (λ w l. ap (λ (t : Bool). not (eqb w o) && t) (sym (read-bit Control w (Subject o) (omega arith) l (lt-ltb o n ho))) ∙ and-swap (not (eqb w o)) (stateOf b .controls w (Subject o)))
+      ∙ ap (λ (m : ℕ). least m (λ w. stateOf b .controls w (Subject o) && not (eqb w o))) (sym top-is)
+
+-- a name of the record, by its kind
+pub named-subject : {b : List ℕ} {n p s : ℕ} {x : Name} → NameIn b n p x → x ≡ Subject s → s < n
+named-subject {n = n} {p = p} {s = s} h e = ltb-true s n (subst (λ (x : Name). named n p x ≡ true) e (h .column))
+
+pub named-plain : {b : List ℕ} {n p o : ℕ} {x : Name} → NameIn b n p x → x ≡ Plain o → o < n + p
+named-plain {n = n} {p = p} {x = x} h e = subst (λ (x : Name). columnOf x < n + p) e (named-column n p x (h .column))
+
+-- an object exists where the search of its column for an owner finds a row r
+pub object-found : {b : List ℕ} {n p o r : ℕ} {x : Name} → NameIn b n p x → x ≡ Plain o → r ≡ least n (rowHas b o 0 n) → ltb r n ≡ existsName (stateOf b) x
+object-found {b} {n} {p} {o} {r} {x} h e f =
+    let q : named n p (Plain o) ≡ true = subst (λ (x : Name). named n p x ≡ true) e (h .column) in
+    ap₂ (λ (m k : ℕ). ltb m k) (f ∙ search-bit b n p (h .station) Own (Plain o) (omega arith) q) (sym (top-is b n p (h .station)))
+    ∙ sym (any-least (stateOf b .top) (λ w. stateOf b .owns w (Plain o)))
+    ∙ sym (ap (λ (x : Name). existsName (stateOf b) x) e)
+
+-- a subject is controlled by another where the search of its column finds a row r
+pub other-found : {b : List ℕ} {n p o r : ℕ} → Station b n p → o < n → r ≡ least n (rowHas b o 1 o) → ltb r n ≡ otherController (stateOf b) (Subject o)
+other-found {b} {n} {p} {o} {r} h l f =
+    ap₂ (λ (m k : ℕ). ltb m k) (f ∙ search-other b n p h o l) (sym (top-is b n p h))
+    ∙ sym (any-least (stateOf b .top) (λ w. stateOf b .controls w (Subject o) && not (eqb w o)))
+
+-- the owner of a subject is what the search of its column finds
+pub owner-is : {b : List ℕ} {n p s r : ℕ} → Station b n p → s < n → r ≡ least n (rowHas b s 0 n) → r ≡ ownerOf (stateOf b .top) (stateOf b .owns) s
+owner-is {b} {n} {p} {s} h l f = f ∙ search-bit b n p h Own (Subject s) (omega arith) (lt-ltb s n l)

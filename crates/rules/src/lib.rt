@@ -1,0 +1,109 @@
+// The tests of a command on a record that is of the right form: what its state says, the owner walk, and the first refusal.
+
+use matrix::Act;
+use matrix::Command;
+use matrix::Form;
+use matrix::Kind;
+use matrix::Name;
+use matrix::Right;
+use matrix::Walked;
+ghost use mathlib.Core.Path.{_≡_};
+ghost use Prim.Native.Nat.{_<_};
+ghost use Rattle.matrix.specs.Names.{columnOf};
+ghost use Rattle.matrix.specs.Rights.{codeOf};
+ghost use Rattle.matrix.specs.State.{has, exists, existsName};
+ghost use Rattle.matrix.specs.Owners.{walk};
+ghost use Rattle.matrix.specs.Tests.{kindFits, present, free, permitted, otherController};
+ghost use Rattle.matrix.specs.Reading.{stateOf};
+ghost use Rattle.cells.specs.Station.{Station};
+ghost use Rattle.rules.specs.Needs.{basicOf, NameIn, BitIn, CommandIn};
+
+// The column of a name.
+pub fn column_of(x: Name) -> usize
+    ensures { λ c. ⌜ c ≡ columnOf x ⌝ }
+{
+    match x {
+        Name::Subject(c) => c,
+        Name::Plain(c) => c,
+    }
+}
+
+// The code of a right: its bit in a cell.
+pub fn code_of(y: Right) -> usize
+    requires { ⌜ basicOf y < 7 ⌝ }
+    ensures { λ j. ⌜ j ≡ codeOf y ⌝ }
+{
+    match y {
+        Right::Own => 0,
+        Right::Control => 1,
+        Right::Basic(k, f) => match f {
+            Form::Plain => 2 + 2 * k,
+            Form::Starred => 3 + 2 * k,
+        },
+    }
+}
+
+// Whether row w has right y in the column of x.
+pub fn has_bit(b: &[u8], n: usize, p: usize, y: Right, w: usize, x: Name) -> bool
+    requires { ⌜ BitIn (now b) n p y w x ⌝ }
+    ensures { λ t. ⌜ t ≡ has (stateOf (now (b .entry))) y w x ⌝ }
+{
+    let c = column_of(x);
+    let j = code_of(y);
+    cells::bit_of(cells::cell(b, n, p, w, c), j)
+}
+
+// Whether subject s exists.
+pub fn subject_exists(b: &[u8], n: usize, p: usize, s: usize) -> bool
+    requires { ⌜ Station (now b) n p × (s < n) ⌝ }
+    ensures { λ t. ⌜ t ≡ exists (stateOf (now (b .entry))) s ⌝ }
+{
+    has_bit(b, n, p, Right::Control, s, Name::Subject(s))
+}
+
+// Whether a name exists.
+pub fn name_exists(b: &[u8], n: usize, p: usize, x: Name) -> bool
+    requires { ⌜ NameIn (now b) n p x ⌝ }
+    ensures { λ t. ⌜ t ≡ existsName (stateOf (now (b .entry))) x ⌝ }
+{
+    match x {
+        Name::Subject(s) => subject_exists(b, n, p, s),
+        Name::Plain(o) => cells::first_row(b, n, p, o, 0, n) < n,
+    }
+}
+
+// Whether a subject other than o controls subject o.
+fn controlled(b: &[u8], n: usize, p: usize, o: usize) -> bool
+    requires { ⌜ Station (now b) n p × (o < n) ⌝ }
+    ensures { λ t. ⌜ t ≡ otherController (stateOf (now (b .entry))) (Name.Subject o) ⌝ }
+{
+    cells::first_row(b, n, p, o, 1, o) < n
+}
+
+// The owner walk from subject s for subject o.
+fn owner_walk(b: &[u8], n: usize, p: usize, s: usize, o: usize) -> Walked
+    requires { ⌜ Station (now b) n p × (s < n) ⌝ }
+    ensures { λ r. ⌜ r ≡ walk (stateOf (now (b .entry))) s (Name.Subject o) ⌝ }
+{
+    let mut at = s;
+    let mut links = 0;
+    let mut left = n;
+    'up: loop {
+        if left == 0 {
+            break 'up Walked::Lost;
+        }
+        if at == o {
+            break 'up Walked::Meets(links);
+        }
+        if at == 0 {
+            break 'up Walked::Root(links);
+        }
+        let owner = cells::first_row(b, n, p, at, 0, n);
+        if n <= owner {
+            break 'up Walked::Lost;
+        }
+        at = owner;
+        links += 1;
+        left -= 1;
+    }
+}
