@@ -1,0 +1,3 @@
+pub mod Bits
+pub mod Untouched
+pub mod Stations
