@@ -20,16 +20,16 @@ use Rattle.matrix.specs.Step.{refusal, next}
 use Rattle.laws.specs.Tests.{way, or-none-left, or-none-right}
 use Rattle.frame.specs.Bits.{has-put-other, has-clear, has-inherit, has-admit, or-nothing}
 
--- a bit that is neither of two is as it was after both were set or cleared
-pub has-put-two : (y y′ : Right) (r r′ : ℕ) (c c′ : Name) (v v′ : Bool) (S : State) (z : Right) (w : ℕ) (x : Name) → isBit y r c z w x ≡ false → isBit y′ r′ c′ z w x ≡ false → has (put y r c v (put y′ r′ c′ v′ S)) z w x ≡ has S z w x
-has-put-two y y′ r r′ c c′ v v′ S z w x h h′ = has-put-other y r c v (put y′ r′ c′ v′ S) z w x h ∙ has-put-other y′ r′ c′ v′ S z w x h′
+-- a bit that is neither of two in a column is as it was after both were set or cleared
+pub has-put-two : (y y′ : Right) (r r′ : ℕ) (c : Name) (v v′ : Bool) (S : State) (z : Right) (w : ℕ) (x : Name) → isBit y r c z w x ≡ false → isBit y′ r′ c z w x ≡ false → has (put y r c v (put y′ r′ c v′ S)) z w x ≡ has S z w x
+has-put-two y y′ r r′ c v v′ S z w x h h′ = has-put-other y r c v (put y′ r′ c v′ S) z w x h ∙ has-put-other y′ r′ c v′ S z w x h′
 
 -- for what each command does
 pub untouched-by : (S : State) (c : Command) (a : Act) (z : Right) (w : ℕ) (x : Name) → touched S c a z w x ≡ false → has (change S c a) z w x ≡ has S z w x
 untouched-by S c (Transfer Own) z w x h =
     let s-named = isBit Own (c .s) (c .o) z w x in
     let i-named = isBit Own (c .i) (c .o) z w x in
-    has-put-two Own Own (c .s) (c .i) (c .o) (c .o) true false S z w x (or-none-left s-named i-named h) (or-none-right s-named i-named h)
+    has-put-two Own Own (c .s) (c .i) (c .o) true false S z w x (or-none-left s-named i-named h) (or-none-right s-named i-named h)
 untouched-by S c (Transfer Control) z w x h = refl
 untouched-by S c (Transfer (Basic k f)) z w x h = has-put-other (Basic k f) (c .s) (c .o) true S z w x h
 untouched-by S c (Grant y) z w x h = has-put-other y (c .s) (c .o) true S z w x h
@@ -39,22 +39,9 @@ untouched-by S c DestroyObject z w x h = rw (has-clear (inColumn (c .o)) S z w x
 untouched-by S c CreateSubject z w x h =
     let owner-named = isBit Own (c .i) (Subject (c .s)) z w x in
     let self-named = isBit Control (c .s) (Subject (c .s)) z w x in
-    has-put-two
-    Control
-    Own
-    (c .s)
-    (c .i)
-    (Subject (c .s))
-    (Subject (c .s))
-    true
-    true
-    (admit (c .s) S)
-    z
-    w
-    x
-    (or-none-right owner-named self-named h)
-    (or-none-left owner-named self-named h)
-    ∙ has-admit (c .s) S z w x
+    let owner-stays = or-none-left owner-named self-named h in
+    let self-stays = or-none-right owner-named self-named h in
+    has-put-two Control Own (c .s) (c .i) (Subject (c .s)) true true (admit (c .s) S) z w x self-stays owner-stays ∙ has-admit (c .s) S z w x
 untouched-by S c DestroySubject z w x h =
     let gone = inCross (c .s) w x in
     let gained = sameRight z Own && eqb w (c .i) && S .owns (c .s) x in
