@@ -1,22 +1,22 @@
 -- Facts that tie the numbers of answers to the rules.
-use Prim.Native.Nat.{ℕ, suc, _-_, _≤_}
+use Prim.Native.Nat.{ℕ, _≤_}
 use native.Mathlib.Omega.{arith}
 use mathlib.Core.Path.{_≡_, refl, sym}
 use mathlib.Core.Logic.{_≢_, _⊎_, inl, inr, ⊎-elim}
 use mathlib.Core.Bool.{Bool, true, false, cond, _&&_, _||_}
-use mathlib.Core.List.{List, [], _∷_}
+use mathlib.Core.List.{[], _∷_}
 use lib.Dec.{eqb}
 use borrow.Author.Tests.{eqb-true, eqb-false, ne-eqb}
-use Rattle.matrix.specs.declared.Act.{Act}
 use Rattle.matrix.specs.declared.Rule.{Rule}
 use Rattle.matrix.specs.declared.Command.{Command}
 use Rattle.matrix.specs.Names.{columnOf}
 use Rattle.matrix.specs.State.{State}
 use Rattle.matrix.specs.Commands.{Raw, known, ruleOf, rules, fieldsFit, decode}
-use Rattle.matrix.specs.Tests.{test, firstFailed, commandTests}
+use Rattle.matrix.specs.Tests.{test, commandTests}
 use Rattle.matrix.specs.Step.{refusalOf, refusal, links, walkLinks, answer, numberOf}
 use Rattle.laws.specs.Tests.{way}
-use Rattle.frame.specs.Passed.{first-number, Every, every-rule}
+use Rattle.frame.specs.Conditions.{Every}
+use Rattle.frame.specs.Passed.{first-number, every-rule}
 
 -- a number is 0 or one of 6 to 14
 abbrev InRange : ℕ → Type 0

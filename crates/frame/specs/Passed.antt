@@ -4,7 +4,7 @@ use Prim.Native.Nat.{ℕ, zero, suc, _-_}
 use native.Mathlib.Omega.{arith}
 use mathlib.Core.Path.{_≡_}
 use mathlib.Core.Logic.{_≢_, ⊎-elim}
-use mathlib.Core.Bool.{Bool, true, false, _&&_}
+use mathlib.Core.Bool.{Bool, _&&_}
 use mathlib.Core.List.{List, [], _∷_}
 use lib.Dec.{eqb}
 use lib.ListN.{getD}
@@ -17,16 +17,7 @@ use Rattle.matrix.specs.Commands.{Raw, known, ruleOf, rules, fieldsFit, decode}
 use Rattle.matrix.specs.Tests.{Test, test, firstFailed, commandTests}
 use Rattle.matrix.specs.Step.{refusalOf, refusal}
 use Rattle.laws.specs.Tests.{way, and-left, and-right}
-
--- every test is passed
-abbrev pub Passed : List Test → Type 0
-Passed [] = Unit
-Passed (t ∷ ts) = (t .passed ≡ true) × Passed ts
-
--- the number of every test that is not passed has the property P
-abbrev pub Numbers : (ℕ → Type 0) → List Test → Type 0
-Numbers P [] = Unit
-Numbers P (t ∷ ts) = (t .passed ≡ false → P (t .number)) × Numbers P ts
+use Rattle.frame.specs.Conditions.{Passed, Numbers, Allowed, Every}
 
 -- the number of the first test that is not passed, or 0, has a property that 0 and the numbers of all such tests have
 pub first-number : (P : ℕ → Type 0) (ts : List Test) → P 0 → Numbers P ts → P (firstFailed ts)
@@ -43,16 +34,10 @@ all-passed (t ∷ ts) each h =
     ⊎-elim (λ e. let g : firstFailed ts ≡ 0 = rw e at h in (e, all-passed ts (each .1) g))
     (λ e. let g : t .number ≡ 0 = rw e at h in absurd (each .0 e g)) (way (t .passed))
 
--- the tests of a decoded command, and of a command as given, that is accepted
+-- a decoded command that is accepted, and a command as given that is, has passed every test
 pub tests-passed : (S : State) (c : Command) → refusalOf S c ≡ 0 → Passed (commandTests S c)
 unfolding refusalOf
 tests-passed S c h = all-passed (commandTests S c) (omega arith) h
-
-pub record Allowed (basics : ℕ) (names : Bool) (S : State) (c : Raw) : Type 0 where
-  pub code : known (c .code) ≡ true
-  pub bounds : names ≡ true
-  pub fields : fieldsFit basics (ruleOf (c .code) (c .k)) (c .s) (columnOf (c .o)) (c .k) ≡ true
-  pub tests : Passed (commandTests S (decode c))
 
 pub allowed : (basics : ℕ) (names : Bool) (S : State) (c : Raw) → refusal basics names S c ≡ 0 → Allowed basics names S c
 unfolding refusal
@@ -69,11 +54,7 @@ allowed basics names S c h =
       tests = tests-passed S (decode c) (eqb-true number 0 (passed .1 .1 .0));
     }
 
--- every rule of a list has a property of its place and itself
-abbrev pub Every : (ℕ → Rule → Type 0) → List Rule → Type 0
-Every P [] = Unit
-Every P (r ∷ rs) = P 0 r × Every (λ j. P (suc j)) rs
-
+-- what every rule of a list has, and the rule beyond it at each place, has the rule at any place
 pub every-getD : (P : ℕ → Rule → Type 0) (rs : List Rule) (j : ℕ) (d : Rule) → Every P rs → ((j : ℕ) → P j d) → P j (getD rs j d)
 every-getD P [] j d each beyond = beyond j
 every-getD P (r ∷ rs) zero d each beyond = each .0

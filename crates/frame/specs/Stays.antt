@@ -1,9 +1,9 @@
 -- A command on a record stays within the record: its names, its rights and its `top`.
-use Prim.Native.Nat.{ℕ, suc, _+_, _*_, _-_, _≤_, _<_, max}
+use Prim.Native.Nat.{ℕ, suc, _+_, _≤_, _<_, max}
 use native.Mathlib.Omega.{arith}
 use mathlib.Core.Path.{_≡_, refl, sym, _∙_}
 use mathlib.Core.Logic.{⊎-elim}
-use mathlib.Core.Bool.{Bool, true, false, cond, not, _&&_, _||_}
+use mathlib.Core.Bool.{Bool, true, false, cond, _&&_, _||_}
 use mathlib.Core.List.{List, [], _∷_}
 use lib.Dec.{eqb, ltb}
 use borrow.Author.Tests.{ltb-true, lt-ltb, eqb-true}
@@ -21,22 +21,17 @@ use Rattle.matrix.specs.declared.Fields.{Fields}
 use Rattle.matrix.specs.Names.{nameOf, named, columnOf}
 use Rattle.matrix.specs.Rights.{codeOf}
 use Rattle.matrix.specs.State.{State, has, put, clear}
-use Rattle.matrix.specs.Commands.{Raw, ruleOf, rules, fieldsFit, decode}
+use Rattle.matrix.specs.Commands.{ruleOf, rules, decode}
 use Rattle.matrix.specs.Changes.{change, admit, inherit, inColumn, inCross}
 use Rattle.matrix.specs.Touched.{sameRight, isBit}
 use Rattle.matrix.specs.Step.{refusal, next}
-use Rattle.matrix.specs.Shape.{Shape, bitsOf, basicsOf, columns}
+use Rattle.matrix.specs.Shape.{Shape, shapeOf, bitsOf, basicsOf, columns}
 use Rattle.matrix.specs.Shaped.{Within}
 use Rattle.matrix.specs.Calls.{rawOf, namesFit, refusalOn, nextOn, runFrom}
-use Rattle.laws.specs.Tests.{way, and-left, and-right, and-both, or-cases}
+use Rattle.laws.specs.Tests.{way, and-left, and-right, or-cases}
 use Rattle.frame.specs.Bits.{chosen, kept, sameRight-eq, isBit-right, isBit-row, isBit-column, has-put, has-clear, has-inherit, has-admit}
-use Rattle.frame.specs.Passed.{Allowed, allowed, Every, every-rule}
-
--- the bit of right z in the cell of row w and column x is one of the record's
-pub record Inside (f : Shape) (z : Right) (w : ℕ) (x : Name) : Type 0 where
-  pub row : w < f .n
-  pub column : named (f .n) (f .p) x ≡ true
-  pub right : codeOf z < bitsOf f
+use Rattle.frame.specs.Conditions.{Allowed, Every, Inside, NamesIn, RightFits}
+use Rattle.frame.specs.Passed.{allowed, every-rule}
 
 -- a state is within the record where its `top` is n and every set bit is one of the record's
 within-made : {f : Shape} {S : State} → S .top ≡ f .n → ((z : Right) (w : ℕ) (x : Name) → has S z w x ≡ true → Inside f z w x) → Within f S
@@ -88,22 +83,6 @@ within-admit f s S k l = within-made room (λ z w x h. within-inside k z w x (sy
     room : max (S .top) (suc s) ≡ f .n
     room = let e : S .top ≡ f .n = k .top in omega arith
 
--- the names of a command are the record's
-pub record NamesIn (f : Shape) (c : Command) : Type 0 where
-  pub i : c .i < f .n
-  pub s : c .s < f .n
-  pub o : named (f .n) (f .p) (c .o) ≡ true
-
--- the right that is transferred, granted or deleted has its bit in a cell of so many bits
-abbrev pub RightFits : ℕ → Act → Type 0
-RightFits bits (Transfer y) = codeOf y < bits
-RightFits bits (Grant y) = codeOf y < bits
-RightFits bits (Delete y) = codeOf y < bits
-RightFits bits CreateObject = Unit
-RightFits bits DestroyObject = Unit
-RightFits bits CreateSubject = Unit
-RightFits bits DestroySubject = Unit
-
 -- The change that a command makes stays within the record. A cell has room for own and control: it has a byte at least.
 pub within-change : (f : Shape) (S : State) (c : Command) (a : Act) → 1 ≤ f .width → Within f S → NamesIn f c → RightFits (bitsOf f) a → Within f (change S c a)
 within-change f S c (Transfer Own) b k m r =
@@ -150,6 +129,11 @@ right-fits f code k b = every-rule fits code k table (λ j e. tt)
     table : Every fits (rules k)
     table =
         (basic Plain, (basic Starred, (omega arith, (basic Plain, (basic Starred, (omega arith, (omega arith, (basic Plain, (basic Starred, (omega arith, (omega arith, (omega arith, (omega arith, tt)))))))))))))
+
+-- the cells of every record have a byte at least
+pub width-room : (b : List ℕ) → 1 ≤ shapeOf b .width
+unfolding shapeOf
+width-room b = omega arith
 
 -- A command on a record stays within the record, accepted or refused.
 pub within-next : (f : Shape) (S : State) (c : Fields) → 1 ≤ f .width → Within f S → Within f (nextOn f S c)

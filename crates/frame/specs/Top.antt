@@ -3,7 +3,7 @@ use Prim.Native.Nat.{ℕ, _<_}
 use native.Mathlib.Omega.{arith}
 use mathlib.Core.Path.{_≡_, refl, sym, _∙_, subst}
 use mathlib.Core.Logic.{_↔_, _≢_}
-use mathlib.Core.Bool.{Bool, true, false, not, _&&_}
+use mathlib.Core.Bool.{true, false, not, _&&_}
 use borrow.Author.Tests.{not-true}
 use Rattle.matrix.specs.declared.Name.{Name}
 use Rattle.matrix.specs.declared.Name.the-variants.{Subject, Plain}
