@@ -60,6 +60,6 @@ every-getD P [] j d each beyond = beyond j
 every-getD P (r ∷ rs) zero d each beyond = each .0
 every-getD P (r ∷ rs) (suc j) d each beyond = every-getD (λ j. P (suc j)) rs j d (each .1) (λ j. beyond (suc j))
 
--- so has the row of a code; one with no row of its own has that of code 13
+-- so has the row of a code, where 0 has that of code 1 and every number above 13 that of code 13
 pub every-rule : (P : ℕ → Rule → Type 0) (code k : ℕ) → Every P (rules k) → ((j : ℕ) → P j (ruleOf 13 k)) → P (code - 1) (ruleOf code k)
 every-rule P code k each beyond = every-getD P (rules k) (code - 1) (ruleOf 13 k) each beyond
