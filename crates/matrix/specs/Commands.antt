@@ -62,7 +62,7 @@ rules k =
 abbrev pub known : ℕ → Bool
 known code = leb 1 code && leb code 13
 
--- the table's row of a code (that of code 13 where the code is not known, which refusal 6 has turned down)
+-- the table's row of a code; of an unknown code, which refusal 6 turns down, some row
 abbrev pub ruleOf : ℕ → ℕ → Rule
 ruleOf code k = getD (rules k) (code - 1) (rule true false false DestroySubject)
 

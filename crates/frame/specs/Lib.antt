@@ -1,0 +1,9 @@
+pub mod Conditions
+pub mod Bits
+pub mod Passed
+pub mod Untouched
+pub mod Stays
+pub mod Top
+pub mod Answers
+pub mod StationBytes
+pub mod Stations

@@ -1,0 +1,48 @@
+-- The rows of "Stations A and B" about validity and commands, as theorems about the definitions.
+use mathlib.Core.Path.{_≡_, refl}
+use mathlib.Core.Bool.{true, false}
+use Rattle.matrix.specs.declared.Name.the-variants.{Plain}
+use Rattle.matrix.specs.declared.Answer.the-variants.{Accepted, Refused}
+use Rattle.matrix.specs.Bounded.{any, all, count, least}
+use Rattle.matrix.specs.State.{existsName}
+use Rattle.matrix.specs.Owners.{walkFrom}
+use Rattle.matrix.specs.Tests.{firstFailed}
+use Rattle.matrix.specs.Step.{refusalOf, refusal, links, next}
+use Rattle.matrix.specs.Bytes.{numberAt, bytesOfNumber, bit, fromBits, joined}
+use Rattle.matrix.specs.Shape.{shapeOf}
+use Rattle.matrix.specs.Reading.{cellAt, bitAt, stateOf, bytesOf}
+use Rattle.matrix.specs.Record.{climb, validMatrix, recordRefusal}
+use Rattle.matrix.specs.Calls.{validAnswer, refusalOn, linksOn, nextOn, commandAnswer, commandBytes}
+use Rattle.frame.specs.StationBytes.{A, A-ends-00, B, transferOwn}
+
+-- The rows, under one proof.
+pub record Stations : Type 0 where
+  -- "A is valid."
+  pub a-valid : validAnswer A ≡ true
+  -- "With last byte 00 it still is: log 3 is then absent."
+  pub a-ends-00-valid : validAnswer A-ends-00 ≡ true
+  pub log-there : existsName (stateOf A) (Plain 3) ≡ true
+  pub log-absent : existsName (stateOf A-ends-00) (Plain 3) ≡ false
+  -- "A, code 3 (0, 2, 1): 13, one link."
+  pub walk-meets : commandAnswer A (transferOwn 0 2 1) ≡ Refused 13 1
+  pub walk-meets-bytes : commandBytes A (transferOwn 0 2 1) ≡ A
+  -- "Code 3 (1, 1, 2): accepted, one link." "Code 3 with s = i changes nothing."
+  pub to-itself : commandAnswer A (transferOwn 1 1 2) ≡ Accepted 1
+  pub to-itself-bytes : commandBytes A (transferOwn 1 1 2) ≡ A
+  -- B is valid as well.
+  pub b-valid : validAnswer B ≡ true
+
+pub stations : Stations
+unfolding A A-ends-00 B any all count least walkFrom firstFailed refusalOf refusal links next numberAt bytesOfNumber bit fromBits joined shapeOf cellAt bitAt stateOf bytesOf climb validMatrix recordRefusal validAnswer refusalOn linksOn nextOn commandAnswer commandBytes
+stations =
+    record {
+      a-valid = refl;
+      a-ends-00-valid = refl;
+      log-there = refl;
+      log-absent = refl;
+      walk-meets = refl;
+      walk-meets-bytes = refl;
+      to-itself = refl;
+      to-itself-bytes = refl;
+      b-valid = refl;
+    }
