@@ -1,12 +1,12 @@
--- `rules::subject_exists` meets its contract.
+-- `states::subject_exists` meets its contract.
 use native.Mathlib.Omega.{arith}
 use borrow.Author.Tests.{lt-ltb}
 use borrow.Author.Needs.{needs}
-use Rattle.rules.proofs.subject_exists.Statement.{statement}
-use Rattle.rules.proofs.subject_exists.Tie as tie
-use Rattle.rules.proofs.subject_exists.Reads as reads
-use Rattle.rules.proofs.subject_exists.Lts as lts
-use Rattle.rules.proofs.has_bit.Reads as has-bit-reads
+use Rattle.states.proofs.subject_exists.Statement.{statement}
+use Rattle.states.proofs.subject_exists.Tie as tie
+use Rattle.states.proofs.subject_exists.Reads as reads
+use Rattle.states.proofs.subject_exists.Lts as lts
+use Rattle.states.proofs.has_bit.Reads as has-bit-reads
 
 has-bit-requires : tie.Need-has-bit-requires
 has-bit-requires c κs =

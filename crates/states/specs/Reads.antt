@@ -26,7 +26,7 @@ use Rattle.laws.specs.Tests.{and-left, and-right, way}
 use Rattle.laws.specs.Bounded.{least-same, any-same, least-first, least-none}
 use Rattle.cells.specs.Station.{Station}
 use Rattle.cells.specs.Rows.{rowHas}
-use Rattle.rules.specs.Needs.{basicOf, NameIn}
+use Rattle.states.specs.Needs.{basicOf, NameIn}
 
 -- the code of a right whose basic right is below 7 is below 16
 pub code-small : (y : Right) → basicOf y < 7 → codeOf y < 16

@@ -1,19 +1,19 @@
--- `rules::has_bit` meets its contract: the bit of the right's code in the cell is the state's bit.
+-- `states::has_bit` meets its contract: the bit of the right's code in the cell is the state's bit.
 use Prim.Native.Nat.{ℕ, _<_, _+_}
 use native.Mathlib.Omega.{arith}
 use mathlib.Core.Path.{_≡_, sym, _∙_, ap, ap₂, subst}
 use Rattle.matrix.specs.Bytes.{bit}
 use Rattle.matrix.specs.Reading.{cellAt}
-use Rattle.rules.specs.Reads.{code-small, named-column, read-bit}
+use Rattle.states.specs.Reads.{code-small, named-column, read-bit}
 use borrow.Author.Needs.{needs}
-use Rattle.rules.proofs.has_bit.Statement.{statement}
-use Rattle.rules.proofs.has_bit.Tie as tie
-use Rattle.rules.proofs.has_bit.Reads as reads
-use Rattle.rules.proofs.has_bit.Lts as lts
+use Rattle.states.proofs.has_bit.Statement.{statement}
+use Rattle.states.proofs.has_bit.Tie as tie
+use Rattle.states.proofs.has_bit.Reads as reads
+use Rattle.states.proofs.has_bit.Lts as lts
 use Rattle.cells.proofs.bit_of.Reads as bit-of-reads
 use Rattle.cells.proofs.cell.Reads as cell-reads
-use Rattle.rules.proofs.code_of.Reads as code-of-reads
-use Rattle.rules.proofs.column_of.Reads as column-of-reads
+use Rattle.states.proofs.code_of.Reads as code-of-reads
+use Rattle.states.proofs.column_of.Reads as column-of-reads
 
 column-of-requires : tie.Need-column-of-requires
 column-of-requires c κs = search needs

@@ -1,4 +1,4 @@
--- `rules::owner_walk` meets its contract. The loop's invariant: what is left of the walk is the whole walk's answer.
+-- `states::owner_walk` meets its contract. The loop's invariant: what is left of the walk is the whole walk's answer.
 use borrow.Author.Needs.{needs}
 use Prim.Native.Nat.{ℕ, _+_, _-_, _≤_, _<_}
 use native.Mathlib.Omega.{arith}
@@ -6,12 +6,12 @@ use mathlib.Core.Path.{_≡_, refl, sym, _∙_, ap, subst}
 use Rattle.matrix.specs.declared.Name.the-variants.{Subject}
 use Rattle.matrix.specs.Owners.{walk, walkFrom}
 use Rattle.matrix.specs.Reading.{stateOf}
-use Rattle.rules.specs.Reads.{owner-is, top-is}
-use Rattle.rules.specs.Walks.{walk-out, walk-meets, walk-root, walk-unowned, walk-up}
-use Rattle.rules.proofs.owner_walk.Statement.{statement}
-use Rattle.rules.proofs.owner_walk.Tie as tie
-use Rattle.rules.proofs.owner_walk.Reads as reads
-use Rattle.rules.proofs.owner_walk.Lts as lts
+use Rattle.states.specs.Reads.{owner-is, top-is}
+use Rattle.states.specs.Walks.{walk-out, walk-meets, walk-root, walk-unowned, walk-up}
+use Rattle.states.proofs.owner_walk.Statement.{statement}
+use Rattle.states.proofs.owner_walk.Tie as tie
+use Rattle.states.proofs.owner_walk.Reads as reads
+use Rattle.states.proofs.owner_walk.Lts as lts
 use Rattle.cells.proofs.first_row.Reads as first-row-reads
 
 abbrev Inv-up : tie.InvT-up

@@ -1,14 +1,14 @@
--- `rules::code_of` meets its contract: each arm is a case of the definition.
+-- `states::code_of` meets its contract: each arm is a case of the definition.
 use Prim.Native.Nat.{ℕ, _+_, _*_, _<_}
 use native.Mathlib.Omega.{arith}
 use mathlib.Core.Path.{_≡_, sym, _∙_, ap, subst}
-use Rattle.rules.specs.Reads.{basic-code, basic-small}
+use Rattle.states.specs.Reads.{basic-code, basic-small}
 use Rattle.matrix.specs.declared.Form.the-variants.{Plain, Starred}
 use borrow.Author.Needs.{needs}
-use Rattle.rules.proofs.code_of.Statement.{statement}
-use Rattle.rules.proofs.code_of.Tie as tie
-use Rattle.rules.proofs.code_of.Reads as reads
-use Rattle.rules.proofs.code_of.Lts as lts
+use Rattle.states.proofs.code_of.Statement.{statement}
+use Rattle.states.proofs.code_of.Tie as tie
+use Rattle.states.proofs.code_of.Reads as reads
+use Rattle.states.proofs.code_of.Lts as lts
 
 enum-told : tie.Need-enum-told
 enum-told c = search needs

@@ -1,4 +1,4 @@
-// The tests of a command on a record that is of the right form: what its state says, the owner walk, and the first refusal.
+// What the state of a record that is of the right form says: bits, existence, controllers and the owner walk.
 
 use matrix::Act;
 use matrix::Command;
@@ -13,10 +13,10 @@ ghost use Rattle.matrix.specs.Names.{columnOf};
 ghost use Rattle.matrix.specs.Rights.{codeOf};
 ghost use Rattle.matrix.specs.State.{has, exists, existsName};
 ghost use Rattle.matrix.specs.Owners.{walk};
-ghost use Rattle.matrix.specs.Tests.{kindFits, present, free, permitted, otherController};
+ghost use Rattle.matrix.specs.Tests.{otherController};
 ghost use Rattle.matrix.specs.Reading.{stateOf};
 ghost use Rattle.cells.specs.Station.{Station};
-ghost use Rattle.rules.specs.Needs.{basicOf, NameIn, BitIn, CommandIn};
+ghost use Rattle.states.specs.Needs.{basicOf, NameIn, BitIn};
 
 // The column of a name.
 pub fn column_of(x: Name) -> usize
@@ -73,7 +73,7 @@ pub fn name_exists(b: &[u8], n: usize, p: usize, x: Name) -> bool
 }
 
 // Whether a subject other than o controls subject o.
-fn controlled(b: &[u8], n: usize, p: usize, o: usize) -> bool
+pub fn controlled(b: &[u8], n: usize, p: usize, o: usize) -> bool
     requires { ⌜ Station (now b) n p × (o < n) ⌝ }
     ensures { λ t. ⌜ t ≡ otherController (stateOf (now (b .entry))) (Name.Subject o) ⌝ }
 {
@@ -81,7 +81,7 @@ fn controlled(b: &[u8], n: usize, p: usize, o: usize) -> bool
 }
 
 // The owner walk from subject s for subject o.
-fn owner_walk(b: &[u8], n: usize, p: usize, s: usize, o: usize) -> Walked
+pub fn owner_walk(b: &[u8], n: usize, p: usize, s: usize, o: usize) -> Walked
     requires { ⌜ Station (now b) n p × (s < n) ⌝ }
     ensures { λ r. ⌜ r ≡ walk (stateOf (now (b .entry))) s (Name.Subject o) ⌝ }
 {

@@ -1,8 +1,8 @@
--- `rules::controlled` meets its contract.
+-- `states::controlled` meets its contract.
 use borrow.Author.Needs.{needs}
-use Rattle.rules.specs.Reads.{other-found}
-use Rattle.rules.proofs.controlled.Statement.{statement}
-use Rattle.rules.proofs.controlled.Tie as tie
+use Rattle.states.specs.Reads.{other-found}
+use Rattle.states.proofs.controlled.Statement.{statement}
+use Rattle.states.proofs.controlled.Tie as tie
 
 first-row-requires : tie.Need-first-row-requires
 first-row-requires c κs = search needs

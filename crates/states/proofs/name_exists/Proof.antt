@@ -1,13 +1,13 @@
--- `rules::name_exists` meets its contract: a subject by its own cell, a plain object by a search for an owner.
+-- `states::name_exists` meets its contract: a subject by its own cell, a plain object by a search for an owner.
 use borrow.Author.Needs.{needs}
 use native.Mathlib.Omega.{arith}
 use mathlib.Core.Path.{sym, _∙_, ap}
 use Rattle.matrix.specs.declared.Name.{Name}
 use Rattle.matrix.specs.State.{existsName}
 use Rattle.matrix.specs.Reading.{stateOf}
-use Rattle.rules.specs.Reads.{named-subject, named-plain, object-found}
-use Rattle.rules.proofs.name_exists.Statement.{statement}
-use Rattle.rules.proofs.name_exists.Tie as tie
+use Rattle.states.specs.Reads.{named-subject, named-plain, object-found}
+use Rattle.states.proofs.name_exists.Statement.{statement}
+use Rattle.states.proofs.name_exists.Tie as tie
 
 enum-known-x : tie.Need-enum-known-x
 enum-known-x c = search needs
