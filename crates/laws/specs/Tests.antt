@@ -1,6 +1,6 @@
 -- Tests that hold and tests that fail, taken apart and put together.
 use Prim.Native.Nat.{ℕ, _≤_, _<_}
-use mathlib.Core.Path.{_≡_, refl, sym, _∙_}
+use mathlib.Core.Path.{_≡_, refl, sym, _∙_, ap}
 use mathlib.Core.Logic.{_⊎_, inl, inr}
 use mathlib.Core.Bool.{Bool, true, false, cond, not, _&&_, _||_, true≢false, false≢true}
 use lib.Dec.{eqb, ltb, leb}
@@ -58,3 +58,16 @@ or-none-left false u h = refl
 pub or-none-right : (t u : Bool) → (t || u) ≡ false → u ≡ false
 or-none-right true u h = absurd (clash refl h)
 or-none-right false u h = h
+
+-- A conjunction or a disjunction that is worked out from the left: t is the answer for its left side e, r for its right side x.
+pub and-then : {t e r x : Bool} → t ≡ true → t ≡ e → r ≡ x → r ≡ (e && x)
+and-then {x = x} h f g = g ∙ ap (λ (e : Bool). e && x) (sym h ∙ f)
+
+pub and-stop : {t e : Bool} (x : Bool) → t ≡ false → t ≡ e → false ≡ (e && x)
+and-stop x h f = ap (λ (e : Bool). e && x) (sym h ∙ f)
+
+pub or-next : {t e r x : Bool} → t ≡ false → t ≡ e → r ≡ x → r ≡ (e || x)
+or-next {x = x} h f g = g ∙ ap (λ (e : Bool). e || x) (sym h ∙ f)
+
+pub or-stop : {t e : Bool} (x : Bool) → t ≡ true → t ≡ e → true ≡ (e || x)
+or-stop x h f = ap (λ (e : Bool). e || x) (sym h ∙ f)
