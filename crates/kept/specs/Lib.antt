@@ -1,3 +1,4 @@
 pub mod Allowed
 pub mod Cells
 pub mod Parts
+pub mod Bits

@@ -1,4 +1,4 @@
--- Valid taken apart: the frame (set bits lie in rows and columns of existing names), the controllers and the owners. Each part
+-- Valid taken apart: the set bits (all in rows and columns of existing names), the controllers and the owners. Each part
 -- has a lemma that serves most commands.
 use Prim.Native.Nat.{ℕ, _<_}
 use mathlib.Core.Path.{_≡_, sym, _∙_, ap, subst}
@@ -18,8 +18,8 @@ use Rattle.kept.specs.Cells.{put-found, put-keeps}
 abbrev pub Lives : State → ℕ → Name → Type 0
 Lives S w x = (exists S w ≡ true) × (existsName S x ≡ true)
 
-abbrev pub Framed : State → Type 0
-Framed S = (y : Right) (w : ℕ) (x : Name) → has S y w x ≡ true → Lives S w x
+abbrev pub AllLive : State → Type 0
+AllLive S = (y : Right) (w : ℕ) (x : Name) → has S y w x ≡ true → Lives S w x
 
 pub record Controllers (controls : ℕ → Name → Bool) : Type 0 where
   pub plain : (w o : ℕ) → controls w (Plain o) ≡ false
@@ -33,7 +33,7 @@ pub record Tree (owns : ℕ → Name → Bool) : Type 0 where
   pub no-cycle : (s : ℕ) → Above owns (Subject s) s → ⊥
 
 pub record Parts (S : State) : Type 0 where
-  pub framed : Framed S
+  pub live : AllLive S
   pub controllers : Controllers (S .controls)
   pub tree : Tree (S .owns)
   pub owned : (s : ℕ) → s ≢ U → exists S s ≡ true → (w : ℕ) × (S .owns w (Subject s) ≡ true)
@@ -42,8 +42,8 @@ pub record Parts (S : State) : Type 0 where
 pub join : (S : State) → Parts S → Valid S
 join S p =
     record
-      { row = λ y w x h. p .framed y w x h .0
-      ; column = λ y w x h. p .framed y w x h .1
+      { row = λ y w x h. p .live y w x h .0
+      ; column = λ y w x h. p .live y w x h .1
       ; plain = p .controllers .plain
       ; root = p .controllers .root
       ; root-owner = p .tree .root-owner
@@ -61,8 +61,8 @@ controllers-of S v = record { plain = v .plain; root = v .root; root-controller 
 pub tree-of : (S : State) → Valid S → Tree (S .owns)
 tree-of S v = record { root-owner = v .root-owner; one-owner = v .one-owner; no-cycle = v .no-cycle }
 
--- The frame where no name vanishes: each bit is an old one or lies in a row and column of names that exist now.
-pub grown : (S S' : State) → Valid S → ((w : ℕ) → exists S w ≡ true → exists S' w ≡ true) → ((x : Name) → existsName S x ≡ true → existsName S' x ≡ true) → ((y : Right) (w : ℕ) (x : Name) → has S' y w x ≡ true → (has S y w x ≡ true) ⊎ Lives S' w x) → Framed S'
+-- The set bits where no name vanishes: each bit is an old one or lies in a row and column of names that exist now.
+pub grown : (S S' : State) → Valid S → ((w : ℕ) → exists S w ≡ true → exists S' w ≡ true) → ((x : Name) → existsName S x ≡ true → existsName S' x ≡ true) → ((y : Right) (w : ℕ) (x : Name) → has S' y w x ≡ true → (has S y w x ≡ true) ⊎ Lives S' w x) → AllLive S'
 grown S S' v rows names bits y w x h = ⊎-elim (λ b. (rows w (v .row y w x b), names x (v .column y w x b))) (λ p. p) (bits y w x h)
 
 pub lives-at : (S : State) (r : ℕ) (c : Name) → exists S r ≡ true → existsName S c ≡ true → (w : ℕ) (x : Name) → (w ≡ r) × (x ≡ c) → Lives S w x
