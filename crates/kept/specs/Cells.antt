@@ -1,10 +1,9 @@
 -- What the changed bits of a state tell of the bits before.
 use Prim.Native.Nat.{ℕ}
-use mathlib.Core.Path.{_≡_, refl, sym, _∙_, subst}
+use mathlib.Core.Path.{_≡_, refl, sym, subst}
 use mathlib.Core.Logic.{_⊎_, inl, inr, ⊎-elim}
 use mathlib.Core.Bool.{Bool, true, false, cond, _&&_, _||_, false≢true}
 use lib.Dec.{eqb}
-use borrow.Author.Tests.{eqb-true, eqb-false}
 use Rattle.matrix.specs.declared.Name.{Name}
 use Rattle.matrix.specs.declared.Name.the-variants.{Subject, Plain}
 use Rattle.matrix.specs.declared.Form.{Form}
@@ -13,7 +12,7 @@ use Rattle.matrix.specs.declared.Right.the-variants.{Own, Control, Basic}
 use Rattle.matrix.specs.Names.{sameName}
 use Rattle.matrix.specs.Rights.{sameForm}
 use Rattle.matrix.specs.State.{State, has, isCell, putMatrix, put, clearMatrix, clear}
-use Rattle.laws.specs.Tests.{way}
+use Rattle.laws.specs.Tests.{way, fails}
 use Rattle.laws.specs.Same.{isCell-same, isCell-row, isCell-column}
 
 cond-cases : (t a b : Bool) → cond t a b ≡ true → ((t ≡ true) × (a ≡ true)) ⊎ ((t ≡ false) × (b ≡ true))
@@ -27,6 +26,13 @@ cond-then false b e h = absurd (false≢true e)
 cond-else : (t a : Bool) {b : Bool} → t ≡ false → b ≡ true → cond t a b ≡ true
 cond-else true a e h = absurd (false≢true (sym e))
 cond-else false a e h = h
+
+-- a cell is the one of its row and column, and no cell of another column
+pub isCell-at : (r : ℕ) (c : Name) (w : ℕ) (x : Name) → w ≡ r → x ≡ c → isCell r c w x ≡ true
+isCell-at r c w x e q = subst (λ (n : ℕ). isCell r c n x ≡ true) (sym e) (subst (λ (n : Name). isCell r c r n ≡ true) (sym q) (isCell-same r c))
+
+pub isCell-apart : (r : ℕ) (c : Name) (w : ℕ) (x : Name) → (x ≡ c → ⊥) → isCell r c w x ≡ false
+isCell-apart r c w x d = fails (isCell r c w x) (λ e. d (isCell-column r c w x e))
 
 -- a matrix with one bit changed
 pub put-cases : (r : ℕ) (c : Name) (v : Bool) (m : ℕ → Name → Bool) (w : ℕ) (x : Name) → putMatrix r c v m w x ≡ true → ((isCell r c w x ≡ true) × (v ≡ true)) ⊎ ((isCell r c w x ≡ false) × (m w x ≡ true))

@@ -2,3 +2,4 @@ pub mod Allowed
 pub mod Cells
 pub mod Parts
 pub mod Bits
+pub mod Subjects

@@ -4,6 +4,8 @@ use Prim.Native.Nat.{ℕ, _<_}
 use mathlib.Core.Path.{_≡_, sym, _∙_, ap, subst}
 use mathlib.Core.Logic.{_≢_, _⊎_, inl, inr, ⊎-elim}
 use mathlib.Core.Bool.{Bool, true, false}
+use lib.Dec.{eqb}
+use borrow.Author.Tests.{eqb-true, eqb-false}
 use Rattle.matrix.specs.declared.Name.{Name}
 use Rattle.matrix.specs.declared.Name.the-variants.{Subject, Plain}
 use Rattle.matrix.specs.declared.Right.{Right}
@@ -11,7 +13,7 @@ use Rattle.matrix.specs.Names.{U, columnOf}
 use Rattle.matrix.specs.State.{State, has, exists, existsName, putMatrix}
 use Rattle.matrix.specs.Owners.{Above, owner, higher}
 use Rattle.matrix.specs.Valid.{Valid}
-use Rattle.laws.specs.Tests.{clash, fails}
+use Rattle.laws.specs.Tests.{way, clash, fails}
 use Rattle.kept.specs.Cells.{put-found, put-keeps}
 
 -- a row and a column of existing names
@@ -134,6 +136,11 @@ pub record Reowned (m m' : ℕ → Name → Bool) (s o : ℕ) : Type 0 where
   pub stays : (w c : ℕ) → c ≢ o → m w (Subject c) ≡ true → m' w (Subject c) ≡ true
   pub gained : m' s (Subject o) ≡ true
 
+pub reowned-owned : (m m' : ℕ → Name → Bool) (s o : ℕ) → Reowned m m' s o → (c : ℕ) → (c ≢ o → (w : ℕ) × (m w (Subject c) ≡ true)) → (w : ℕ) × (m' w (Subject c) ≡ true)
+reowned-owned m m' s o r c old =
+    ⊎-elim (λ e. (s, subst (λ (n : ℕ). m' s (Subject n) ≡ true) (sym (eqb-true c o e)) (r .gained)))
+    (λ e. let w = old (eqb-false c o e) in (w .0, r .stays (w .0) c (eqb-false c o e) (w .1))) (way (eqb c o))
+
 -- A chain of owners is then an old one, or goes up to o in old links and on from s in old links.
 pub cut : (m m' : ℕ → Name → Bool) (s o : ℕ) → Reowned m m' s o → (a v : ℕ) → Above m' (Subject a) v → Above m (Subject a) v ⊎ (Up m a o × Up m s v)
 cut m m' s o r a v (owner h) = ⊎-elim (λ p. inl (owner (p .0))) (λ q. inr (inl (q .1), inl (sym (q .0)))) (r .links v a h)
@@ -153,3 +160,11 @@ tree-reowned m m' s o t r o≢U below =
       ; one-owner = λ c w v h g. ⊎-elim (λ p. ⊎-elim (λ q. t .one-owner c w v (p .0) (q .0)) (λ q. absurd (p .1 (q .1))) (r .links v c g)) (λ p. ⊎-elim (λ q. absurd (q .1 (p .1))) (λ q. p .0 ∙ sym (q .0)) (r .links v c g)) (r .links w c h)
       ; no-cycle = λ c up. ⊎-elim (λ old. t .no-cycle c old) (λ p. below (up-trans m s c o (p .1) (p .0))) (cut m m' s o r c c up)
       }
+
+-- A chain of owners where i, an owner of c, stands in for c: there is an old one with the same ends.
+pub above-heir : (m m' : ℕ → Name → Bool) (i c : ℕ) → m i (Subject c) ≡ true → ((w d : ℕ) → m' w (Subject d) ≡ true → (m w (Subject d) ≡ true) ⊎ ((w ≡ i) × (m c (Subject d) ≡ true))) → (a v : ℕ) → Above m' (Subject a) v → Above m (Subject a) v
+above-heir m m' i c own links a v (owner h) =
+    ⊎-elim (λ old. owner old) (λ p. subst (λ (n : ℕ). Above m (Subject a) n) (sym (p .0)) (higher (p .1) (owner own))) (links v a h)
+above-heir m m' i c own links a v (higher {w = w} h up) =
+    let rest = above-heir m m' i c own links w v up in
+    ⊎-elim (λ old. higher old rest) (λ p. higher (p .1) (higher own (subst (λ (n : ℕ). Above m (Subject n) v) (p .0) rest))) (links w a h)
