@@ -3,3 +3,4 @@ pub mod Cells
 pub mod Parts
 pub mod Bits
 pub mod Subjects
+pub mod Keeps
