@@ -48,12 +48,12 @@ pub allowed : (S : State) (c : Command) → refusalOf S c ≡ 0 → Allowed S c 
 unfolding refusalOf
 allowed S c h =
     let p = passed (commandTests S c) refl h in
-    record
-      { initiator = p .0
-      ; kind = p .1 .0
-      ; there = p .1 .1 .0
-      ; absent = p .1 .1 .1 .0
-      ; entitled = p .1 .1 .1 .1 .0
-      ; unmet = p .1 .1 .1 .1 .1 .0
-      ; alone = p .1 .1 .1 .1 .1 .1 .0
-      }
+    record {
+      initiator = p .0;
+      kind = p .1 .0;
+      there = p .1 .1 .0;
+      absent = p .1 .1 .1 .0;
+      entitled = p .1 .1 .1 .1 .0;
+      unmet = p .1 .1 .1 .1 .1 .0;
+      alone = p .1 .1 .1 .1 .1 .1 .0;
+    }

@@ -1,7 +1,7 @@
 -- A valid state stays valid: under every command, and through a list of commands.
 use Prim.Native.Nat.{ℕ, _+_}
-use mathlib.Core.Path.{_≡_, refl, sym, subst}
-use mathlib.Core.Logic.{_≢_, inl, inr, ⊎-elim}
+use mathlib.Core.Path.{_≡_, refl, subst}
+use mathlib.Core.Logic.{_≢_, ⊎-elim}
 use mathlib.Core.Bool.{Bool, true, false, cond, _&&_, false≢true}
 use mathlib.Core.List.{List, [], _∷_}
 use lib.Dec.{eqb}
@@ -20,9 +20,9 @@ use Rattle.matrix.specs.Tests.{firstFailed}
 use Rattle.matrix.specs.Changes.{change}
 use Rattle.matrix.specs.Step.{refusalOf, refusal, next}
 use Rattle.matrix.specs.Shape.{Shape}
-use Rattle.matrix.specs.Calls.{refusalOn, nextOn, Ran, runFrom}
+use Rattle.matrix.specs.Calls.{refusalOn, nextOn, runFrom}
 use Rattle.matrix.specs.Valid.{Valid}
-use Rattle.laws.specs.Tests.{way, clash, and-left, and-right}
+use Rattle.laws.specs.Tests.{way, clash, and-left}
 use Rattle.kept.specs.Allowed.{Allowed, allowed, first-passed}
 use Rattle.kept.specs.Bits.{basic-keeps, object-keeps, control-keeps, object-destroyed}
 use Rattle.kept.specs.Subjects.{transfer-keeps, created-keeps, destroyed-keeps}
@@ -33,19 +33,19 @@ act-keeps S c (Transfer Own) h p =
     transfer-keeps S (c .i) (c .s) (c .o) (p .kind) h (and-left (exists S (c .s)) (existsName S (c .o)) (p .there)) (p .entitled) (not-true _ (p .unmet))
 act-keeps S c (Transfer Control) h p = absurd (false≢true (p .entitled))
 act-keeps S c (Transfer (Basic k f)) h p =
-    basic-keeps k f (c .s) (c .o) true S h (and-left (exists S (c .s)) (existsName S (c .o)) (p .there)) (and-right (exists S (c .s)) (existsName S (c .o)) (p .there))
+    basic-keeps k f (c .s) (c .o) true S h (p .there)
 act-keeps S c (Grant Own) h p = object-keeps (c .s) (c .o) S (p .kind) h (and-left (exists S (c .s)) (existsName S (c .o)) (p .there))
 act-keeps S c (Grant Control) h p =
-    control-keeps (c .s) (c .o) S (p .kind) h (and-left (exists S (c .s)) (existsName S (c .o)) (p .there)) (and-right (exists S (c .s)) (existsName S (c .o)) (p .there)) not-root (not-true _ (p .alone))
+    control-keeps (c .s) (c .o) S (p .kind) h (p .there) not-root (not-true _ (p .alone))
   where
     not-root : c .o ≢ Subject U
     not-root e = clash (subst (λ (x : Name). S .owns (c .i) x ≡ true) e (p .entitled)) (h .root-owner (c .i))
 act-keeps S c (Grant (Basic k f)) h p =
-    basic-keeps k f (c .s) (c .o) true S h (and-left (exists S (c .s)) (existsName S (c .o)) (p .there)) (and-right (exists S (c .s)) (existsName S (c .o)) (p .there))
+    basic-keeps k f (c .s) (c .o) true S h (p .there)
 act-keeps S c (Delete Own) h p = absurd (false≢true (p .entitled))
 act-keeps S c (Delete Control) h p = absurd (false≢true (p .entitled))
 act-keeps S c (Delete (Basic k f)) h p =
-    basic-keeps k f (c .s) (c .o) false S h (and-left (exists S (c .s)) (existsName S (c .o)) (p .there)) (and-right (exists S (c .s)) (existsName S (c .o)) (p .there))
+    basic-keeps k f (c .s) (c .o) false S h (p .there)
 act-keeps S c CreateObject h p = object-keeps (c .i) (c .o) S (p .kind) h (p .initiator)
 act-keeps S c DestroyObject h p = object-destroyed (c .o) S (p .kind) h
 act-keeps S c CreateSubject h p = created-keeps S (c .i) (c .s) h (p .initiator) (not-true _ (p .absent))

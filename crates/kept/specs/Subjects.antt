@@ -1,5 +1,5 @@
 -- Valid is kept by the commands that change the owners of subjects: transfer of own, creation and destruction of a subject.
-use Prim.Native.Nat.{ℕ, suc, max, _<_}
+use Prim.Native.Nat.{ℕ, _<_}
 use native.Mathlib.Omega.{arith}
 use mathlib.Core.Path.{_≡_, refl, sym, _∙_, ap, subst}
 use mathlib.Core.Logic.{_≢_, _⊎_, inl, inr, ⊎-elim}
@@ -12,41 +12,51 @@ use Rattle.matrix.specs.declared.Right.{Right}
 use Rattle.matrix.specs.declared.Right.the-variants.{Own, Control, Basic}
 use Rattle.matrix.specs.declared.Kind.the-variants.{SubjectName}
 use Rattle.matrix.specs.Names.{U, sameName, columnOf}
-use Rattle.matrix.specs.State.{State, has, exists, existsName, isCell, putMatrix, put, clear}
-use Rattle.matrix.specs.Owners.{Above, owner, walk, meets}
+use Rattle.matrix.specs.State.{State, has, exists, existsName, put, clear}
+use Rattle.matrix.specs.Owners.{owner, walk, meets}
 use Rattle.matrix.specs.Changes.{admit, inherit, inCross}
 use Rattle.matrix.specs.Tests.{kindFits}
 use Rattle.matrix.specs.Valid.{Valid}
 use Rattle.laws.specs.Tests.{way, clash, fails, and-left, and-right, and-both, or-cases, or-left, or-right, or-none-left, or-none-right}
 use Rattle.laws.specs.Same.{eqb-same, sameName-eq, isCell-row, isCell-column}
-use Rattle.laws.specs.Bounded.{any-hit, any-found}
+use Rattle.laws.specs.Bounded.{any-found}
 use Rattle.owners.specs.Walk.{walk-self, walk-finds}
 use Rattle.kept.specs.Cells.{isCell-at, isCell-apart, put-cases, put-found, put-new, put-other, put-keeps, put-bit, clear-found, clear-other, clear-bit}
-use Rattle.kept.specs.Parts.{Lives, AllLive, Parts, Reowned, Up, join, controllers-of, tree-of, grown, lives-at, controllers-fewer, controllers-put, tree-reowned, reowned-owned, above-owns, above-heir}
+use Rattle.kept.specs.Parts.{Lives, AllLive, Reowned, Up, join, controllers-of, tree-of, grown, lives-at, controllers-fewer, controllers-put, tree-reowned, reowned-owned, above-owns, above-heir}
 use Rattle.kept.specs.Bits.{object-owned}
 
 -- whoever has an owner is not U
 not-root : (S : State) → Valid S → (w c : ℕ) → S .owns w (Subject c) ≡ true → c ≢ U
 not-root S h w c own e = clash (subst (λ (n : ℕ). S .owns w (Subject n) ≡ true) e own) (h .root-owner w)
 
--- i hands its ownership of subject o to s, which has not o above it
-pub transfer-keeps : (S : State) (i s : ℕ) (o : Name) → kindFits SubjectName o ≡ true → Valid S → exists S s ≡ true → S .owns i o ≡ true → meets (walk S s o) ≡ false → Valid (put Own s o true (put Own i o false S))
+-- The three changes: i hands its ownership of o to s; i creates s; i destroys c.
+abbrev handed : State → ℕ → ℕ → Name → State
+handed S i s o = put Own s o true (put Own i o false S)
+
+abbrev created : State → ℕ → ℕ → State
+created S i s = put Control s (Subject s) true (put Own i (Subject s) true (admit s S))
+
+abbrev destroyed : State → ℕ → ℕ → State
+destroyed S i c = clear (inCross c) (inherit i c S)
+
+-- i owned subject o, and s has not o above it
+pub transfer-keeps : (S : State) (i s : ℕ) (o : Name) → kindFits SubjectName o ≡ true → Valid S → exists S s ≡ true → S .owns i o ≡ true → meets (walk S s o) ≡ false → Valid (handed S i s o)
 transfer-keeps S i s (Plain a) fit h es own unmet = absurd (false≢true fit)
 transfer-keeps S i s (Subject a) fit h es own unmet =
     join S'
-    (record
-      { live = grown S S' h (λ w e. e) names bits
-      ; controllers = controllers-of S h
-      ; tree = tree-reowned (S .owns) (S' .owns) s a (tree-of S h) reowned (not-root S h i a own) below
-      ; owned = λ c cu e. reowned-owned (S .owns) (S' .owns) s a reowned c (λ _. h .owned c cu e)
-      ; bound = h .bound
-      })
+    (record {
+      live = grown S S' h (λ w e. e) names bits;
+      controllers = controllers-of S h;
+      tree = tree-reowned (S .owns) (S' .owns) s a (tree-of S h) reowned (not-root S h i a own) below;
+      owned = λ c cu e. reowned-owned (S .owns) (S' .owns) s a reowned c (λ _. h .owned c cu e);
+      bound = h .bound;
+    })
   where
     without : State
     without = put Own i (Subject a) false S
 
     S' : State
-    S' = put Own s (Subject a) true without
+    S' = handed S i s (Subject a)
 
     names : (x : Name) → existsName S x ≡ true → existsName S' x ≡ true
     names (Subject c) e = e
@@ -66,34 +76,34 @@ transfer-keeps S i s (Subject a) fit h es own unmet =
 
     reowned : Reowned (S .owns) (S' .owns) s a
     reowned =
-        record
-          { links = λ w c e. ⊎-elim (λ p. inr (isCell-row s (Subject a) w (Subject c) (p .0), ap columnOf (isCell-column s (Subject a) w (Subject c) (p .0)))) (λ p. inl (old-link w c (p .1))) (put-cases s (Subject a) true (without .owns) w (Subject c) e)
-          ; stays = λ w c d e. put-keeps s (Subject a) (without .owns) w (Subject c) (put-other i (Subject a) false (S .owns) w (Subject c) (isCell-apart i (Subject a) w (Subject c) (λ q. d (ap columnOf q))) e)
-          ; gained = put-new s (Subject a) (without .owns)
-          }
+        record {
+          links = λ w c e. ⊎-elim (λ p. inr (isCell-row s (Subject a) w (Subject c) (p .0), ap columnOf (isCell-column s (Subject a) w (Subject c) (p .0)))) (λ p. inl (old-link w c (p .1))) (put-cases s (Subject a) true (without .owns) w (Subject c) e);
+          stays = λ w c d e. put-keeps s (Subject a) (without .owns) w (Subject c) (put-other i (Subject a) false (S .owns) w (Subject c) (isCell-apart i (Subject a) w (Subject c) (λ q. d (ap columnOf q))) e);
+          gained = put-new s (Subject a) (without .owns);
+        }
 
     below : Up (S .owns) s a → ⊥
     below u =
         ⊎-elim (λ e. clash (subst (λ (n : ℕ). meets (walk S s (Subject n)) ≡ true) e (ap meets (walk-self S h s))) unmet)
         (λ up. clash (walk-finds S h s a es up) unmet) u
 
--- i creates subject s, which it then owns
-pub created-keeps : (S : State) (i s : ℕ) → Valid S → exists S i ≡ true → exists S s ≡ false → Valid (put Control s (Subject s) true (put Own i (Subject s) true (admit s S)))
+-- s was absent
+pub created-keeps : (S : State) (i s : ℕ) → Valid S → exists S i ≡ true → exists S s ≡ false → Valid (created S i s)
 created-keeps S i s h ei absent =
     join S'
-    (record
-      { live = grown S S' h rows names bits
-      ; controllers = controllers-put (S .controls) s s (controllers-of S h) (λ e. e) (λ d. absurd (d refl))
-      ; tree = tree-reowned (S .owns) (S' .owns) i s (tree-of S h) reowned (λ e. clash (h .root) (subst (λ (n : ℕ). exists S n ≡ false) e absent)) below
-      ; owned = λ c cu e. reowned-owned (S .owns) (S' .owns) i s reowned c (λ d. h .owned c cu (⊎-elim (λ old. old) (λ q. absurd (d q)) (before c e)))
-      ; bound = λ c e. ⊎-elim (λ old. let l : c < S .top = h .bound c old in omega arith) (λ q. omega arith) (before c e)
-      })
+    (record {
+      live = grown S S' h rows names bits;
+      controllers = controllers-put (S .controls) s s (controllers-of S h) (λ e. e) (λ d. absurd (d refl));
+      tree = tree-reowned (S .owns) (S' .owns) i s (tree-of S h) reowned (λ e. clash (h .root) (subst (λ (n : ℕ). exists S n ≡ false) e absent)) below;
+      owned = λ c cu e. reowned-owned (S .owns) (S' .owns) i s reowned c (λ d. h .owned c cu (⊎-elim (λ old. old) (λ q. absurd (d q)) (before c e)));
+      bound = λ c e. ⊎-elim (λ old. let l : c < S .top = h .bound c old in omega arith) (λ q. omega arith) (before c e);
+    })
   where
     owning : State
     owning = put Own i (Subject s) true (admit s S)
 
     S' : State
-    S' = put Control s (Subject s) true owning
+    S' = created S i s
 
     rows : (w : ℕ) → exists S w ≡ true → exists S' w ≡ true
     rows w e = put-keeps s (Subject s) (S .controls) w (Subject w) e
@@ -126,11 +136,11 @@ created-keeps S i s h ei absent =
 
     reowned : Reowned (S .owns) (S' .owns) i s
     reowned =
-        record
-          { links = λ w c e. ⊎-elim (λ old. inl (old, unowned w c old)) (λ p. inr (p .0, ap columnOf (p .1))) (put-found i (Subject s) true (S .owns) w (Subject c) e)
-          ; stays = λ w c d e. put-keeps i (Subject s) (S .owns) w (Subject c) e
-          ; gained = put-new i (Subject s) (S .owns)
-          }
+        record {
+          links = λ w c e. ⊎-elim (λ old. inl (old, unowned w c old)) (λ p. inr (p .0, ap columnOf (p .1))) (put-found i (Subject s) true (S .owns) w (Subject c) e);
+          stays = λ w c d e. put-keeps i (Subject s) (S .owns) w (Subject c) e;
+          gained = put-new i (Subject s) (S .owns);
+        }
 
     -- s owns nothing yet
     below : Up (S .owns) i s → ⊥
@@ -138,25 +148,25 @@ created-keeps S i s h ei absent =
         ⊎-elim (λ e. clash (subst (λ (n : ℕ). exists S n ≡ true) e ei) absent)
         (λ up. let y = above-owns (S .owns) (Subject i) s up in clash (h .row Own s (y .0) (y .1)) absent) u
 
--- i destroys subject c, which it owns, and gains own over all that c owns
-pub destroyed-keeps : (S : State) (i c : ℕ) → Valid S → exists S i ≡ true → S .owns i (Subject c) ≡ true → Valid (clear (inCross c) (inherit i c S))
+-- i owned c
+pub destroyed-keeps : (S : State) (i c : ℕ) → Valid S → exists S i ≡ true → S .owns i (Subject c) ≡ true → Valid (destroyed S i c)
 destroyed-keeps S i c h ei own =
     join S'
-    (record
-      { live = live
-      ; controllers = controllers-fewer (S .controls) (S' .controls) (controllers-of S h) (λ w x e. clear-found (inCross c) (S .controls) w x e .1) (rows U (λ e. not-root S h i c own (sym e)) (h .root))
-      ; tree =
-          record
-            { root-owner = λ w. fails (S' .owns w (Subject U)) (λ e. let o = owned-before U (w, e) in clash (o .1) (h .root-owner (o .0)))
-            ; one-owner = one
-            ; no-cycle = λ a up. h .no-cycle a (above-heir (S .owns) (S' .owns) i c own (λ w d e. links w (Subject d) e .1) a a up)
-            }
-      ; owned = λ d du e. let w = h .owned d du (before d e .1) in let v = heir (Subject d) (λ q. before d e .0 (ap columnOf q)) (w .0) (w .1) in (v .0, v .1)
-      ; bound = λ d e. h .bound d (before d e .1)
-      })
+    (record {
+      live = live;
+      controllers = controllers-fewer (S .controls) (S' .controls) (controllers-of S h) (λ w x e. clear-found (inCross c) (S .controls) w x e .1) (rows U (λ e. not-root S h i c own (sym e)) (h .root));
+      tree =
+          record {
+            root-owner = λ w. fails (S' .owns w (Subject U)) (λ e. let o = owned-before U (w, e) in clash (o .1) (h .root-owner (o .0)));
+            one-owner = one;
+            no-cycle = λ a up. h .no-cycle a (above-heir (S .owns) (S' .owns) i c own (λ w d e. links w (Subject d) e .1) a a up);
+          };
+      owned = λ d du e. let w = h .owned d du (before d e .1) in let v = heir (Subject d) (λ q. before d e .0 (ap columnOf q)) (w .0) (w .1) in (v .0, v .1);
+      bound = λ d e. h .bound d (before d e .1);
+    })
   where
     S' : State
-    S' = clear (inCross c) (inherit i c S)
+    S' = destroyed S i c
 
     i≢c : i ≢ c
     i≢c e = h .no-cycle c (owner (subst (λ (n : ℕ). S .owns n (Subject c) ≡ true) e own))
