@@ -31,7 +31,8 @@ pub passed : (ts : List Test) → numbered ts ≡ true → firstFailed ts ≡ 0 
 unfolding firstFailed
 passed [] n h = tt
 passed (t ∷ ts) n h =
-    let first = first-passed (t .passed) (firstFailed ts) (t .number) (eqb-false (t .number) 0 (not-true (eqb (t .number) 0) (and-left (not (eqb (t .number) 0)) (numbered ts) n))) h in
+    let first = first-passed (t .passed) (firstFailed ts) (t .number)
+    (eqb-false (t .number) 0 (not-true (eqb (t .number) 0) (and-left (not (eqb (t .number) 0)) (numbered ts) n))) h in
     (first .0, passed ts (and-right (not (eqb (t .number) 0)) (numbered ts) n) (first .1))
 
 -- the tests 8 to 14 of a command that does `a`

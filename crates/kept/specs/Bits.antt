@@ -26,16 +26,21 @@ pub object-owned : (S : State) (w o : ℕ) → w < S .top → S .owns w (Plain o
 object-owned S w o l h = any-hit (S .top) (λ v. S .owns v (Plain o)) w l h
 
 -- the set bits after one bit over existing names is put
-put-live : (y : Right) (r : ℕ) (c : Name) (v : Bool) (S : State) → Valid S → ((w : ℕ) → exists S w ≡ true → exists (put y r c v S) w ≡ true) → ((x : Name) → existsName S x ≡ true → existsName (put y r c v S) x ≡ true) → Lives (put y r c v S) r c → AllLive (put y r c v S)
+put-live : (y : Right) (r : ℕ) (c : Name) (v : Bool) (S : State) → Valid S
+    → ((w : ℕ) → exists S w ≡ true → exists (put y r c v S) w ≡ true)
+    → ((x : Name) → existsName S x ≡ true → existsName (put y r c v S) x ≡ true) → Lives (put y r c v S) r c
+    → AllLive (put y r c v S)
 put-live y r c v S h rows names l =
     grown S (put y r c v S) h rows names
     (λ z w x b. ⊎-elim (λ old. inl old) (λ p. inr (lives-at (put y r c v S) r c (l .0) (l .1) w x p)) (put-bit y r c v S z w x b))
 
-pub basic-keeps : (k : ℕ) (f : Form) (r : ℕ) (c : Name) (v : Bool) (S : State) → Valid S → (exists S r && existsName S c) ≡ true → Valid (put (Basic k f) r c v S)
+pub basic-keeps : (k : ℕ) (f : Form) (r : ℕ) (c : Name) (v : Bool) (S : State) → Valid S
+    → (exists S r && existsName S c) ≡ true → Valid (put (Basic k f) r c v S)
 basic-keeps k f r c v S h there =
     join (put (Basic k f) r c v S)
     (record {
-      live = put-live (Basic k f) r c v S h (λ w e. e) (λ x e. e) (and-left (exists S r) (existsName S c) there, and-right (exists S r) (existsName S c) there);
+      live = put-live (Basic k f) r c v S h (λ w e. e) (λ x e. e)
+          (and-left (exists S r) (existsName S c) there, and-right (exists S r) (existsName S c) there);
       controllers = controllers-of S h;
       tree = tree-of S h;
       owned = h .owned;
@@ -65,13 +70,17 @@ object-keeps r (Plain a) S fit h er =
         object-owned S' (w .0) c (w .1) (put-keeps r (Plain a) (S .owns) (w .0) (Plain c) (w .2))
 
 -- r gains control over a subject that is not U and that no other controls
-pub control-keeps : (r : ℕ) (o : Name) (S : State) → kindFits SubjectName o ≡ true → Valid S → (exists S r && existsName S o) ≡ true → o ≢ Subject U → otherController S o ≡ false → Valid (put Control r o true S)
+pub control-keeps : (r : ℕ) (o : Name) (S : State) → kindFits SubjectName o ≡ true → Valid S
+    → (exists S r && existsName S o) ≡ true → o ≢ Subject U → otherController S o ≡ false → Valid (put Control r o true S)
 control-keeps r (Plain a) S fit h there nu alone = absurd (false≢true fit)
 control-keeps r (Subject a) S fit h there nu alone =
     join S'
     (record {
-      live = put-live Control r (Subject a) true S h rows names (rows r (and-left (exists S r) (exists S a) there), rows a (and-right (exists S r) (exists S a) there));
-      controllers = controllers-put (S .controls) r a (controllers-of S h) (λ e. absurd (nu (ap (λ (n : ℕ). Subject n) e))) (λ _ w c d. clash (and-both c (apart w d)) (any-none (S .top) _ w alone (h .bound w (h .row Control w (Subject a) c))));
+      live = put-live Control r (Subject a) true S h rows names
+          (rows r (and-left (exists S r) (exists S a) there), rows a (and-right (exists S r) (exists S a) there));
+      controllers = controllers-put (S .controls) r a (controllers-of S h) (λ e. absurd (nu (ap (λ (n : ℕ). Subject n) e)))
+          (λ _ w c d. clash (and-both c (apart w d)) (any-none (S .top) _ w alone
+          (h .bound w (h .row Control w (Subject a) c))));
       tree = tree-of S h;
       owned = λ s su e. h .owned s su (before s e);
       bound = λ s e. h .bound s (before s e);
@@ -88,7 +97,8 @@ control-keeps r (Subject a) S fit h there nu alone =
     names (Plain c) e = e
 
     before : (w : ℕ) → exists S' w ≡ true → exists S w ≡ true
-    before w e = ⊎-elim (λ b. b) (λ p. subst (λ (x : Name). existsName S x ≡ true) (sym (p .1)) (and-right (exists S r) (exists S a) there)) (put-found r (Subject a) true (S .controls) w (Subject w) e)
+    before w e = ⊎-elim (λ b. b) (λ p. subst (λ (x : Name). existsName S x ≡ true) (sym (p .1))
+        (and-right (exists S r) (exists S a) there)) (put-found r (Subject a) true (S .controls) w (Subject w) e)
 
     apart : (w : ℕ) → w ≢ a → not (sameName (Subject w) (Subject a)) ≡ true
     apart w d = rw (sameName-ne (Subject w) (Subject a) (λ e. d (ap columnOf e))) refl
@@ -100,7 +110,8 @@ object-destroyed (Plain a) S fit h =
     join S'
     (record {
       live = λ y w x b. let c = clear-bit (inColumn (Plain a)) S y w x b in (h .row y w x (c .1), names x (c .0) (h .column y w x (c .1)));
-      controllers = controllers-fewer (S .controls) (S' .controls) (controllers-of S h) (λ w x e. clear-found (inColumn (Plain a)) (S .controls) w x e .1) (h .root);
+      controllers = controllers-fewer (S .controls) (S' .controls) (controllers-of S h)
+          (λ w x e. clear-found (inColumn (Plain a)) (S .controls) w x e .1) (h .root);
       tree = tree-fewer (S .owns) (S' .owns) (tree-of S h) (λ w c e. e);
       owned = h .owned;
       bound = h .bound;

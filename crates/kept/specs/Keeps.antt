@@ -30,7 +30,8 @@ use Rattle.kept.specs.Subjects.{transfer-keeps, created-keeps, destroyed
 -- the change of each command that passed its tests
 act-keeps : (S : State) (c : Command) (a : Act) → Valid S → Allowed S c a → Valid (change S c a)
 act-keeps S c (Transfer Own) h p =
-    transfer-keeps S (c .i) (c .s) (c .o) (p .kind) h (and-left (exists S (c .s)) (existsName S (c .o)) (p .there)) (p .entitled) (not-true _ (p .unmet))
+    transfer-keeps S (c .i) (c .s) (c .o) (p .kind) h (and-left (exists S (c .s)) (existsName S (c .o)) (p .there))
+    (p .entitled) (not-true _ (p .unmet))
 act-keeps S c (Transfer Control) h p = absurd (false≢true (p .entitled))
 act-keeps S c (Transfer (Basic k f)) h p =
     basic-keeps k f (c .s) (c .o) true S h (p .there)
@@ -61,7 +62,8 @@ unfolding refusal firstFailed
 decoded-accepted basics names S c h =
     let r = refusalOf S (decode c) in
     let a = first-passed (known (c .code)) _ 6 (eqb-false 6 0 refl) h in
-    let b = first-passed (names && fieldsFit basics (ruleOf (c .code) (c .k)) (c .s) (columnOf (c .o)) (c .k)) _ 7 (eqb-false 7 0 refl) (a .1) in
+    let b = first-passed (names && fieldsFit basics (ruleOf (c .code) (c .k)) (c .s) (columnOf (c .o)) (c .k)) _ 7
+    (eqb-false 7 0 refl) (a .1) in
     ⊎-elim (λ e. eqb-true r 0 e) (λ e. let q : cond false 0 r ≡ 0 = rw e at (b .1) in q) (way (eqb r 0))
 
 -- Every command keeps validity: where it is accepted by its change, elsewhere because it changes nothing.
