@@ -19,7 +19,7 @@ use Rattle.laws.specs.Tests.{clash, and-left, and-right, and-both}
 use Rattle.laws.specs.Same.{sameName-ne}
 use Rattle.laws.specs.Bounded.{any-hit, any-found, any-none}
 use Rattle.kept.specs.Cells.{put-found, put-new, put-keeps, put-bit, clear-found, clear-other, clear-bit}
-use Rattle.kept.specs.Parts.{Lives, AllLive, Parts, join, controllers-of, tree-of, grown, lives-at, controllers-fewer, controllers-put, tree-fewer}
+use Rattle.kept.specs.Parts.{Lives, AllLive, join, controllers-of, tree-of, grown, lives-at, controllers-fewer, controllers-put, tree-fewer}
 
 -- where one row owns a plain object, it exists
 pub object-owned : (S : State) (w o : ℕ) → w < S .top → S .owns w (Plain o) ≡ true → existsName S (Plain o) ≡ true

@@ -2,14 +2,11 @@
 use Prim.Native.Nat.{ℕ}
 use mathlib.Core.Path.{_≡_, refl, sym, subst}
 use mathlib.Core.Logic.{_⊎_, inl, inr, ⊎-elim}
-use mathlib.Core.Bool.{Bool, true, false, cond, _&&_, _||_, false≢true}
+use mathlib.Core.Bool.{Bool, true, false, cond, _&&_, false≢true}
 use lib.Dec.{eqb}
 use Rattle.matrix.specs.declared.Name.{Name}
-use Rattle.matrix.specs.declared.Name.the-variants.{Subject, Plain}
-use Rattle.matrix.specs.declared.Form.{Form}
 use Rattle.matrix.specs.declared.Right.{Right}
 use Rattle.matrix.specs.declared.Right.the-variants.{Own, Control, Basic}
-use Rattle.matrix.specs.Names.{sameName}
 use Rattle.matrix.specs.Rights.{sameForm}
 use Rattle.matrix.specs.State.{State, has, isCell, putMatrix, put, clearMatrix, clear}
 use Rattle.laws.specs.Tests.{way, fails}

@@ -19,8 +19,8 @@ use Rattle.matrix.specs.Commands.{Raw, known, ruleOf, fieldsFit, decode}
 use Rattle.matrix.specs.Tests.{firstFailed}
 use Rattle.matrix.specs.Changes.{change}
 use Rattle.matrix.specs.Step.{refusalOf, refusal, next}
-use Rattle.matrix.specs.Shape.{Shape}
-use Rattle.matrix.specs.Calls.{refusalOn, nextOn, runFrom}
+use Rattle.matrix.specs.Shape.{Shape, basicsOf}
+use Rattle.matrix.specs.Calls.{rawOf, namesFit, refusalOn, nextOn, runFrom}
 use Rattle.matrix.specs.Valid.{Valid}
 use Rattle.laws.specs.Tests.{way, clash, and-left}
 use Rattle.kept.specs.Allowed.{Allowed, allowed, first-passed}
@@ -73,9 +73,13 @@ keeps basics names S c h =
     ⊎-elim (λ e. rw e (change-keeps S (decode c) h (decoded-accepted basics names S c (eqb-true (refusal basics names S c) 0 e))))
     (λ e. rw e h) (way (eqb (refusal basics names S c) 0))
 
--- A run over a list of commands keeps validity.
+-- So does a command on a state of a record's shape, and a run over a list of commands.
+pub on-keeps : (f : Shape) (S : State) (c : Fields) → Valid S → Valid (nextOn f S c)
+unfolding nextOn
+on-keeps f S c h = keeps (basicsOf f) (namesFit f c) S (rawOf f c) h
+
 pub run-keeps : (accepted : ℕ) (f : Shape) (S : State) (cs : List Fields) → Valid S → Valid (runFrom accepted f S cs .state)
-unfolding runFrom nextOn
+unfolding runFrom
 run-keeps accepted f S [] h = h
 run-keeps accepted f S (c ∷ cs) h =
-    ⊎-elim (λ e. rw e (run-keeps (accepted + 1) f (nextOn f S c) cs (keeps _ _ S _ h))) (λ e. rw e h) (way (eqb (refusalOn f S c) 0))
+    ⊎-elim (λ e. rw e (run-keeps (accepted + 1) f (nextOn f S c) cs (on-keeps f S c h))) (λ e. rw e h) (way (eqb (refusalOn f S c) 0))
