@@ -1,0 +1,6 @@
+pub mod Allowed
+pub mod Cells
+pub mod Parts
+pub mod Bits
+pub mod Subjects
+pub mod Keeps

@@ -1,0 +1,4 @@
+pub mod Pigeonhole
+pub mod Framed
+pub mod Climb
+pub mod Walk
