@@ -1,4 +1,4 @@
--- The tests 12 to 14, case by case: what each ends in, with the links that go with it.
+-- The tests 12 to 14: what each ends in, with the links that go with it.
 use Prim.Native.Nat.{ℕ}
 use mathlib.Core.Path.{_≡_, refl, sym, _∙_, ap, subst}
 use mathlib.Core.Bool.{Bool, true, false, not, cond, _||_, false≢true}
@@ -14,21 +14,40 @@ use Rattle.matrix.specs.declared.Walked.{Walked}
 use Rattle.matrix.specs.declared.Walked.the-variants.{Meets, Root, Lost}
 use Rattle.matrix.specs.declared.Command.{Command}
 use Rattle.matrix.specs.State.{State}
-use Rattle.matrix.specs.Commands.{kindOf}
 use Rattle.matrix.specs.Owners.{walk, meets, linksOf}
-use Rattle.matrix.specs.Tests.{Test, test, firstFailed, kindFits, permitted, apart, uncontrolled, otherController}
+use Rattle.matrix.specs.Tests.{Test, test, firstFailed, permitted, apart, uncontrolled, otherController}
 use Rattle.matrix.specs.Step.{walkLinks, linksWith}
 use Rattle.verdict.specs.declared.Verdict.{Verdict}
-use Rattle.verdict.specs.Stages.{late}
-use Rattle.verdict.specs.Judged.{JudgedLate}
+use Rattle.verdict.specs.Stages.{late, early, refusal-stages, early-not-thirteen}
+use Rattle.verdict.specs.Judged.{JudgedLate, Judged}
 
-verdict : ℕ → ℕ → Verdict
-verdict refusal links = record { refusal = refusal; links = links }
+abbrev pub verdictOf : ℕ → ℕ → Verdict
+verdictOf refusal links = record { refusal = refusal; links = links }
 
 module _ (S : State) (c : Command) where
-  -- the second stage's refusal from the answers of its three tests
-  late-is : {r s t : Bool} → permitted S c (c .act) ≡ r → apart S c (c .act) ≡ s → uncontrolled S c (c .act) ≡ t → late S c ≡ firstFailed (test 12 r ∷ test 13 s ∷ test 14 t ∷ [])
-  unfolding late
-  late-is e f g = ap (λ (r : Bool). firstFailed (test 12 r ∷ test 13 (apart S c (c .act)) ∷ test 14 (uncontrolled S c (c .act)) ∷ [])) e
-      ∙ ap (λ (s : Bool). firstFailed (test 12 _ ∷ test 13 s ∷ test 14 (uncontrolled S c (c .act)) ∷ [])) f
-      ∙ ap (λ (t : Bool). firstFailed (test 12 _ ∷ test 13 _ ∷ test 14 t ∷ [])) g
+  -- a refusal r of the second stage, with links l
+  judged : {r l : ℕ} → late S c ≡ r → cond (eqb r 0 || eqb r 13) (walkLinks S c (c .act)) 0 ≡ l → JudgedLate S c (verdictOf r l)
+  judged e f = record { refusal = sym e; links = sym (ap (λ (m : ℕ). linksWith m S c) e ∙ f) }
+
+  pub denied : permitted S c (c .act) ≡ false → JudgedLate S c (verdictOf 12 0)
+  unfolding late firstFailed
+  denied h = judged (rw h refl) refl
+
+  pub met : {l : ℕ} → permitted S c (c .act) ≡ true → apart S c (c .act) ≡ false → walkLinks S c (c .act) ≡ l → JudgedLate S c (verdictOf 13 l)
+  unfolding late firstFailed
+  met h e f = judged (rw (h, e) refl) f
+
+  pub shared : permitted S c (c .act) ≡ true → apart S c (c .act) ≡ true → uncontrolled S c (c .act) ≡ false → JudgedLate S c (verdictOf 14 0)
+  unfolding late firstFailed
+  shared h e f = judged (rw (h, e, f) refl) refl
+
+  pub passes : {l : ℕ} → permitted S c (c .act) ≡ true → apart S c (c .act) ≡ true → uncontrolled S c (c .act) ≡ true → walkLinks S c (c .act) ≡ l → JudgedLate S c (verdictOf 0 l)
+  unfolding late firstFailed
+  passes h e f g = judged (rw (h, e, f) refl) g
+
+  -- the whole verdict from the two stages
+  pub judged-early : {r : ℕ} → r ≡ early S c → (r ≡ 0 → ⊥) → Judged S c (verdictOf r 0)
+  judged-early = ?
+
+  pub judged-late : {v : Verdict} → early S c ≡ 0 → JudgedLate S c v → Judged S c v
+  judged-late = ?

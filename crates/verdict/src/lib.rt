@@ -5,11 +5,11 @@ use matrix::{Act, Command, Kind, Name, Right, Walked};
 ghost use mathlib.Core.Path.{_≡_};
 ghost use mathlib.Core.Bool.{true};
 ghost use Rattle.matrix.specs.Commands.{kindOf};
-ghost use Rattle.matrix.specs.Tests.{kindFits, permitted};
+ghost use Rattle.matrix.specs.Tests.{kindFits};
 ghost use Rattle.matrix.specs.Reading.{stateOf};
 ghost use Rattle.rules.specs.Needs.{CommandIn};
 ghost use Rattle.verdict.specs.Stages.{early};
-ghost use Rattle.verdict.specs.Judged.{Judged, JudgedLate};
+ghost use Rattle.verdict.specs.Judged.{Entitled, Judged, JudgedLate};
 
 // The first test that is not passed, 0 if none, and the links of the walk.
 pub struct Verdict {
@@ -17,15 +17,120 @@ pub struct Verdict {
     pub links: usize,
 }
 
-// Test 13, of a transfer of own over subject o.
-fn walked(b: &[u8], n: usize, p: usize, s: usize, o: usize) -> Verdict
-    requires { ⌜ Station (now b) n p × (s < n) ⌝ }
-    ensures { λ v. ⌜ WalkVerdict (walk (stateOf (now (b .entry))) s (Name.Subject o)) v ⌝ }
+// Test 13: the walk from s must not meet o.
+fn own_transferred(b: &[u8], n: usize, p: usize, c: Command) -> Verdict
+    requires { ⌜ Entitled (now b) n p c × (c .act ≡ Act.Transfer Right.Own) ⌝ }
+    ensures { λ v. ⌜ JudgedLate (stateOf (now (b .entry))) c v ⌝ }
 {
-    let w = states::owner_walk(b, n, p, s, o);
-    match w {
-        Walked::Meets(links) => Verdict { refusal: 13, links },
-        Walked::Root(links) => Verdict { refusal: 0, links },
-        Walked::Lost => Verdict { refusal: 0, links: 0 },
+    let o = c.o;
+    match o {
+        Name::Subject(t) => {
+            let w = states::owner_walk(b, n, p, c.s, t);
+            match w {
+                Walked::Meets(links) => Verdict { refusal: 13, links },
+                Walked::Root(links) => Verdict { refusal: 0, links },
+                Walked::Lost => Verdict { refusal: 0, links: 0 },
+            }
+        }
+        Name::Plain(_) => Verdict { refusal: 0, links: 0 },
     }
+}
+
+// Test 14: no subject but o itself may control o.
+fn control_granted(b: &[u8], n: usize, p: usize, c: Command) -> Verdict
+    requires { ⌜ Entitled (now b) n p c × (c .act ≡ Act.Grant Right.Control) ⌝ }
+    ensures { λ v. ⌜ JudgedLate (stateOf (now (b .entry))) c v ⌝ }
+{
+    let o = c.o;
+    match o {
+        Name::Subject(t) => {
+            if states::controlled(b, n, p, t) {
+                return Verdict { refusal: 14, links: 0 };
+            }
+            Verdict { refusal: 0, links: 0 }
+        }
+        Name::Plain(_) => Verdict { refusal: 0, links: 0 },
+    }
+}
+
+// The tests 13 and 14 of a transfer or a grant of the right y.
+fn transferred(b: &[u8], n: usize, p: usize, c: Command, y: Right) -> Verdict
+    requires { ⌜ Entitled (now b) n p c × (c .act ≡ Act.Transfer y) ⌝ }
+    ensures { λ v. ⌜ JudgedLate (stateOf (now (b .entry))) c v ⌝ }
+{
+    match y {
+        Right::Own => own_transferred(b, n, p, c),
+        Right::Control => Verdict { refusal: 0, links: 0 },
+        Right::Basic(_, _) => Verdict { refusal: 0, links: 0 },
+    }
+}
+
+fn granted(b: &[u8], n: usize, p: usize, c: Command, y: Right) -> Verdict
+    requires { ⌜ Entitled (now b) n p c × (c .act ≡ Act.Grant y) ⌝ }
+    ensures { λ v. ⌜ JudgedLate (stateOf (now (b .entry))) c v ⌝ }
+{
+    match y {
+        Right::Own => Verdict { refusal: 0, links: 0 },
+        Right::Control => control_granted(b, n, p, c),
+        Right::Basic(_, _) => Verdict { refusal: 0, links: 0 },
+    }
+}
+
+// The tests 12 to 14.
+fn judge_late(b: &[u8], n: usize, p: usize, c: Command) -> Verdict
+    requires { ⌜ CommandIn (now b) n p c × (kindFits (kindOf (c .act)) (c .o) ≡ true) ⌝ }
+    ensures { λ v. ⌜ JudgedLate (stateOf (now (b .entry))) c v ⌝ }
+{
+    if !rules::is_permitted(b, n, p, c) {
+        return Verdict {
+            refusal: 12,
+            links: 0,
+        };
+    }
+    let act = c.act;
+    match act {
+        Act::Transfer(y) => transferred(b, n, p, c, y),
+        Act::Grant(y) => granted(b, n, p, c, y),
+        Act::Delete(_) => Verdict { refusal: 0, links: 0 },
+        Act::CreateObject => Verdict { refusal: 0, links: 0 },
+        Act::DestroyObject => Verdict { refusal: 0, links: 0 },
+        Act::CreateSubject => Verdict { refusal: 0, links: 0 },
+        Act::DestroySubject => Verdict { refusal: 0, links: 0 },
+    }
+}
+
+// The tests 8 to 11: the number of the first that is not passed, or 0.
+fn judge_early(b: &[u8], n: usize, p: usize, c: Command, kind: Kind) -> usize
+    requires { ⌜ CommandIn (now b) n p c × (kind ≡ kindOf (c .act)) ⌝ }
+    ensures { λ r. ⌜ r ≡ early (stateOf (now (b .entry))) c ⌝ }
+{
+    let o = c.o;
+    if !states::subject_exists(b, n, p, c.i) {
+        return 8;
+    }
+    if !rules::kind_fits(kind, o) {
+        return 9;
+    }
+    if !rules::names_present(b, n, p, c) {
+        return 10;
+    }
+    if !rules::name_free(b, n, p, c) {
+        return 11;
+    }
+    0
+}
+
+// The verdict on a command.
+pub fn judge(b: &[u8], n: usize, p: usize, c: Command, kind: Kind) -> Verdict
+    requires { ⌜ CommandIn (now b) n p c × (kind ≡ kindOf (c .act)) ⌝ }
+    ensures { λ v. ⌜ Judged (stateOf (now (b .entry))) c v ⌝ }
+{
+    let first = judge_early(b, n, p, c, kind);
+    if first != 0 {
+        return Verdict {
+            refusal: first,
+            links: 0,
+        };
+    }
+    judge_late(b, n, p, c)
 }
