@@ -2,3 +2,4 @@ pub mod Pigeonhole
 pub mod Framed
 pub mod Climb
 pub mod Walk
+pub mod Rooted
