@@ -3,3 +3,4 @@ pub mod Framed
 pub mod Climb
 pub mod Walk
 pub mod Rooted
+pub mod Counting

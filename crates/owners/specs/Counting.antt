@@ -1,0 +1,45 @@
+-- Counts of the numbers below a bound that pass: none, at most one, some.
+use Prim.Native.Nat.{ℕ, zero, suc, _+_, _≤_, _<_}
+use native.Mathlib.Nat.{not-suc-le-zero}
+use native.Mathlib.Omega.{arith}
+use mathlib.Core.Path.{_≡_, refl, sym, _∙_, ap, subst}
+use mathlib.Core.Logic.{_⊎_, inl, inr, ⊎-elim}
+use mathlib.Core.Bool.{Bool, true, false, cond}
+use Rattle.matrix.specs.Bounded.{any, count}
+use Rattle.laws.specs.Tests.{way, clash, fails, or-left, or-right, or-cases}
+use Rattle.laws.specs.Bounded.{below-suc, any-hit, any-found, any-none, none-any}
+
+-- one number more: it counts where it passes
+pub count-hit : (n : ℕ) (f : ℕ → Bool) → f n ≡ true → count (suc n) f ≡ count n f + 1
+unfolding count
+count-hit n f h = rw h refl
+
+pub count-miss : (n : ℕ) (f : ℕ → Bool) → f n ≡ false → count (suc n) f ≡ count n f
+unfolding count
+count-miss n f h = let z : count n f + 0 ≡ count n f = omega arith in rw h z
+
+-- something passes where the count is not 0, and only there
+pub count-some : (n : ℕ) (f : ℕ → Bool) → 1 ≤ count n f → any n f ≡ true
+unfolding any count
+count-some zero f h = absurd (not-suc-le-zero h)
+count-some (suc n) f h = ⊎-elim (λ e. or-right (any n f) e) (λ e. or-left (f n) (count-some n f (subst (λ (k : ℕ). 1 ≤ k) (count-miss n f e) h))) (way (f n))
+
+pub some-count : (n : ℕ) (f : ℕ → Bool) → any n f ≡ true → 1 ≤ count n f
+unfolding any count
+some-count zero f h = absurd (clash h refl)
+some-count (suc n) f h = ⊎-elim (λ a. let l : 1 ≤ count n f = some-count n f a in omega arith) (λ e. let q : count (suc n) f ≡ count n f + 1 = count-hit n f e in omega arith) (or-cases (any n f) (f n) h)
+
+pub count-none : (n : ℕ) (f : ℕ → Bool) → any n f ≡ false → count n f ≡ 0
+unfolding any count
+count-none zero f h = refl
+count-none (suc n) f h = ?
+
+-- where at most one passes, two that pass are the same; and the other way round
+pub count-one : (n : ℕ) (f : ℕ → Bool) (i j : ℕ) → count n f ≤ 1 → i < n → j < n → f i ≡ true → f j ≡ true → i ≡ j
+count-one zero f i j h a b p q = absurd (not-suc-le-zero a)
+count-one (suc n) f i j h a b p q = ?
+
+pub one-count : (n : ℕ) (f : ℕ → Bool) → ((i j : ℕ) → i < n → j < n → f i ≡ true → f j ≡ true → i ≡ j) → count n f ≤ 1
+unfolding count
+one-count zero f h = omega arith
+one-count (suc n) f h = ?
