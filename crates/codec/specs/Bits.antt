@@ -1,6 +1,6 @@
 -- Laws of the bits of a number: a number is its bits, and one bit of it set or cleared leaves the others.
-use Prim.Native.Nat.{ℕ, zero, suc, _+_, _-_, _*_, _/_, _%_, _^_, _<_}
-use native.Mathlib.Nat.{not-suc-le-zero, mod-lt, mod-eq-of-lt, mul-add-div-right, zero-div, pow-succ'}
+use Prim.Native.Nat.{ℕ, zero, suc, _+_, _-_, _*_, _/_, _%_, _^_, _≤_, _<_}
+use native.Mathlib.Nat.{not-suc-le-zero, mod-lt, mod-eq-of-lt, mul-add-div-right, zero-div, pow-succ', lt-of-lt-of-le}
 use native.Mathlib.Numerals.{one-add}
 use native.Mathlib.Omega.{arith}
 use mathlib.Core.Path.{_≡_, refl, sym, _∙_, ap, subst}
@@ -8,7 +8,7 @@ use mathlib.Core.Logic.{⊎-elim}
 use mathlib.Core.Bool.{Bool, true, false, cond, not}
 use lib.Dec.{eqb, ltb}
 use lib.Arith.{digits-div, digits-lt}
-use lib.Pow.{pow-pos, pow-add, shr-shr, shr-lt, mod-pow-add, split}
+use lib.Pow.{pow-pos, pow-mono, pow-add, shr-shr, shr-lt, mod-pow-add, split}
 use borrow.Author.Tests.{eqb-true, eqb-false, eq-eqb, ne-eqb, ltb-true, ltb-false}
 use Rattle.matrix.specs.Bounded.{any}
 use Rattle.matrix.specs.Bytes.{bit, fromBits}
@@ -131,9 +131,9 @@ any-bit m v h =
         absurd (eqb-false v 0 e (same-bits m v 0 h (pow-pos m) (λ j l. any-none m (λ j. bit j v) j n l ∙ sym (bit-zero j)))))
         (way (any m (λ j. bit j v)))
 
--- a number has no bit set at its bound or above: here at the bound
-pub bit-beyond : (j v : ℕ) → v < 2 ^ j → bit j v ≡ false
-bit-beyond j v h = let e : v ≡ 0 * 2 ^ j + v = omega arith in ap (bit j) e ∙ bit-here j 0 h
+-- a number of m bits has none set from m on
+pub bit-beyond : (m j v : ℕ) → v < 2 ^ m → m ≤ j → bit j v ≡ false
+bit-beyond m j v h l = let e : v ≡ 0 * 2 ^ j + v = omega arith in ap (bit j) e ∙ bit-here j 0 (lt-of-lt-of-le h (pow-mono l))
 
 -- withBit by digits: the high part's lowest digit becomes 1 or 0
 withBit-digits : (j : ℕ) (on : Bool) (v : ℕ) → withBit j on v ≡ (v / 2 ^ j / 2 * 2 + cond on 1 0) * 2 ^ j + v % 2 ^ j
