@@ -30,16 +30,32 @@ some-count zero f h = absurd (clash h refl)
 some-count (suc n) f h = ⊎-elim (λ a. let l : 1 ≤ count n f = some-count n f a in omega arith) (λ e. let q : count (suc n) f ≡ count n f + 1 = count-hit n f e in omega arith) (or-cases (any n f) (f n) h)
 
 pub count-none : (n : ℕ) (f : ℕ → Bool) → any n f ≡ false → count n f ≡ 0
-unfolding any count
-count-none zero f h = refl
-count-none (suc n) f h = ?
+count-none n f h = let z : (1 ≤ count n f) → ⊥ = λ l. clash (count-some n f l) h in omega arith
 
--- where at most one passes, two that pass are the same; and the other way round
+-- where at most one passes, two that pass are the same
 pub count-one : (n : ℕ) (f : ℕ → Bool) (i j : ℕ) → count n f ≤ 1 → i < n → j < n → f i ≡ true → f j ≡ true → i ≡ j
 count-one zero f i j h a b p q = absurd (not-suc-le-zero a)
-count-one (suc n) f i j h a b p q = ?
+count-one (suc n) f i j h a b p q =
+    ⊎-elim (λ l. ⊎-elim (λ m. count-one n f i j (omega (arith, count-grows)) l m p q) (λ m. absurd (later i j l m p q)) (below-suc j n b))
+    (λ l. ⊎-elim (λ m. absurd (later j i m l q p)) (λ m. l ∙ sym m) (below-suc j n b)) (below-suc i n a)
+  where
+    count-grows : count n f ≤ count (suc n) f
+    count-grows = ⊎-elim (λ e. let r : count (suc n) f ≡ count n f + 1 = count-hit n f e in omega arith) (λ e. let r : count (suc n) f ≡ count n f = count-miss n f e in omega arith) (way (f n))
 
+    later : (k m : ℕ) → k < n → m ≡ n → f k ≡ true → f m ≡ true → ⊥
+    later k m l r u v =
+        let c : count (suc n) f ≡ count n f + 1 = count-hit n f (subst (λ (x : ℕ). f x ≡ true) r v) in
+        let d : 1 ≤ count n f = some-count n f (any-hit n f k l u) in
+        omega arith
+
+-- and the other way round
 pub one-count : (n : ℕ) (f : ℕ → Bool) → ((i j : ℕ) → i < n → j < n → f i ≡ true → f j ≡ true → i ≡ j) → count n f ≤ 1
 unfolding count
 one-count zero f h = omega arith
-one-count (suc n) f h = ?
+one-count (suc n) f h = ⊎-elim last (λ e. subst (λ (k : ℕ). k ≤ 1) (sym (count-miss n f e)) (one-count n f (λ i j a b. h i j (omega arith) (omega arith)))) (way (f n))
+  where
+    last : f n ≡ true → count (suc n) f ≤ 1
+    last e =
+        let c : count (suc n) f ≡ count n f + 1 = count-hit n f e in
+        let z : count n f ≡ 0 = count-none n f (none-any n f (λ i l. fails (f i) (λ g. let r : i ≡ n = h i n (omega arith) (omega arith) g e in omega arith))) in
+        omega arith
