@@ -4,3 +4,4 @@ pub mod Climb
 pub mod Walk
 pub mod Rooted
 pub mod Counting
+pub mod Test
