@@ -5,3 +5,4 @@ pub mod Walk
 pub mod Rooted
 pub mod Counting
 pub mod Test
+pub mod Read
