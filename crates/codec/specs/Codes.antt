@@ -1,5 +1,5 @@
 -- A right and its code determine each other.
-use Prim.Native.Nat.{ℕ, zero, suc, _+_, _*_, _/_, _%_}
+use Prim.Native.Nat.{ℕ, zero, suc, _+_, _*_, _/_, _%_, _≤_}
 use native.Mathlib.Omega.{arith}
 use mathlib.Core.Path.{_≡_, refl, sym, _∙_, ap}
 use mathlib.Core.Logic.{⊎-elim}
@@ -43,6 +43,11 @@ rightOf-codeOf (Basic k Starred) =
 
 pub codeOf-same : (y z : Right) → codeOf y ≡ codeOf z → y ≡ z
 codeOf-same y z h = sym (rightOf-codeOf y) ∙ ap rightOf h ∙ rightOf-codeOf z
+
+-- the codes of own and control are below those of the basic rights
+pub codeOf-above : (k : ℕ) (f : Form) → 2 ≤ codeOf (Basic k f)
+codeOf-above k Plain = omega arith
+codeOf-above k Starred = omega arith
 
 -- codes of basic rights are the same where the numbers and the forms are
 codes-same : (a j k : ℕ) → eqb (a + 2 * j) (a + 2 * k) ≡ (eqb j k && true)
