@@ -1,18 +1,22 @@
 -- Every condition of Valid but "no subject is met again by following owners upward", and what the others say of a subject's owner.
 use Prim.Native.Nat.{ℕ, _<_}
-use mathlib.Core.Path.{_≡_, refl, sym, _∙_, subst}
+use mathlib.Core.Path.{_≡_}
 use mathlib.Core.Logic.{_≢_}
-use mathlib.Core.Bool.{Bool, true, false}
+use mathlib.Core.Bool.{true, false}
 use Rattle.matrix.specs.declared.Name.{Name}
 use Rattle.matrix.specs.declared.Name.the-variants.{Subject, Plain}
 use Rattle.matrix.specs.declared.Right.{Right}
-use Rattle.matrix.specs.declared.Right.the-variants.{Own, Control, Basic}
+use Rattle.matrix.specs.declared.Right.the-variants.{Own}
 use Rattle.matrix.specs.Names.{U}
 use Rattle.matrix.specs.State.{State, has, exists, existsName}
 use Rattle.matrix.specs.Owners.{Above, ownerOf}
 use Rattle.matrix.specs.Valid.{Valid}
 use Rattle.laws.specs.Tests.{clash}
 use Rattle.laws.specs.Bounded.{least-found, least-passes}
+
+-- the owner of subject s in a state
+abbrev pub ownerIn : State → ℕ → ℕ
+ownerIn S s = ownerOf (S .top) (S .owns) s
 
 pub record Framed (S : State) : Type 0 where
   pub row : (y : Right) (w : ℕ) (x : Name) → has S y w x ≡ true → exists S w ≡ true
@@ -74,11 +78,11 @@ module _ {S : State} (F : Framed S) where
   owned-exists w s h = F .column Own w (Subject s) h
 
   -- `ownerOf` finds the owner of a subject that has one
-  pub owner-found : (w s : ℕ) → S .owns w (Subject s) ≡ true → ownerOf (S .top) (S .owns) s < S .top
+  pub owner-found : (w s : ℕ) → S .owns w (Subject s) ≡ true → ownerIn S s < S .top
   owner-found w s h = least-found (S .top) (λ v. S .owns v (Subject s)) w (owner-below w (Subject s) h) h
 
-  pub owner-owns : (w s : ℕ) → S .owns w (Subject s) ≡ true → S .owns (ownerOf (S .top) (S .owns) s) (Subject s) ≡ true
+  pub owner-owns : (w s : ℕ) → S .owns w (Subject s) ≡ true → S .owns (ownerIn S s) (Subject s) ≡ true
   owner-owns w s h = least-passes (S .top) (λ v. S .owns v (Subject s)) (owner-found w s h)
 
-  pub owner-same : (w s : ℕ) → S .owns w (Subject s) ≡ true → w ≡ ownerOf (S .top) (S .owns) s
-  owner-same w s h = F .one-owner s w (ownerOf (S .top) (S .owns) s) h (owner-owns w s h)
+  pub owner-same : (w s : ℕ) → S .owns w (Subject s) ≡ true → w ≡ ownerIn S s
+  owner-same w s h = F .one-owner s w (ownerIn S s) h (owner-owns w s h)

@@ -2,3 +2,7 @@ pub mod Pigeonhole
 pub mod Framed
 pub mod Climb
 pub mod Walk
+pub mod Rooted
+pub mod Counting
+pub mod Test
+pub mod Read

@@ -5,60 +5,75 @@ use native.Mathlib.Nat.{not-suc-le-zero}
 use native.Mathlib.Omega.{arith}
 use mathlib.Core.Path.{_≡_, refl, sym, _∙_, ap, subst}
 use mathlib.Core.Logic.{_⊎_, inl, inr, ⊎-elim, _≢_}
-use mathlib.Core.Bool.{Bool, true, false, cond}
+use mathlib.Core.Bool.{true, false}
 use lib.Dec.{eqb, ltb}
 use borrow.Author.Tests.{eqb-true, eqb-false, eq-eqb, lt-ltb, ltb-true}
 use Rattle.matrix.specs.declared.Name.{Name}
-use Rattle.matrix.specs.declared.Name.the-variants.{Subject, Plain}
+use Rattle.matrix.specs.declared.Name.the-variants.{Subject}
 use Rattle.matrix.specs.declared.Walked.{Walked}
 use Rattle.matrix.specs.declared.Walked.the-variants.{Meets, Root, Lost}
 use Rattle.matrix.specs.Names.{U, sameName}
 use Rattle.matrix.specs.State.{State, exists}
-use Rattle.matrix.specs.Owners.{Above, owner, higher, ownerOf, walkFrom, walk, meets, linksOf}
+use Rattle.matrix.specs.Owners.{Above, owner, higher, walkFrom, walk, meets, linksOf}
 use Rattle.matrix.specs.Valid.{Valid}
 use Rattle.matrix.specs.Record.{climb}
-use Rattle.laws.specs.Tests.{way, fails, holds, clash}
+use Rattle.laws.specs.Tests.{way, fails, clash}
 use Rattle.laws.specs.Same.{sameName-refl, sameName-eq}
 use Rattle.laws.specs.Bounded.{least-passes}
-use Rattle.owners.specs.Framed.{Framed, valid-framed, owned-exists, root-unowned, owner-same}
-use Rattle.owners.specs.Climb.{climb-owned, climb-ends, owner-of, owner-of-below, owner-of-exists}
+use Rattle.owners.specs.Framed.{Framed, ownerIn, valid-framed, owned-exists, root-unowned, owner-same}
+use Rattle.owners.specs.Climb.{climbIn, climb-up, climb-ends, owner-of-below, owner-of-exists}
 
--- the walk's four ways
-pub walk-met : (top : ℕ) (owns : ℕ → Name → Bool) (left s : ℕ) (o : Name) (links : ℕ) → sameName (Subject s) o ≡ true → walkFrom top owns (suc left) s o links ≡ Meets links
-unfolding walkFrom
-walk-met top owns left s o links h = rw h refl
+-- a walk in a state that may visit `left` more subjects
+abbrev pub walkIn : State → ℕ → ℕ → Name → ℕ → Walked
+walkIn S left s o links = walkFrom (S .top) (S .owns) left s o links
 
-pub walk-root : (top : ℕ) (owns : ℕ → Name → Bool) (left s : ℕ) (o : Name) (links : ℕ) → sameName (Subject s) o ≡ false → eqb s U ≡ true → walkFrom top owns (suc left) s o links ≡ Root links
-unfolding walkFrom
-walk-root top owns left s o links h u = rw (h, u) refl
+-- A walk's four ways at one subject.
+module _ (S : State) (left s : ℕ) (o : Name) (links : ℕ) where
+  pub walk-met : sameName (Subject s) o ≡ true → walkIn S (suc left) s o links ≡ Meets links
+  unfolding walkFrom
+  walk-met h = rw h refl
 
-pub walk-up : (top : ℕ) (owns : ℕ → Name → Bool) (left s : ℕ) (o : Name) (links : ℕ) → sameName (Subject s) o ≡ false → eqb s U ≡ false → ltb (ownerOf top owns s) top ≡ true → walkFrom top owns (suc left) s o links ≡ walkFrom top owns left (ownerOf top owns s) o (links + 1)
-unfolding walkFrom
-walk-up top owns left s o links h u l = rw (h, u, l) refl
+  pub walk-root : sameName (Subject s) o ≡ false → eqb s U ≡ true → walkIn S (suc left) s o links ≡ Root links
+  unfolding walkFrom
+  walk-root h u = rw (h, u) refl
 
-pub walk-lost : (top : ℕ) (owns : ℕ → Name → Bool) (left s : ℕ) (o : Name) (links : ℕ) → sameName (Subject s) o ≡ false → eqb s U ≡ false → ltb (ownerOf top owns s) top ≡ false → walkFrom top owns (suc left) s o links ≡ Lost
-unfolding walkFrom
-walk-lost top owns left s o links h u l = rw (h, u, l) refl
+  pub walk-up : sameName (Subject s) o ≡ false → eqb s U ≡ false → ltb (ownerIn S s) (S .top) ≡ true →
+      walkIn S (suc left) s o links ≡ walkIn S left (ownerIn S s) o (links + 1)
+  unfolding walkFrom
+  walk-up h u l = rw (h, u, l) refl
 
--- What a walk finds is what is looked for: the subject that it starts at, or one above. This holds of every state.
-found-from : (top : ℕ) (owns : ℕ → Name → Bool) (left s : ℕ) (o : Name) (links : ℕ) → meets (walkFrom top owns left s o links) ≡ true → (o ≡ Subject s) ⊎ ((v : ℕ) × (o ≡ Subject v) × Above owns (Subject s) v)
+  pub walk-lost : sameName (Subject s) o ≡ false → eqb s U ≡ false → ltb (ownerIn S s) (S .top) ≡ false → walkIn S (suc left) s o links ≡ Lost
+  unfolding walkFrom
+  walk-lost h u l = rw (h, u, l) refl
+
+-- subject s or one above it has the name o
+abbrev pub AtOrAbove : State → ℕ → Name → Type 0
+AtOrAbove S s o = (o ≡ Subject s) ⊎ ((v : ℕ) × (o ≡ Subject v) × Above (S .owns) (Subject s) v)
+
+-- What a walk meets is what it starts at, or one above. This holds of every state.
+found-from : (S : State) (left s : ℕ) (o : Name) (links : ℕ) → meets (walkIn S left s o links) ≡ true → AtOrAbove S s o
 unfolding walkFrom
-found-from top owns zero s o links h = absurd (clash h refl)
-found-from top owns (suc left) s o links h =
+found-from S zero s o links h = absurd (clash h refl)
+found-from S (suc left) s o links h =
     ⊎-elim (λ m. inl (sym (sameName-eq (Subject s) o m)))
-    (λ m. ⊎-elim (λ u. absurd (clash h (ap meets (walk-root top owns left s o links m u))))
-    (λ u. ⊎-elim (λ l. inr (above l (found-from top owns left (ownerOf top owns s) o (links + 1) (sym (ap meets (walk-up top owns left s o links m u l)) ∙ h))))
-    (λ l. absurd (clash h (ap meets (walk-lost top owns left s o links m u l))))
-    (way (ltb (ownerOf top owns s) top)))
+    (λ m. ⊎-elim (λ u. absurd (clash h (ap meets (walk-root S left s o links m u))))
+    (λ u. ⊎-elim (λ l. inr (above l (found-from S left (ownerIn S s) o (links + 1) (sym (ap meets (walk-up S left s o links m u l)) ∙ h))))
+    (λ l. absurd (clash h (ap meets (walk-lost S left s o links m u l))))
+    (way (ltb (ownerIn S s) (S .top))))
     (way (eqb s U)))
     (way (sameName (Subject s) o))
   where
-    above : ltb (ownerOf top owns s) top ≡ true → (o ≡ Subject (ownerOf top owns s)) ⊎ ((v : ℕ) × (o ≡ Subject v) × Above owns (Subject (ownerOf top owns s)) v) → (v : ℕ) × (o ≡ Subject v) × Above owns (Subject s) v
-    above l (inl q) = (ownerOf top owns s, q, owner (least-passes top (λ w. owns w (Subject s)) (ltb-true (ownerOf top owns s) top l)))
-    above l (inr w) = (w .0, w .1, higher (least-passes top (λ v. owns v (Subject s)) (ltb-true (ownerOf top owns s) top l)) (w .2))
+    owns-it : ltb (ownerIn S s) (S .top) ≡ true → S .owns (ownerIn S s) (Subject s) ≡ true
+    owns-it l = least-passes (S .top) (λ w. S .owns w (Subject s)) (ltb-true (ownerIn S s) (S .top) l)
 
-pub walk-found : (S : State) (s : ℕ) (o : Name) → meets (walk S s o) ≡ true → (o ≡ Subject s) ⊎ ((v : ℕ) × (o ≡ Subject v) × Above (S .owns) (Subject s) v)
-walk-found S s o h = found-from (S .top) (S .owns) (S .top) s o 0 h
+    above : ltb (ownerIn S s) (S .top) ≡ true → AtOrAbove S (ownerIn S s) o → (v : ℕ) × (o ≡ Subject v) × Above (S .owns) (Subject s) v
+    above l (inl q) = (ownerIn S s, q, owner (owns-it l))
+    above l (inr w) = (w .0, w .1, higher (owns-it l) (w .2))
+
+-- What is met is the subject that it starts at or one above.
+pub walk-found : (S : State) (s : ℕ) (o : Name) → meets (walk S s o) ≡ true →
+    (o ≡ Subject s) ⊎ ((v : ℕ) × (o ≡ Subject v) × Above (S .owns) (Subject s) v)
+walk-found S s o h = found-from S (S .top) s o 0 h
 
 -- a walk that comes to an end within the links given
 record Ends (walked : Walked) (most : ℕ) : Type 0 where
@@ -72,27 +87,30 @@ ends-root : (links most : ℕ) → links ≤ most → Ends (Root links) most
 ends-root links most l = record { ends = λ q. let z : _≡_ {A = ℕ} 0 1 = cc in omega arith; links = l }
 
 module _ {S : State} (F : Framed S) where
-  -- a walk that may visit more subjects than there are links up to U ends, and follows no more links than those
-  ends-from : (left k s : ℕ) (o : Name) (links : ℕ) → exists S s ≡ true → climb (S .top) (S .owns) k s ≡ U → k < left → Ends (walkFrom (S .top) (S .owns) left s o links) (links + k)
+  -- the walk goes up from an existing subject that is neither U nor wanted
+  goes-up : (left s : ℕ) (o : Name) (links : ℕ) → exists S s ≡ true → sameName (Subject s) o ≡ false → eqb s U ≡ false →
+      walkIn S (suc left) s o links ≡ walkIn S left (ownerIn S s) o (links + 1)
+  goes-up left s o links e m u = walk-up S left s o links m u (lt-ltb (ownerIn S s) (S .top) (owner-of-below F s (eqb-false s U u) e))
+
+  -- A walk that may visit more subjects than there are links up to U ends, and follows no more links than those.
+  ends-from : (left k s : ℕ) (o : Name) (links : ℕ) → exists S s ≡ true → climbIn S k s ≡ U → k < left → Ends (walkIn S left s o links) (links + k)
   unfolding climb
   ends-from zero k s o links e c l = absurd (not-suc-le-zero l)
   ends-from (suc left) zero s o links e c l =
-      ⊎-elim (λ m. rw (walk-met (S .top) (S .owns) left s o links m) (ends-met links (links + 0) (omega arith)))
-      (λ m. rw (walk-root (S .top) (S .owns) left s o links m (eq-eqb s U c)) (ends-root links (links + 0) (omega arith)))
-      (way (sameName (Subject s) o))
+      ⊎-elim (λ m. rw (walk-met S left s o links m) (ends-met links (links + 0) (omega arith)))
+      (λ m. rw (walk-root S left s o links m (eq-eqb s U c)) (ends-root links (links + 0) (omega arith))) (way (sameName (Subject s) o))
   ends-from (suc left) (suc k) s o links e c l =
-      ⊎-elim (λ m. rw (walk-met (S .top) (S .owns) left s o links m) (ends-met links (links + suc k) (omega arith)))
-      (λ m. ⊎-elim (λ u. rw (walk-root (S .top) (S .owns) left s o links m u) (ends-root links (links + suc k) (omega arith)))
+      ⊎-elim (λ m. rw (walk-met S left s o links m) (ends-met links (links + suc k) (omega arith)))
+      (λ m. ⊎-elim (λ u. rw (walk-root S left s o links m u) (ends-root links (links + suc k) (omega arith)))
       (λ u. let n : s ≢ U = eqb-false s U u in
-      let b : ownerOf (S .top) (S .owns) s < S .top = owner-of-below F s n e in
       let d : links + suc k ≡ links + 1 + k = omega arith in
-      rw (walk-up (S .top) (S .owns) left s o links m u (lt-ltb (ownerOf (S .top) (S .owns) s) (S .top) b), d)
-      (ends-from left k (ownerOf (S .top) (S .owns) s) o (links + 1) (owner-of-exists F s n e) (sym (climb-owned (S .top) (S .owns) k s b) ∙ c) (omega arith)))
+      rw (goes-up left s o links e m u, d)
+      (ends-from left k (ownerIn S s) o (links + 1) (owner-of-exists F s n e) (sym (climb-up F k s n e) ∙ c) (omega arith)))
       (way (eqb s U)))
       (way (sameName (Subject s) o))
 
   -- who is above s is its owner or above its owner
-  above-owner : (s v : ℕ) → Above (S .owns) (Subject s) v → (ownerOf (S .top) (S .owns) s ≡ v) ⊎ Above (S .owns) (Subject (ownerOf (S .top) (S .owns) s)) v
+  above-owner : (s v : ℕ) → Above (S .owns) (Subject s) v → (ownerIn S s ≡ v) ⊎ Above (S .owns) (Subject (ownerIn S s)) v
   above-owner s v (owner h) = inl (sym (owner-same F v s h))
   above-owner s v (higher {w = w} h a) = inr (subst (λ (x : ℕ). Above (S .owns) (Subject x) v) (owner-same F w s h) a)
 
@@ -101,69 +119,63 @@ module _ {S : State} (F : Framed S) where
   root-top v (owner h) = root-unowned F v h
   root-top v (higher {w = w} h a) = root-unowned F w h
 
-  -- and it finds the subject that it starts at and each one above
-  finds-from : (left k s v links : ℕ) → exists S s ≡ true → climb (S .top) (S .owns) k s ≡ U → k < left → (s ≡ v) ⊎ Above (S .owns) (Subject s) v → meets (walkFrom (S .top) (S .owns) left s (Subject v) links) ≡ true
+  root-not-below : (s v : ℕ) → s ≡ U → Above (S .owns) (Subject s) v → ⊥
+  root-not-below s v q a = root-top v (subst (λ (x : ℕ). Above (S .owns) (Subject x) v) q a)
+
+  -- Such a walk finds the subject that it starts at and each one above.
+  finds-from : (left k s v links : ℕ) → exists S s ≡ true → climbIn S k s ≡ U → k < left → (s ≡ v) ⊎ Above (S .owns) (Subject s) v →
+      meets (walkIn S left s (Subject v) links) ≡ true
   unfolding climb
   finds-from zero k s v links e c l a = absurd (not-suc-le-zero l)
-  finds-from (suc left) k s v links e c l (inl q) = ap meets (walk-met (S .top) (S .owns) left s (Subject v) links (eq-eqb s v q))
-  finds-from (suc left) zero s v links e c l (inr a) = absurd (root-top v (subst (λ (x : ℕ). Above (S .owns) (Subject x) v) c a))
+  finds-from (suc left) k s v links e c l (inl q) = ap meets (walk-met S left s (Subject v) links (eq-eqb s v q))
+  finds-from (suc left) zero s v links e c l (inr a) = absurd (root-not-below s v c a)
   finds-from (suc left) (suc k) s v links e c l (inr a) =
-      ⊎-elim (λ m. ap meets (walk-met (S .top) (S .owns) left s (Subject v) links m))
-      (λ m. ⊎-elim (λ u. absurd (root-top v (subst (λ (x : ℕ). Above (S .owns) (Subject x) v) (eqb-true s U u) a)))
+      ⊎-elim (λ m. ap meets (walk-met S left s (Subject v) links m))
+      (λ m. ⊎-elim (λ u. absurd (root-not-below s v (eqb-true s U u) a))
       (λ u. let n : s ≢ U = eqb-false s U u in
-      let b : ownerOf (S .top) (S .owns) s < S .top = owner-of-below F s n e in
-      ap meets (walk-up (S .top) (S .owns) left s (Subject v) links m u (lt-ltb (ownerOf (S .top) (S .owns) s) (S .top) b)) ∙
-      finds-from left k (ownerOf (S .top) (S .owns) s) v (links + 1) (owner-of-exists F s n e) (sym (climb-owned (S .top) (S .owns) k s b) ∙ c) (omega arith) (above-owner s v a))
+      ap meets (goes-up left s (Subject v) links e m u) ∙
+      finds-from left k (ownerIn S s) v (links + 1) (owner-of-exists F s n e) (sym (climb-up F k s n e) ∙ c) (omega arith) (above-owner s v a))
       (way (eqb s U)))
       (way (eqb s v))
 
-  -- a subject that is absent has no owner
-  unowned : (s : ℕ) → exists S s ≡ false → ltb (ownerOf (S .top) (S .owns) s) (S .top) ≡ false
+  -- a subject that is absent has no owner, and a walk from it follows no link
+  unowned : (s : ℕ) → exists S s ≡ false → ltb (ownerIn S s) (S .top) ≡ false
   unowned s e =
-      fails (ltb (ownerOf (S .top) (S .owns) s) (S .top))
-      (λ l. clash (owned-exists F (ownerOf (S .top) (S .owns) s) s (least-passes (S .top) (λ w. S .owns w (Subject s)) (ltb-true (ownerOf (S .top) (S .owns) s) (S .top) l))) e)
+      fails (ltb (ownerIn S s) (S .top))
+      (λ l. clash (owned-exists F (ownerIn S s) s (least-passes (S .top) (λ w. S .owns w (Subject s)) (ltb-true (ownerIn S s) (S .top) l))) e)
 
-  -- a walk from an absent subject follows no link
-  absent-from : (left s : ℕ) (o : Name) → exists S s ≡ false → linksOf (walkFrom (S .top) (S .owns) left s o 0) ≡ 0
+  absent-from : (left s : ℕ) (o : Name) → exists S s ≡ false → linksOf (walkIn S left s o 0) ≡ 0
   unfolding walkFrom
   absent-from zero s o e = refl
   absent-from (suc left) s o e =
-      ⊎-elim (λ m. ap linksOf (walk-met (S .top) (S .owns) left s o 0 m))
-      (λ m. ⊎-elim (λ u. ap linksOf (walk-root (S .top) (S .owns) left s o 0 m u))
-      (λ u. ap linksOf (walk-lost (S .top) (S .owns) left s o 0 m u (unowned s e)))
-      (way (eqb s U)))
+      ⊎-elim (λ m. ap linksOf (walk-met S left s o 0 m))
+      (λ m. ⊎-elim (λ u. ap linksOf (walk-root S left s o 0 m u)) (λ u. ap linksOf (walk-lost S left s o 0 m u (unowned s e))) (way (eqb s U)))
       (way (sameName (Subject s) o))
 
--- never lost
+-- The walk is never lost.
 pub walk-ends : (S : State) → Valid S → (s : ℕ) (o : Name) → exists S s ≡ true → walk S s o ≡ Lost → ⊥
 walk-ends S h s o e =
     let c = climb-ends (valid-framed h) (h .no-cycle) s e in
     ends-from (valid-framed h) (S .top) (c .0) s o 0 e (c .2) (c .1) .ends
 
--- the subject that it starts at is met at once
+-- The subject that it starts at is met at once.
 pub walk-self : (S : State) → Valid S → (s : ℕ) → walk S s (Subject s) ≡ Meets 0
 walk-self S h s = at (S .top) (h .bound U (h .root))
   where
-    at : (left : ℕ) → U < left → walkFrom (S .top) (S .owns) left s (Subject s) 0 ≡ Meets 0
+    at : (left : ℕ) → U < left → walkIn S left s (Subject s) 0 ≡ Meets 0
     at zero l = absurd (not-suc-le-zero l)
-    at (suc left) l = walk-met (S .top) (S .owns) left s (Subject s) 0 (sameName-refl (Subject s))
+    at (suc left) l = walk-met S left s (Subject s) 0 (sameName-refl (Subject s))
 
--- each one above is met
+-- Each subject above is met.
 pub walk-finds : (S : State) → Valid S → (s v : ℕ) → exists S s ≡ true → Above (S .owns) (Subject s) v → meets (walk S s (Subject v)) ≡ true
 walk-finds S h s v e a =
     let c = climb-ends (valid-framed h) (h .no-cycle) s e in
     finds-from (valid-framed h) (S .top) (c .0) s v 0 e (c .2) (c .1) (inr a)
 
--- fewer links than `top`
+-- Fewer links than `top` are followed.
 pub walk-links : (S : State) → Valid S → (s : ℕ) (o : Name) → linksOf (walk S s o) < S .top
-walk-links S h s o = ⊎-elim present absent (way (exists S s))
-  where
-    present : exists S s ≡ true → linksOf (walk S s o) < S .top
-    present e =
-        let c = climb-ends (valid-framed h) (h .no-cycle) s e in
-        let b : c .0 < S .top = c .1 in
-        let l : linksOf (walk S s o) ≤ 0 + c .0 = ends-from (valid-framed h) (S .top) (c .0) s o 0 e (c .2) (c .1) .links in
-        omega arith
-
-    absent : exists S s ≡ false → linksOf (walk S s o) < S .top
-    absent e = rw (absent-from (valid-framed h) (S .top) s o e) (h .bound U (h .root))
+walk-links S h s o =
+    ⊎-elim
+    (λ e. let c = climb-ends (valid-framed h) (h .no-cycle) s e in
+    omega (arith, c .1, ends-from (valid-framed h) (S .top) (c .0) s o 0 e (c .2) (c .1) .links))
+    (λ e. omega (arith, h .bound U (h .root), absent-from (valid-framed h) (S .top) s o e)) (way (exists S s))
