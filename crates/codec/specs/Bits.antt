@@ -49,7 +49,8 @@ bit-high j k hi {lo} h = ap (λ (d : ℕ). eqb (d % 2) 1) halves
         ∙ ap (λ (e : ℕ). hi / 2 ^ e) (sym (one-add k)) ∙ sym (shr-shr hi 1 k)
 
 -- high parts with one half give the same bits everywhere but at j
-pub bit-other : (i j hi hi′ : ℕ) {lo : ℕ} → lo < 2 ^ j → hi / 2 ≡ hi′ / 2 → eqb i j ≡ false → bit i (hi * 2 ^ j + lo) ≡ bit i (hi′ * 2 ^ j + lo)
+pub bit-other : (i j hi hi′ : ℕ) {lo : ℕ} → lo < 2 ^ j → hi / 2 ≡ hi′ / 2 → eqb i j ≡ false
+    → bit i (hi * 2 ^ j + lo) ≡ bit i (hi′ * 2 ^ j + lo)
 bit-other i j hi hi′ {lo} h e ne = ⊎-elim below above (way (ltb i j))
   where
     below : ltb i j ≡ true → bit i (hi * 2 ^ j + lo) ≡ bit i (hi′ * 2 ^ j + lo)

@@ -28,7 +28,8 @@ length-joined (suc m) k g e =
     length-append (joined m g) (g m) ∙ ap₂ (λ (x y : ℕ). x + y) (length-joined m k g (λ i l. e i (omega arith))) (e m (omega arith)) ∙ sym (suc-mul m k)
 
 -- the element j of the part i
-pub getD-joined : (m k : ℕ) (g : ℕ → List ℕ) → ((i : ℕ) → i < m → length (g i) ≡ k) → (i j : ℕ) → i < m → j < k → getD (joined m g) (i * k + j) 0 ≡ getD (g i) j 0
+pub getD-joined : (m k : ℕ) (g : ℕ → List ℕ) → ((i : ℕ) → i < m → length (g i) ≡ k) → (i j : ℕ) → i < m → j < k
+    → getD (joined m g) (i * k + j) 0 ≡ getD (g i) j 0
 unfolding joined
 getD-joined zero k g e i j h l = absurd (not-suc-le-zero h)
 getD-joined (suc m) k g e i j h l = ⊎-elim (λ b. earlier b (getD-joined m k g (λ a c. e a (omega arith)) i j b l)) last (below-suc i m h)

@@ -30,7 +30,8 @@ place-inside f r c h l =
     place a x w y h = omega arith
 
 -- the cells of two rows or columns have no byte in common
-pub place-apart : (f : Shape) (r c w d : ℕ) → c < columns f → d < columns f → (r ≡ w → c ≡ d → ⊥) → cellPlace f r c < cellPlace f w d + f .width → cellPlace f w d < cellPlace f r c + f .width → ⊥
+pub place-apart : (f : Shape) (r c w d : ℕ) → c < columns f → d < columns f → (r ≡ w → c ≡ d → ⊥)
+    → cellPlace f r c < cellPlace f w d + f .width → cellPlace f w d < cellPlace f r c + f .width → ⊥
 place-apart f r c w d h l ne a b = ne row column
   where
     k : ℕ
@@ -97,21 +98,24 @@ pub cell-after : (b : List ℕ) (r c : ℕ) → 7 ≤ cellPlace (shapeOf b) r c
 unfolding shapeOf
 cell-after b r c = omega arith
 
-pub cell-inside : (b : List ℕ) (r c : ℕ) → Shaped b → r < shapeOf b .n → c < columns (shapeOf b) → cellPlace (shapeOf b) r c + shapeOf b .width ≤ length b
+pub cell-inside : (b : List ℕ) (r c : ℕ) → Shaped b → r < shapeOf b .n → c < columns (shapeOf b)
+    → cellPlace (shapeOf b) r c + shapeOf b .width ≤ length b
 cell-inside b r c s h l = rw (s .size) (place-inside (shapeOf b) r c h l)
 
 pub cell-below : (b : List ℕ) (r c : ℕ) → Octets b → cellAt b r c < 2 ^ bitsOf (shapeOf b)
 unfolding cellAt
 cell-below b r c o = rw (← pow-bytes (shapeOf b .width)) (numberAt-below b (cellPlace (shapeOf b) r c) (shapeOf b .width) o)
 
-pub cell-set-same : (b : List ℕ) (r c v : ℕ) → Shaped b → r < shapeOf b .n → c < columns (shapeOf b) → v < 2 ^ bitsOf (shapeOf b) → cellAt (setCell b r c v) r c ≡ v
+pub cell-set-same : (b : List ℕ) (r c v : ℕ) → Shaped b → r < shapeOf b .n → c < columns (shapeOf b) → v < 2 ^ bitsOf (shapeOf b)
+    → cellAt (setCell b r c v) r c ≡ v
 unfolding cellAt
 cell-set-same b r c v s h l k = rw (shape-set b r c v) (stored (rw (← pow-bytes (shapeOf b .width)) at k))
   where
     stored : v < 256 ^ shapeOf b .width → numberAt (setCell b r c v) (cellPlace (shapeOf b) r c) (shapeOf b .width) ≡ v
     stored z = unfold setCell in numberAt-set-same b (cellPlace (shapeOf b) r c) (shapeOf b .width) v (cell-inside b r c s h l) z
 
-pub cell-set-other : (b : List ℕ) (r c v w d : ℕ) → c < columns (shapeOf b) → d < columns (shapeOf b) → (r ≡ w → c ≡ d → ⊥) → cellAt (setCell b r c v) w d ≡ cellAt b w d
+pub cell-set-other : (b : List ℕ) (r c v w d : ℕ) → c < columns (shapeOf b) → d < columns (shapeOf b) → (r ≡ w → c ≡ d → ⊥)
+    → cellAt (setCell b r c v) w d ≡ cellAt b w d
 unfolding cellAt
 cell-set-other b r c v w d h l ne = rw (shape-set b r c v) kept
   where
@@ -121,7 +125,8 @@ cell-set-other b r c v w d h l ne = rw (shape-set b r c v) kept
         numberAt-set-other b (cellPlace (shapeOf b) r c) (shapeOf b .width) v (cellPlace (shapeOf b) w d) (shapeOf b .width) (place-apart (shapeOf b) r c w d h l ne)
 
 -- both in one: every cell of the record after a store
-pub cell-set : (b : List ℕ) (r c v w d : ℕ) → Shaped b → r < shapeOf b .n → c < columns (shapeOf b) → v < 2 ^ bitsOf (shapeOf b) → d < columns (shapeOf b) → cellAt (setCell b r c v) w d ≡ cond (eqb d c && eqb w r) v (cellAt b w d)
+pub cell-set : (b : List ℕ) (r c v w d : ℕ) → Shaped b → r < shapeOf b .n → c < columns (shapeOf b) → v < 2 ^ bitsOf (shapeOf b)
+    → d < columns (shapeOf b) → cellAt (setCell b r c v) w d ≡ cond (eqb d c && eqb w r) v (cellAt b w d)
 cell-set b r c v w d s h l k m = ⊎-elim here other (way (eqb d c && eqb w r))
   where
     here : (eqb d c && eqb w r) ≡ true → cellAt (setCell b r c v) w d ≡ cond (eqb d c && eqb w r) v (cellAt b w d)

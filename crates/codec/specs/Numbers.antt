@@ -19,7 +19,8 @@ use Rattle.laws.specs.Tests.{way}
 use Rattle.laws.specs.Bounded.{below-suc}
 
 -- a number is what stands at its places
-pub numberAt-agree : (a b : List ℕ) (at to w : ℕ) → ((j : ℕ) → j < w → getD a (at + j) 0 ≡ getD b (to + j) 0) → numberAt a at w ≡ numberAt b to w
+pub numberAt-agree : (a b : List ℕ) (at to w : ℕ) → ((j : ℕ) → j < w → getD a (at + j) 0 ≡ getD b (to + j) 0)
+    → numberAt a at w ≡ numberAt b to w
 unfolding numberAt
 numberAt-agree a b at to zero h = refl
 numberAt-agree a b at to (suc w) h =
@@ -41,7 +42,8 @@ getD-setNumber-other b at (suc w) v i h =
     ∙ getD-setNumber-other b at w (v / 256) i (λ l u. h l (omega arith))
 
 -- a number that ends before the stored one begins, or begins after it ends
-pub numberAt-set-other : (b : List ℕ) (at w v to u : ℕ) → (at < to + u → to < at + w → ⊥) → numberAt (setNumber b at w v) to u ≡ numberAt b to u
+pub numberAt-set-other : (b : List ℕ) (at w v to u : ℕ) → (at < to + u → to < at + w → ⊥)
+    → numberAt (setNumber b at w v) to u ≡ numberAt b to u
 numberAt-set-other b at w v to u h =
     numberAt-agree (setNumber b at w v) b to to u (λ j l. getD-setNumber-other b at w v (to + j) (λ p q. h (omega arith) (omega arith)))
 
@@ -159,7 +161,8 @@ getD-bytesOfNumber (suc w) v j h = ⊎-elim (λ l. earlier l (getD-bytesOfNumber
     long : length front ≡ w
     long = length-bytesOfNumber w (v / 256)
 
-    earlier : j < w → getD front j 0 ≡ v / 256 / 256 ^ (w - suc j) % 256 → getD (front ++ (v % 256 ∷ [])) j 0 ≡ v / 256 ^ (suc w - suc j) % 256
+    earlier : j < w → getD front j 0 ≡ v / 256 / 256 ^ (w - suc j) % 256
+        → getD (front ++ (v % 256 ∷ [])) j 0 ≡ v / 256 ^ (suc w - suc j) % 256
     earlier l e =
         let q : suc w - suc j ≡ suc (w - suc j) = omega arith in
         List·getD-append front (v % 256 ∷ []) 0 j (rw long l) ∙ e

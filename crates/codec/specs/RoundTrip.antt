@@ -71,7 +71,8 @@ module _ (b : List ℕ) (s : Shaped b) (o : Octets b) where
           ∙ ap (λ (i : ℕ). bit i (cellAt b r c)) (codeOf-rightOf j)
 
   -- a row is written as the bytes where it stands
-  row-read : (r : ℕ) → r < shapeOf b .n → rowOf (shapeOf b) (stateOf b) r ≡ take (columns (shapeOf b) * shapeOf b .width) (drop (shapeOf b .first + r * (columns (shapeOf b) * shapeOf b .width)) b)
+  row-read : (r : ℕ) → r < shapeOf b .n
+      → rowOf (shapeOf b) (stateOf b) r ≡ take (columns (shapeOf b) * shapeOf b .width) (drop (shapeOf b .first + r * (columns (shapeOf b) * shapeOf b .width)) b)
   row-read r row =
       joined-same k (λ c. bytesOfNumber w (cellOf (shapeOf b) (stateOf b) r c)) (λ c. take w (drop (shapeOf b .first + r * (k * w) + c * w) b)) each
       ∙ joined-parts b (shapeOf b .first + r * (k * w)) k w
@@ -85,7 +86,8 @@ module _ (b : List ℕ) (s : Shaped b) (o : Octets b) where
       regroup : (a v i m c : ℕ) → a + v * (i * m + c) ≡ a + i * (m * v) + c * v
       regroup a v i m c = omega arith
 
-      each : (c : ℕ) → c < k → bytesOfNumber w (cellOf (shapeOf b) (stateOf b) r c) ≡ take w (drop (shapeOf b .first + r * (k * w) + c * w) b)
+      each : (c : ℕ) → c < k
+          → bytesOfNumber w (cellOf (shapeOf b) (stateOf b) r c) ≡ take w (drop (shapeOf b .first + r * (k * w) + c * w) b)
       each c column =
           let stands : bytesOfNumber w (cellAt b r c) ≡ take w (drop (cellPlace (shapeOf b) r c) b) = unfold cellAt in bytes-numberAt b (cellPlace (shapeOf b) r c) w o (cell-inside b r c s row column) in
           ap (bytesOfNumber w) (cell-read r c row column) ∙ stands ∙ ap (λ (a : ℕ). take w (drop a b)) (regroup (shapeOf b .first) w r k c)
@@ -144,7 +146,8 @@ write-read f S g i = same-state (stateOf (bytesOf f S)) S (top ∙ sym (i .top))
     top = within-read (bytesOf f S) .top ∙ ap (λ (e : Shape). e .n) shape
 
     -- within the names and rights of the shape the bit is read as it is in the state
-    inside : (y : Right) (w : ℕ) (x : Name) → w < f .n → named (f .n) (f .p) x ≡ true → codeOf y < bitsOf f → has (stateOf (bytesOf f S)) y w x ≡ has S y w x
+    inside : (y : Right) (w : ℕ) (x : Name) → w < f .n → named (f .n) (f .p) x ≡ true → codeOf y < bitsOf f
+        → has (stateOf (bytesOf f S)) y w x ≡ has S y w x
     inside y w x row column room =
         ap (has (stateOf (bytesOf f S)) y w) (sym name) ∙ ap (λ (e : Shape). has (stateOf (bytesOf f S)) y w (nameOf (e .n) c)) (sym shape)
         ∙ bit-read (bytesOf f S) w c (rw shape row) (rw shape below) y (rw shape room) ∙ ap (bit (codeOf y)) (cell-write f S w c g row below)

@@ -76,7 +76,8 @@ module _ (f : Shape) (S : State) where
       ∙ numberAt-bytes (f .version ∷ []) 4 (countOf f) (f .n ∷ f .p ∷ joined (f .n) (rowOf f S)) (count-fits g)
 
   -- a byte of a cell
-  getD-write : (r c j : ℕ) → r < f .n → c < columns f → j < f .width → getD (bytesOf f S) (7 + f .width * (r * columns f + c) + j) 0 ≡ getD (bytesOfNumber (f .width) (cellOf f S r c)) j 0
+  getD-write : (r c j : ℕ) → r < f .n → c < columns f → j < f .width
+      → getD (bytesOf f S) (7 + f .width * (r * columns f + c) + j) 0 ≡ getD (bytesOfNumber (f .width) (cellOf f S r c)) j 0
   unfolding bytesOf
   getD-write r c j h l k =
       ap (λ (i : ℕ). getD (bytesOf f S) i 0) place ∙ getD-append-add (header f) (joined (f .n) (rowOf f S)) (r * (columns f * f .width) + (c * f .width + j)) 0
