@@ -122,7 +122,8 @@ cell-set-other b r c v w d h l ne = rw (shape-set b r c v) kept
     kept : numberAt (setCell b r c v) (cellPlace (shapeOf b) w d) (shapeOf b .width) ≡ numberAt b (cellPlace (shapeOf b) w d) (shapeOf b .width)
     kept =
         unfold setCell in
-        numberAt-set-other b (cellPlace (shapeOf b) r c) (shapeOf b .width) v (cellPlace (shapeOf b) w d) (shapeOf b .width) (place-apart (shapeOf b) r c w d h l ne)
+        numberAt-set-other b (cellPlace (shapeOf b) r c) (shapeOf b .width) v (cellPlace (shapeOf b) w d) (shapeOf b .width)
+        (place-apart (shapeOf b) r c w d h l ne)
 
 -- both in one: every cell of the record after a store
 pub cell-set : (b : List ℕ) (r c v w d : ℕ) → Shaped b → r < shapeOf b .n → c < columns (shapeOf b) → v < 2 ^ bitsOf (shapeOf b)

@@ -72,7 +72,8 @@ module _ (b : List ℕ) (s : Shaped b) (o : Octets b) where
 
   -- a row is written as the bytes where it stands
   row-read : (r : ℕ) → r < shapeOf b .n
-      → rowOf (shapeOf b) (stateOf b) r ≡ take (columns (shapeOf b) * shapeOf b .width) (drop (shapeOf b .first + r * (columns (shapeOf b) * shapeOf b .width)) b)
+      → rowOf (shapeOf b) (stateOf b) r ≡
+      take (columns (shapeOf b) * shapeOf b .width) (drop (shapeOf b .first + r * (columns (shapeOf b) * shapeOf b .width)) b)
   row-read r row =
       joined-same k (λ c. bytesOfNumber w (cellOf (shapeOf b) (stateOf b) r c)) (λ c. take w (drop (shapeOf b .first + r * (k * w) + c * w) b)) each
       ∙ joined-parts b (shapeOf b .first + r * (k * w)) k w
@@ -89,7 +90,8 @@ module _ (b : List ℕ) (s : Shaped b) (o : Octets b) where
       each : (c : ℕ) → c < k
           → bytesOfNumber w (cellOf (shapeOf b) (stateOf b) r c) ≡ take w (drop (shapeOf b .first + r * (k * w) + c * w) b)
       each c column =
-          let stands : bytesOfNumber w (cellAt b r c) ≡ take w (drop (cellPlace (shapeOf b) r c) b) = unfold cellAt in bytes-numberAt b (cellPlace (shapeOf b) r c) w o (cell-inside b r c s row column) in
+          let stands : bytesOfNumber w (cellAt b r c) ≡ take w (drop (cellPlace (shapeOf b) r c) b) =
+          unfold cellAt in bytes-numberAt b (cellPlace (shapeOf b) r c) w o (cell-inside b r c s row column) in
           ap (bytesOfNumber w) (cell-read r c row column) ∙ stands ∙ ap (λ (a : ℕ). take w (drop a b)) (regroup (shapeOf b .first) w r k c)
 
   rows-read : joined (shapeOf b .n) (rowOf (shapeOf b) (stateOf b)) ≡ drop (shapeOf b .first) b
@@ -125,7 +127,8 @@ module _ (b : List ℕ) (s : Shaped b) (o : Octets b) where
       parts =
           take-suc b 6 0 (long 7 (omega arith)) ∙ ap (λ (x : List ℕ). x ++ (getD b 6 0 ∷ [])) (take-suc b 5 0 (long 6 (omega arith)))
           ∙ append-assoc (take 5 b) (getD b 5 0 ∷ []) (getD b 6 0 ∷ [])
-          ∙ ap (λ (x : List ℕ). x ++ (getD b 5 0 ∷ getD b 6 0 ∷ [])) (take-add 1 4 b ∙ ap (λ (x : List ℕ). x ++ take 4 (drop 1 b)) (take-suc b 0 0 (long 1 (omega arith))))
+          ∙ ap (λ (x : List ℕ). x ++ (getD b 5 0 ∷ getD b 6 0 ∷ []))
+          (take-add 1 4 b ∙ ap (λ (x : List ℕ). x ++ take 4 (drop 1 b)) (take-suc b 0 0 (long 1 (omega arith))))
 
   pub read-write : bytesOf (shapeOf b) (stateOf b) ≡ b
   unfolding bytesOf
@@ -137,7 +140,9 @@ module _ (b : List ℕ) (s : Shaped b) (o : Octets b) where
 -- ---- a state that is written, and read again
 
 pub write-read : (f : Shape) (S : State) → ShapeRight f → Within f S → stateOf (bytesOf f S) ≡ S
-write-read f S g i = same-state (stateOf (bytesOf f S)) S (top ∙ sym (i .top)) (λ y w x. same-test (has (stateOf (bytesOf f S)) y w x) (has S y w x) (read y w x) (written y w x))
+write-read f S g i =
+    same-state (stateOf (bytesOf f S)) S (top ∙ sym (i .top))
+    (λ y w x. same-test (has (stateOf (bytesOf f S)) y w x) (has S y w x) (read y w x) (written y w x))
   where
     shape : shapeOf (bytesOf f S) ≡ f
     shape = shape-write f S g

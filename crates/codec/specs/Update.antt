@@ -69,7 +69,9 @@ module _ (b : List ℕ) (r c : ℕ) (row : r < shapeOf b .n) (column : c < colum
   bitAt-bounded j o = ⊎-elim (λ h. bitAt-cell j (ltb-true j (bitsOf (shapeOf b)) h)) beyond (way (ltb j (bitsOf (shapeOf b))))
     where
       beyond : ltb j (bitsOf (shapeOf b)) ≡ false → bitAt b j r (nameOf (shapeOf b .n) c) ≡ bit j (cellAt b r c)
-      beyond h = none-beyond b j r (nameOf (shapeOf b .n) c) h ∙ sym (bit-beyond (bitsOf (shapeOf b)) j (cellAt b r c) o (ltb-false j (bitsOf (shapeOf b)) h))
+      beyond h =
+          none-beyond b j r (nameOf (shapeOf b .n) c) h
+          ∙ sym (bit-beyond (bitsOf (shapeOf b)) j (cellAt b r c) o (ltb-false j (bitsOf (shapeOf b)) h))
 
 -- the bits that are read of a stored cell
 bitAt-stored : (b : List ℕ) (r c v j : ℕ) → Shaped b → r < shapeOf b .n → c < columns (shapeOf b) → v < 2 ^ bitsOf (shapeOf b)
@@ -136,7 +138,8 @@ one-bit false false on a old new h k = refl
 pub state-put : (b : List ℕ) (r c : ℕ) (y : Right) (on : Bool) → Shaped b → Octets b → r < shapeOf b .n → c < columns (shapeOf b)
     → codeOf y < bitsOf (shapeOf b)
     → stateOf (setCell b r c (withBit (codeOf y) on (cellAt b r c))) ≡ put y r (nameOf (shapeOf b .n) c) on (stateOf b)
-state-put b r c y on s o row column room = same-state (stateOf (setCell b r c v)) (put y r name on (stateOf b)) (top-set b r c v ∙ sym (top-put y r name on (stateOf b))) each
+state-put b r c y on s o row column room =
+    same-state (stateOf (setCell b r c v)) (put y r name on (stateOf b)) (top-set b r c v ∙ sym (top-put y r name on (stateOf b))) each
   where
     name : Name
     name = nameOf (shapeOf b .n) c

@@ -25,11 +25,14 @@ abbrev header : Shape → List ℕ
 header f = f .version ∷ bytesOfNumber 4 (countOf f) ++ (f .n ∷ f .p ∷ [])
 
 length-header : (f : Shape) → length (header f) ≡ 7
-length-header f = length-append (f .version ∷ bytesOfNumber 4 (countOf f)) (f .n ∷ f .p ∷ []) ∙ ap (λ (k : ℕ). suc k + 2) (length-bytesOfNumber 4 (countOf f))
+length-header f =
+    length-append (f .version ∷ bytesOfNumber 4 (countOf f)) (f .n ∷ f .p ∷ [])
+    ∙ ap (λ (k : ℕ). suc k + 2) (length-bytesOfNumber 4 (countOf f))
 
 module _ (f : Shape) (S : State) where
   length-row : (r : ℕ) → length (rowOf f S r) ≡ columns f * f .width
-  length-row r = length-joined (columns f) (f .width) (λ c. bytesOfNumber (f .width) (cellOf f S r c)) (λ c l. length-bytesOfNumber (f .width) (cellOf f S r c))
+  length-row r =
+      length-joined (columns f) (f .width) (λ c. bytesOfNumber (f .width) (cellOf f S r c)) (λ c l. length-bytesOfNumber (f .width) (cellOf f S r c))
 
   pub length-write : length (bytesOf f S) ≡ 7 + f .width * (f .n * columns f)
   unfolding bytesOf
@@ -56,7 +59,9 @@ module _ (f : Shape) (S : State) where
 
   pub shape-write : ShapeRight f → shapeOf (bytesOf f S) ≡ f
   unfolding shapeOf
-  shape-write g = rw (version-write, n-write, p-write) (λ i. record { version = f .version; n = f .n; p = f .p; width = sym (g .width) i; first = sym (g .first) i })
+  shape-write g =
+      rw (version-write, n-write, p-write)
+      (λ i. record { version = f .version; n = f .n; p = f .p; width = sym (g .width) i; first = sym (g .first) i })
 
   -- the count is one of four bytes
   count-fits : ShapeRight f → countOf f < 256 ^ 4
@@ -67,7 +72,8 @@ module _ (f : Shape) (S : State) where
       let b : f .p ≤ 192 = g .plain in
       let l : f .n + f .p ≤ 256 = omega arith in
       let m : f .n * (f .n + f .p) ≤ 64 * 256 = mul-le-mul a l in
-      subst (λ (x : ℕ). x + f .width * (f .n * (f .n + f .p)) - 5 < 256 ^ 4) (sym k) (subst (λ (x : ℕ). 7 + x * (f .n * (f .n + f .p)) - 5 < 256 ^ 4) (sym w) (omega arith))
+      subst (λ (x : ℕ). x + f .width * (f .n * (f .n + f .p)) - 5 < 256 ^ 4) (sym k)
+      (subst (λ (x : ℕ). 7 + x * (f .n * (f .n + f .p)) - 5 < 256 ^ 4) (sym w) (omega arith))
 
   pub count-write : ShapeRight f → numberAt (bytesOf f S) 1 4 ≡ countOf f
   unfolding bytesOf
@@ -80,7 +86,8 @@ module _ (f : Shape) (S : State) where
       → getD (bytesOf f S) (7 + f .width * (r * columns f + c) + j) 0 ≡ getD (bytesOfNumber (f .width) (cellOf f S r c)) j 0
   unfolding bytesOf
   getD-write r c j h l k =
-      ap (λ (i : ℕ). getD (bytesOf f S) i 0) place ∙ getD-append-add (header f) (joined (f .n) (rowOf f S)) (r * (columns f * f .width) + (c * f .width + j)) 0
+      ap (λ (i : ℕ). getD (bytesOf f S) i 0) place
+      ∙ getD-append-add (header f) (joined (f .n) (rowOf f S)) (r * (columns f * f .width) + (c * f .width + j)) 0
       ∙ getD-joined (f .n) (columns f * f .width) (rowOf f S) (λ a b. length-row a) r (c * f .width + j) h (digits-lt l k)
       ∙ getD-joined (columns f) (f .width) (λ d. bytesOfNumber (f .width) (cellOf f S r d)) (λ d b. length-bytesOfNumber (f .width) (cellOf f S r d)) c j l k
     where
@@ -132,4 +139,5 @@ module _ (f : Shape) (S : State) where
       (octets-append (f .version ∷ bytesOfNumber 4 (countOf f)) (f .n ∷ f .p ∷ [])
       (octets-cons (f .version) (bytesOfNumber 4 (countOf f)) (omega arith) (octets-bytesOfNumber 4 (countOf f)))
       (octets-cons (f .n) (f .p ∷ []) (omega arith) (octets-cons (f .p) [] (omega arith) octets-nil)))
-      (octets-joined (f .n) (rowOf f S) (λ r h. octets-joined (columns f) (λ c. bytesOfNumber (f .width) (cellOf f S r c)) (λ c l. octets-bytesOfNumber (f .width) (cellOf f S r c))))
+      (octets-joined (f .n) (rowOf f S)
+      (λ r h. octets-joined (columns f) (λ c. bytesOfNumber (f .width) (cellOf f S r c)) (λ c l. octets-bytesOfNumber (f .width) (cellOf f S r c))))
