@@ -56,6 +56,11 @@ place-apart f r c w d h l ne a b = ne row column
     column : c ≡ d
     column = sym (digits-mod r h) ∙ ap (λ (x : ℕ). x % columns f) same ∙ digits-mod w l
 
+-- a cell is after the header
+pub cell-after : (b : List ℕ) (r c : ℕ) → 7 ≤ cellPlace (shapeOf b) r c
+unfolding shapeOf
+cell-after b r c = omega arith
+
 -- ---- storing a cell
 
 module _ (b : List ℕ) (r c v : ℕ) where
@@ -65,16 +70,16 @@ module _ (b : List ℕ) (r c v : ℕ) where
 
   -- the bytes before the first cell stay
   pub header-set : (i : ℕ) → i < 7 → getD (setCell b r c v) i 0 ≡ getD b i 0
-  unfolding setCell shapeOf
-  header-set i h = getD-setNumber-other b (cellPlace (shapeOf b) r c) (shapeOf b .width) v i (λ l u. omega arith)
+  unfolding setCell
+  header-set i h = getD-setNumber-other b (cellPlace (shapeOf b) r c) (shapeOf b .width) v i (λ l u. omega (arith, cell-after b r c))
 
   pub shape-set : shapeOf (setCell b r c v) ≡ shapeOf b
   unfolding shapeOf
   shape-set = rw (header-set 0 (omega arith), header-set 5 (omega arith), header-set 6 (omega arith)) refl
 
   pub count-set : numberAt (setCell b r c v) 1 4 ≡ numberAt b 1 4
-  unfolding setCell shapeOf
-  count-set = numberAt-set-other b (cellPlace (shapeOf b) r c) (shapeOf b .width) v 1 4 (λ l u. omega arith)
+  unfolding setCell
+  count-set = numberAt-set-other b (cellPlace (shapeOf b) r c) (shapeOf b .width) v 1 4 (λ l u. omega (arith, cell-after b r c))
 
   pub shaped-set : Shaped b → Shaped (setCell b r c v)
   shaped-set s =
@@ -93,11 +98,7 @@ module _ (b : List ℕ) (r c v : ℕ) where
 
 -- ---- the cells of a record
 
--- a cell is after the header and within the bytes
-pub cell-after : (b : List ℕ) (r c : ℕ) → 7 ≤ cellPlace (shapeOf b) r c
-unfolding shapeOf
-cell-after b r c = omega arith
-
+-- a cell is within the bytes
 pub cell-inside : (b : List ℕ) (r c : ℕ) → Shaped b → r < shapeOf b .n → c < columns (shapeOf b)
     → cellPlace (shapeOf b) r c + shapeOf b .width ≤ length b
 cell-inside b r c s h l = rw (s .size) (place-inside (shapeOf b) r c h l)

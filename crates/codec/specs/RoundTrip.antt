@@ -112,7 +112,7 @@ module _ (b : List ℕ) (s : Shaped b) (o : Octets b) where
       rest : (a i m v : ℕ) → a + v * (i * m) - a ≤ i * (m * v)
       rest a i m v = omega arith
 
-  header-read : shapeOf b .version ∷ bytesOfNumber 4 (countOf (shapeOf b)) ++ (shapeOf b .n ∷ shapeOf b .p ∷ []) ≡ take 7 b
+  header-read : shapeOf b .version ∷ bytesOfNumber 4 (countOf (shapeOf b)) ++ (shapeOf b .n ∷ shapeOf b .p ∷ []) ≡ take (shapeOf b .first) b
   unfolding shapeOf
   header-read =
       ap (λ (v : ℕ). getD b 0 0 ∷ bytesOfNumber 4 v ++ (getD b 5 0 ∷ getD b 6 0 ∷ [])) (sym (s .count))
@@ -132,10 +132,7 @@ module _ (b : List ℕ) (s : Shaped b) (o : Octets b) where
 
   pub read-write : bytesOf (shapeOf b) (stateOf b) ≡ b
   unfolding bytesOf
-  read-write = ap₂ {C = List ℕ} (λ x y. x ++ y) header-read (rows-read ∙ first) ∙ take-append-drop 7 b
-    where
-      first : drop (shapeOf b .first) b ≡ drop 7 b
-      first = unfold shapeOf in refl
+  read-write = ap₂ {C = List ℕ} (λ x y. x ++ y) header-read rows-read ∙ take-append-drop (shapeOf b .first) b
 
 -- ---- a state that is written, and read again
 

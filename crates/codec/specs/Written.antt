@@ -12,7 +12,7 @@ use Rattle.matrix.specs.Rights.{rightOf}
 use Rattle.matrix.specs.Names.{nameOf}
 use Rattle.matrix.specs.State.{State, has}
 use Rattle.matrix.specs.Bytes.{numberAt, bytesOfNumber, joined}
-use Rattle.matrix.specs.Shape.{Shape, shapeOf, columns, countOf, bitsOf}
+use Rattle.matrix.specs.Shape.{Shape, shapeOf, columns, countOf, bitsOf, mostSubjects, mostPlain, sizeOf, cellPlace}
 use Rattle.matrix.specs.Reading.{cellAt, cellOf, rowOf, bytesOf}
 use Rattle.matrix.specs.Shaped.{Shaped, Octets}
 use Rattle.codec.specs.ShapeRight.{ShapeRight}
@@ -20,29 +20,29 @@ use Rattle.codec.specs.Bits.{fromBits-below}
 use Rattle.codec.specs.Numbers.{numberAt-agree, numberAt-bytes, length-bytesOfNumber, octets-bytesOfNumber, pow-bytes}
 use Rattle.codec.specs.Blocks.{length-joined, getD-joined, octets-nil, octets-cons, octets-append, octets-joined}
 
--- the seven bytes before the rows
+-- the bytes before the rows
 abbrev header : Shape → List ℕ
 header f = f .version ∷ bytesOfNumber 4 (countOf f) ++ (f .n ∷ f .p ∷ [])
 
-length-header : (f : Shape) → length (header f) ≡ 7
-length-header f =
+length-header : (f : Shape) → ShapeRight f → length (header f) ≡ f .first
+length-header f g =
     length-append (f .version ∷ bytesOfNumber 4 (countOf f)) (f .n ∷ f .p ∷ [])
-    ∙ ap (λ (k : ℕ). suc k + 2) (length-bytesOfNumber 4 (countOf f))
+    ∙ ap (λ (k : ℕ). suc k + 2) (length-bytesOfNumber 4 (countOf f)) ∙ sym (g .first)
 
 module _ (f : Shape) (S : State) where
   length-row : (r : ℕ) → length (rowOf f S r) ≡ columns f * f .width
   length-row r =
       length-joined (columns f) (f .width) (λ c. bytesOfNumber (f .width) (cellOf f S r c)) (λ c l. length-bytesOfNumber (f .width) (cellOf f S r c))
 
-  pub length-write : length (bytesOf f S) ≡ 7 + f .width * (f .n * columns f)
+  pub length-write : ShapeRight f → length (bytesOf f S) ≡ sizeOf f
   unfolding bytesOf
-  length-write =
+  length-write g =
       length-append (header f) (joined (f .n) (rowOf f S))
-      ∙ ap₂ (λ (x y : ℕ). x + y) (length-header f) (length-joined (f .n) (columns f * f .width) (rowOf f S) (λ r l. length-row r))
-      ∙ regroup (f .n) (columns f) (f .width)
+      ∙ ap₂ (λ (x y : ℕ). x + y) (length-header f g) (length-joined (f .n) (columns f * f .width) (rowOf f S) (λ r l. length-row r))
+      ∙ regroup (f .first) (f .n) (columns f) (f .width)
     where
-      regroup : (n k w : ℕ) → 7 + n * (k * w) ≡ 7 + w * (n * k)
-      regroup n k w = omega arith
+      regroup : (a n k w : ℕ) → a + n * (k * w) ≡ a + w * (n * k)
+      regroup a n k w = omega arith
 
   -- the header as it is read
   version-write : getD (bytesOf f S) 0 0 ≡ f .version
@@ -65,15 +65,16 @@ module _ (f : Shape) (S : State) where
 
   -- the count is one of four bytes
   count-fits : ShapeRight f → countOf f < 256 ^ 4
-  count-fits g =
-      let w : f .width ≡ 2 = g .width in
-      let k : f .first ≡ 7 = g .first in
-      let a : f .n ≤ 64 = g .high in
-      let b : f .p ≤ 192 = g .plain in
-      let l : f .n + f .p ≤ 256 = omega arith in
-      let m : f .n * (f .n + f .p) ≤ 64 * 256 = mul-le-mul a l in
-      subst (λ (x : ℕ). x + f .width * (f .n * (f .n + f .p)) - 5 < 256 ^ 4) (sym k)
-      (subst (λ (x : ℕ). 7 + x * (f .n * (f .n + f .p)) - 5 < 256 ^ 4) (sym w) (omega arith))
+  count-fits g = most (f .first) (f .width * (f .n * columns f)) (omega arith) (mul-le-mul width (mul-le-mul (g .high) columns-most))
+    where
+      width : f .width ≤ 4
+      width = omega arith
+
+      columns-most : f .n + f .p ≤ mostSubjects + mostPlain
+      columns-most = omega arith
+
+      most : (a x : ℕ) → a ≤ 16 → x ≤ 4 * (mostSubjects * (mostSubjects + mostPlain)) → a + x - 5 < 256 ^ 4
+      most a x h l = omega arith
 
   pub count-write : ShapeRight f → numberAt (bytesOf f S) 1 4 ≡ countOf f
   unfolding bytesOf
@@ -82,25 +83,25 @@ module _ (f : Shape) (S : State) where
       ∙ numberAt-bytes (f .version ∷ []) 4 (countOf f) (f .n ∷ f .p ∷ joined (f .n) (rowOf f S)) (count-fits g)
 
   -- a byte of a cell
-  getD-write : (r c j : ℕ) → r < f .n → c < columns f → j < f .width
-      → getD (bytesOf f S) (7 + f .width * (r * columns f + c) + j) 0 ≡ getD (bytesOfNumber (f .width) (cellOf f S r c)) j 0
+  getD-write : (r c j : ℕ) → ShapeRight f → r < f .n → c < columns f → j < f .width
+      → getD (bytesOf f S) (cellPlace f r c + j) 0 ≡ getD (bytesOfNumber (f .width) (cellOf f S r c)) j 0
   unfolding bytesOf
-  getD-write r c j h l k =
+  getD-write r c j g h l k =
       ap (λ (i : ℕ). getD (bytesOf f S) i 0) place
       ∙ getD-append-add (header f) (joined (f .n) (rowOf f S)) (r * (columns f * f .width) + (c * f .width + j)) 0
       ∙ getD-joined (f .n) (columns f * f .width) (rowOf f S) (λ a b. length-row a) r (c * f .width + j) h (digits-lt l k)
       ∙ getD-joined (columns f) (f .width) (λ d. bytesOfNumber (f .width) (cellOf f S r d)) (λ d b. length-bytesOfNumber (f .width) (cellOf f S r d)) c j l k
     where
-      regroup : (w r k c j a : ℕ) → a ≡ 7 → 7 + w * (r * k + c) + j ≡ a + (r * (k * w) + (c * w + j))
-      regroup w r k c j a e = omega arith
+      regroup : (a w i k d m z : ℕ) → z ≡ a → a + w * (i * k + d) + m ≡ z + (i * (k * w) + (d * w + m))
+      regroup a w i k d m z e = omega arith
 
-      place : 7 + f .width * (r * columns f + c) + j ≡ length (header f) + (r * (columns f * f .width) + (c * f .width + j))
-      place = regroup (f .width) r (columns f) c j (length (header f)) (length-header f)
+      place : cellPlace f r c + j ≡ length (header f) + (r * (columns f * f .width) + (c * f .width + j))
+      place = regroup (f .first) (f .width) r (columns f) c j (length (header f)) (length-header f g)
 
   -- a cell as it is read
   pub cell-write : (r c : ℕ) → ShapeRight f → r < f .n → c < columns f → cellAt (bytesOf f S) r c ≡ cellOf f S r c
   unfolding cellAt
-  cell-write r c g h l = rw (shape-write g) (number (g .first))
+  cell-write r c g h l = rw (shape-write g) number
     where
       v : ℕ
       v = cellOf f S r c
@@ -108,11 +109,10 @@ module _ (f : Shape) (S : State) where
       below : v < 256 ^ f .width
       below = rw (pow-bytes (f .width)) (fromBits-below (bitsOf f) (λ j. has S (rightOf j) r (nameOf (f .n) c)))
 
-      number : f .first ≡ 7 → numberAt (bytesOf f S) (f .first + f .width * (r * columns f + c)) (f .width) ≡ v
-      number e =
-          ap (λ (a : ℕ). numberAt (bytesOf f S) (a + f .width * (r * columns f + c)) (f .width)) e
-          ∙ numberAt-agree (bytesOf f S) (bytesOfNumber (f .width) v) (7 + f .width * (r * columns f + c)) 0 (f .width)
-          (λ j k. getD-write r c j h l k ∙ ap (λ (i : ℕ). getD (bytesOfNumber (f .width) v) i 0) (sym (zero-add j)))
+      number : numberAt (bytesOf f S) (cellPlace f r c) (f .width) ≡ v
+      number =
+          numberAt-agree (bytesOf f S) (bytesOfNumber (f .width) v) (cellPlace f r c) 0 (f .width)
+          (λ j k. getD-write r c j g h l k ∙ ap (λ (i : ℕ). getD (bytesOfNumber (f .width) v) i 0) (sym (zero-add j)))
           ∙ whole
         where
           whole : numberAt (bytesOfNumber (f .width) v) 0 (f .width) ≡ v
@@ -126,18 +126,18 @@ module _ (f : Shape) (S : State) where
         high = rw (shape-write g) (g .high);
         plain = rw (shape-write g) (g .plain);
         count = rw (shape-write g) (count-write g);
-        size = rw (shape-write g) (length-write ∙ ap (λ (k : ℕ). k + f .width * (f .n * columns f)) (sym (g .first)));
+        size = rw (shape-write g) (length-write g);
       }
 
   pub octets-write : ShapeRight f → Octets (bytesOf f S)
   unfolding bytesOf
   octets-write g =
-      let v : f .version ≡ 1 = eqb-true (f .version) 1 (g .version) in
-      let a : f .n ≤ 64 = g .high in
-      let b : f .p ≤ 192 = g .plain in
       octets-append (header f) (joined (f .n) (rowOf f S))
       (octets-append (f .version ∷ bytesOfNumber 4 (countOf f)) (f .n ∷ f .p ∷ [])
-      (octets-cons (f .version) (bytesOfNumber 4 (countOf f)) (omega arith) (octets-bytesOfNumber 4 (countOf f)))
+      (octets-cons (f .version) (bytesOfNumber 4 (countOf f)) version (octets-bytesOfNumber 4 (countOf f)))
       (octets-cons (f .n) (f .p ∷ []) (omega arith) (octets-cons (f .p) [] (omega arith) octets-nil)))
       (octets-joined (f .n) (rowOf f S)
       (λ r h. octets-joined (columns f) (λ c. bytesOfNumber (f .width) (cellOf f S r c)) (λ c l. octets-bytesOfNumber (f .width) (cellOf f S r c))))
+    where
+      version : f .version < 256
+      version = let e : f .version ≡ 1 = eqb-true (f .version) 1 (g .version) in omega arith
