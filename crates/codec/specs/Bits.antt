@@ -49,19 +49,22 @@ bit-high j k hi {lo} h = ap (λ (d : ℕ). eqb (d % 2) 1) halves
         ∙ ap (λ (e : ℕ). hi / 2 ^ e) (sym (one-add k)) ∙ sym (shr-shr hi 1 k)
 
 -- high parts with one half give the same bits everywhere but at j
-pub bit-other : (i j hi hi′ : ℕ) {lo : ℕ} → lo < 2 ^ j → hi / 2 ≡ hi′ / 2 → eqb i j ≡ false → bit i (hi * 2 ^ j + lo) ≡ bit i (hi′ * 2 ^ j + lo)
+pub bit-other : (i j hi hi′ : ℕ) {lo : ℕ} → lo < 2 ^ j → hi / 2 ≡ hi′ / 2 → eqb i j ≡ false
+    → bit i (hi * 2 ^ j + lo) ≡ bit i (hi′ * 2 ^ j + lo)
 bit-other i j hi hi′ {lo} h e ne = ⊎-elim below above (way (ltb i j))
   where
     below : ltb i j ≡ true → bit i (hi * 2 ^ j + lo) ≡ bit i (hi′ * 2 ^ j + lo)
     below l =
         let q : suc (j - suc i) + i ≡ j = omega (arith, ltb-true i j l) in
-        let at : (x : ℕ) → bit i (x * 2 ^ j + lo) ≡ bit i lo = λ x. subst (λ (z : ℕ). bit i (x * 2 ^ z + lo) ≡ bit i lo) q (bit-low i (j - suc i) x lo) in
+        let at : (x : ℕ) → bit i (x * 2 ^ j + lo) ≡ bit i lo =
+        λ x. subst (λ (z : ℕ). bit i (x * 2 ^ z + lo) ≡ bit i lo) q (bit-low i (j - suc i) x lo) in
         at hi ∙ sym (at hi′)
 
     above : ltb i j ≡ false → bit i (hi * 2 ^ j + lo) ≡ bit i (hi′ * 2 ^ j + lo)
     above l =
         let q : j + suc (i - suc j) ≡ i = omega (arith, ltb-false i j l, eqb-false i j ne) in
-        let at : (x : ℕ) → bit i (x * 2 ^ j + lo) ≡ bit (i - suc j) (x / 2) = λ x. subst (λ (z : ℕ). bit z (x * 2 ^ j + lo) ≡ bit (i - suc j) (x / 2)) q (bit-high j (i - suc j) x h) in
+        let at : (x : ℕ) → bit i (x * 2 ^ j + lo) ≡ bit (i - suc j) (x / 2) =
+        λ x. subst (λ (z : ℕ). bit z (x * 2 ^ j + lo) ≡ bit (i - suc j) (x / 2)) q (bit-high j (i - suc j) x h) in
         at hi ∙ ap (bit (i - suc j)) e ∙ sym (at hi′)
 
 -- the numbers that fromBits makes
@@ -77,7 +80,9 @@ fromBits-below (suc m) f = more (f m) (fromBits-below m f)
 pub bit-fromBits : (m : ℕ) (f : ℕ → Bool) (j : ℕ) → j < m → bit j (fromBits m f) ≡ f j
 unfolding fromBits
 bit-fromBits zero f j h = absurd (not-suc-le-zero h)
-bit-fromBits (suc m) f j h = ⊎-elim (λ l. lower l (bit-fromBits m f j l)) (λ q. subst (λ (i : ℕ). bit i (fromBits m f + cond (f m) (2 ^ m) 0) ≡ f i) (sym q) (topmost (f m))) (below-suc j m h)
+bit-fromBits (suc m) f j h =
+    ⊎-elim (λ l. lower l (bit-fromBits m f j l))
+    (λ q. subst (λ (i : ℕ). bit i (fromBits m f + cond (f m) (2 ^ m) 0) ≡ f i) (sym q) (topmost (f m))) (below-suc j m h)
   where
     front : (t : Bool) → fromBits m f + cond t (2 ^ m) 0 ≡ cond t 1 0 * 2 ^ m + fromBits m f
     front true = omega arith
@@ -93,7 +98,9 @@ bit-fromBits (suc m) f j h = ⊎-elim (λ l. lower l (bit-fromBits m f j l)) (λ
     lower : j < m → bit j (fromBits m f) ≡ f j → bit j (fromBits m f + cond (f m) (2 ^ m) 0) ≡ f j
     lower l e =
         let q : suc (m - suc j) + j ≡ m = omega arith in
-        rw (front (f m)) (subst (λ (z : ℕ). bit j (cond (f m) 1 0 * 2 ^ z + fromBits m f) ≡ bit j (fromBits m f)) q (bit-low j (m - suc j) (cond (f m) 1 0) (fromBits m f)) ∙ e)
+        rw (front (f m))
+        (subst (λ (z : ℕ). bit j (cond (f m) 1 0 * 2 ^ z + fromBits m f) ≡ bit j (fromBits m f)) q
+        (bit-low j (m - suc j) (cond (f m) 1 0) (fromBits m f)) ∙ e)
 
 pub fromBits-same : (m : ℕ) (f g : ℕ → Bool) → ((j : ℕ) → j < m → f j ≡ g j) → fromBits m f ≡ fromBits m g
 unfolding fromBits
@@ -103,7 +110,9 @@ fromBits-same (suc m) f g h = rw (fromBits-same m f g (λ j l. h j (omega arith)
 pub fromBits-mod : (m v : ℕ) → fromBits m (λ j. bit j v) ≡ v % 2 ^ m
 unfolding fromBits bit
 fromBits-mod zero v = omega arith
-fromBits-mod (suc m) v = rw (fromBits-mod m v) (sym (ap (λ (e : ℕ). v % 2 ^ e) (sym (one-add m)) ∙ mod-pow-add v 1 m ∙ digit (v / 2 ^ m % 2) (mod-lt (v / 2 ^ m) (omega arith))))
+fromBits-mod (suc m) v =
+    rw (fromBits-mod m v)
+    (sym (ap (λ (e : ℕ). v % 2 ^ e) (sym (one-add m)) ∙ mod-pow-add v 1 m ∙ digit (v / 2 ^ m % 2) (mod-lt (v / 2 ^ m) (omega arith))))
   where
     digit : (d : ℕ) → d < 2 → d * 2 ^ m + v % 2 ^ m ≡ v % 2 ^ m + cond (eqb d 1) (2 ^ m) 0
     digit d h =

@@ -30,7 +30,8 @@ place-inside f r c h l =
     place a x w y h = omega arith
 
 -- the cells of two rows or columns have no byte in common
-pub place-apart : (f : Shape) (r c w d : ℕ) → c < columns f → d < columns f → (r ≡ w → c ≡ d → ⊥) → cellPlace f r c < cellPlace f w d + f .width → cellPlace f w d < cellPlace f r c + f .width → ⊥
+pub place-apart : (f : Shape) (r c w d : ℕ) → c < columns f → d < columns f → (r ≡ w → c ≡ d → ⊥)
+    → cellPlace f r c < cellPlace f w d + f .width → cellPlace f w d < cellPlace f r c + f .width → ⊥
 place-apart f r c w d h l ne a b = ne row column
   where
     k : ℕ
@@ -55,6 +56,11 @@ place-apart f r c w d h l ne a b = ne row column
     column : c ≡ d
     column = sym (digits-mod r h) ∙ ap (λ (x : ℕ). x % columns f) same ∙ digits-mod w l
 
+-- a cell is after the header
+pub cell-after : (b : List ℕ) (r c : ℕ) → 7 ≤ cellPlace (shapeOf b) r c
+unfolding shapeOf
+cell-after b r c = omega arith
+
 -- ---- storing a cell
 
 module _ (b : List ℕ) (r c v : ℕ) where
@@ -64,16 +70,16 @@ module _ (b : List ℕ) (r c v : ℕ) where
 
   -- the bytes before the first cell stay
   pub header-set : (i : ℕ) → i < 7 → getD (setCell b r c v) i 0 ≡ getD b i 0
-  unfolding setCell shapeOf
-  header-set i h = getD-setNumber-other b (cellPlace (shapeOf b) r c) (shapeOf b .width) v i (λ l u. omega arith)
+  unfolding setCell
+  header-set i h = getD-setNumber-other b (cellPlace (shapeOf b) r c) (shapeOf b .width) v i (λ l u. omega (arith, cell-after b r c))
 
   pub shape-set : shapeOf (setCell b r c v) ≡ shapeOf b
   unfolding shapeOf
   shape-set = rw (header-set 0 (omega arith), header-set 5 (omega arith), header-set 6 (omega arith)) refl
 
   pub count-set : numberAt (setCell b r c v) 1 4 ≡ numberAt b 1 4
-  unfolding setCell shapeOf
-  count-set = numberAt-set-other b (cellPlace (shapeOf b) r c) (shapeOf b .width) v 1 4 (λ l u. omega arith)
+  unfolding setCell
+  count-set = numberAt-set-other b (cellPlace (shapeOf b) r c) (shapeOf b .width) v 1 4 (λ l u. omega (arith, cell-after b r c))
 
   pub shaped-set : Shaped b → Shaped (setCell b r c v)
   shaped-set s =
@@ -92,36 +98,37 @@ module _ (b : List ℕ) (r c v : ℕ) where
 
 -- ---- the cells of a record
 
--- a cell is after the header and within the bytes
-pub cell-after : (b : List ℕ) (r c : ℕ) → 7 ≤ cellPlace (shapeOf b) r c
-unfolding shapeOf
-cell-after b r c = omega arith
-
-pub cell-inside : (b : List ℕ) (r c : ℕ) → Shaped b → r < shapeOf b .n → c < columns (shapeOf b) → cellPlace (shapeOf b) r c + shapeOf b .width ≤ length b
+-- a cell is within the bytes
+pub cell-inside : (b : List ℕ) (r c : ℕ) → Shaped b → r < shapeOf b .n → c < columns (shapeOf b)
+    → cellPlace (shapeOf b) r c + shapeOf b .width ≤ length b
 cell-inside b r c s h l = rw (s .size) (place-inside (shapeOf b) r c h l)
 
 pub cell-below : (b : List ℕ) (r c : ℕ) → Octets b → cellAt b r c < 2 ^ bitsOf (shapeOf b)
 unfolding cellAt
 cell-below b r c o = rw (← pow-bytes (shapeOf b .width)) (numberAt-below b (cellPlace (shapeOf b) r c) (shapeOf b .width) o)
 
-pub cell-set-same : (b : List ℕ) (r c v : ℕ) → Shaped b → r < shapeOf b .n → c < columns (shapeOf b) → v < 2 ^ bitsOf (shapeOf b) → cellAt (setCell b r c v) r c ≡ v
+pub cell-set-same : (b : List ℕ) (r c v : ℕ) → Shaped b → r < shapeOf b .n → c < columns (shapeOf b) → v < 2 ^ bitsOf (shapeOf b)
+    → cellAt (setCell b r c v) r c ≡ v
 unfolding cellAt
 cell-set-same b r c v s h l k = rw (shape-set b r c v) (stored (rw (← pow-bytes (shapeOf b .width)) at k))
   where
     stored : v < 256 ^ shapeOf b .width → numberAt (setCell b r c v) (cellPlace (shapeOf b) r c) (shapeOf b .width) ≡ v
     stored z = unfold setCell in numberAt-set-same b (cellPlace (shapeOf b) r c) (shapeOf b .width) v (cell-inside b r c s h l) z
 
-pub cell-set-other : (b : List ℕ) (r c v w d : ℕ) → c < columns (shapeOf b) → d < columns (shapeOf b) → (r ≡ w → c ≡ d → ⊥) → cellAt (setCell b r c v) w d ≡ cellAt b w d
+pub cell-set-other : (b : List ℕ) (r c v w d : ℕ) → c < columns (shapeOf b) → d < columns (shapeOf b) → (r ≡ w → c ≡ d → ⊥)
+    → cellAt (setCell b r c v) w d ≡ cellAt b w d
 unfolding cellAt
 cell-set-other b r c v w d h l ne = rw (shape-set b r c v) kept
   where
     kept : numberAt (setCell b r c v) (cellPlace (shapeOf b) w d) (shapeOf b .width) ≡ numberAt b (cellPlace (shapeOf b) w d) (shapeOf b .width)
     kept =
         unfold setCell in
-        numberAt-set-other b (cellPlace (shapeOf b) r c) (shapeOf b .width) v (cellPlace (shapeOf b) w d) (shapeOf b .width) (place-apart (shapeOf b) r c w d h l ne)
+        numberAt-set-other b (cellPlace (shapeOf b) r c) (shapeOf b .width) v (cellPlace (shapeOf b) w d) (shapeOf b .width)
+        (place-apart (shapeOf b) r c w d h l ne)
 
 -- both in one: every cell of the record after a store
-pub cell-set : (b : List ℕ) (r c v w d : ℕ) → Shaped b → r < shapeOf b .n → c < columns (shapeOf b) → v < 2 ^ bitsOf (shapeOf b) → d < columns (shapeOf b) → cellAt (setCell b r c v) w d ≡ cond (eqb d c && eqb w r) v (cellAt b w d)
+pub cell-set : (b : List ℕ) (r c v w d : ℕ) → Shaped b → r < shapeOf b .n → c < columns (shapeOf b) → v < 2 ^ bitsOf (shapeOf b)
+    → d < columns (shapeOf b) → cellAt (setCell b r c v) w d ≡ cond (eqb d c && eqb w r) v (cellAt b w d)
 cell-set b r c v w d s h l k m = ⊎-elim here other (way (eqb d c && eqb w r))
   where
     here : (eqb d c && eqb w r) ≡ true → cellAt (setCell b r c v) w d ≡ cond (eqb d c && eqb w r) v (cellAt b w d)

@@ -43,7 +43,8 @@ untouched : (a b : ℕ) (t on old : Bool) → (a ≡ b → ⊥) → old ≡ cond
 untouched a b t on old ne = rw (ne-eqb a b ne) refl
 
 -- the bits of a state with one bit put, and with cells cleared
-pub has-put : (y : Right) (r : ℕ) (c : Name) (on : Bool) (S : State) (z : Right) (w : ℕ) (x : Name) → has (put y r c on S) z w x ≡ cond (eqb (codeOf z) (codeOf y) && isCell r c w x) on (has S z w x)
+pub has-put : (y : Right) (r : ℕ) (c : Name) (on : Bool) (S : State) (z : Right) (w : ℕ) (x : Name)
+    → has (put y r c on S) z w x ≡ cond (eqb (codeOf z) (codeOf y) && isCell r c w x) on (has S z w x)
 has-put Own r c on S Own w x = refl
 has-put Own r c on S Control w x = refl
 has-put Own r c on S (Basic j g) w x = untouched (codeOf (Basic j g)) 0 (isCell r c w x) on (S .basic j g w x) (omega (arith, codeOf-above j g))
@@ -54,7 +55,8 @@ has-put (Basic k f) r c on S Own w x = untouched 0 (codeOf (Basic k f)) (isCell 
 has-put (Basic k f) r c on S Control w x = untouched 1 (codeOf (Basic k f)) (isCell r c w x) on (S .controls w x) (omega (arith, codeOf-above k f))
 has-put (Basic k f) r c on S (Basic j g) w x = rw (codeOf-basic j g k f) (both (eqb j k && sameForm g f))
   where
-    both : (t : Bool) → cond t (cond (isCell r c w x) on (S .basic j g w x)) (S .basic j g w x) ≡ cond (t && isCell r c w x) on (S .basic j g w x)
+    both : (t : Bool)
+        → cond t (cond (isCell r c w x) on (S .basic j g w x)) (S .basic j g w x) ≡ cond (t && isCell r c w x) on (S .basic j g w x)
     both true = refl
     both false = refl
 
@@ -63,7 +65,8 @@ top-put Own r c on S = refl
 top-put Control r c on S = refl
 top-put (Basic k f) r c on S = refl
 
-pub has-clear : (gone : ℕ → Name → Bool) (S : State) (z : Right) (w : ℕ) (x : Name) → has (clear gone S) z w x ≡ cond (gone w x) false (has S z w x)
+pub has-clear : (gone : ℕ → Name → Bool) (S : State) (z : Right) (w : ℕ) (x : Name)
+    → has (clear gone S) z w x ≡ cond (gone w x) false (has S z w x)
 has-clear gone S Own w x = refl
 has-clear gone S Control w x = refl
 has-clear gone S (Basic j g) w x = refl

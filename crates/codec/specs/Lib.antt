@@ -4,3 +4,7 @@ pub mod Numbers
 pub mod Cells
 pub mod Columns
 pub mod Update
+pub mod Blocks
+pub mod ShapeRight
+pub mod Written
+pub mod RoundTrip

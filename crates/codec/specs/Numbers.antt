@@ -19,7 +19,8 @@ use Rattle.laws.specs.Tests.{way}
 use Rattle.laws.specs.Bounded.{below-suc}
 
 -- a number is what stands at its places
-pub numberAt-agree : (a b : List ℕ) (at to w : ℕ) → ((j : ℕ) → j < w → getD a (at + j) 0 ≡ getD b (to + j) 0) → numberAt a at w ≡ numberAt b to w
+pub numberAt-agree : (a b : List ℕ) (at to w : ℕ) → ((j : ℕ) → j < w → getD a (at + j) 0 ≡ getD b (to + j) 0)
+    → numberAt a at w ≡ numberAt b to w
 unfolding numberAt
 numberAt-agree a b at to zero h = refl
 numberAt-agree a b at to (suc w) h =
@@ -41,7 +42,8 @@ getD-setNumber-other b at (suc w) v i h =
     ∙ getD-setNumber-other b at w (v / 256) i (λ l u. h l (omega arith))
 
 -- a number that ends before the stored one begins, or begins after it ends
-pub numberAt-set-other : (b : List ℕ) (at w v to u : ℕ) → (at < to + u → to < at + w → ⊥) → numberAt (setNumber b at w v) to u ≡ numberAt b to u
+pub numberAt-set-other : (b : List ℕ) (at w v to u : ℕ) → (at < to + u → to < at + w → ⊥)
+    → numberAt (setNumber b at w v) to u ≡ numberAt b to u
 numberAt-set-other b at w v to u h =
     numberAt-agree (setNumber b at w v) b to to u (λ j l. getD-setNumber-other b at w v (to + j) (λ p q. h (omega arith) (omega arith)))
 
@@ -65,13 +67,14 @@ numberAt-set-same b at (suc w) v h l =
 
 -- ---- bytes stay bytes
 
-octets-set : (b : List ℕ) (i v : ℕ) → v < 256 → Octets b → Octets (set b i v)
-octets-set b i v h o = record { octet = λ j. each j }
+octets-set-byte : (b : List ℕ) (i v : ℕ) → v < 256 → Octets b → Octets (set b i v)
+octets-set-byte b i v h o = record { octet = λ j. each j }
   where
     here : getD (set b i v) i 0 < 256
     here =
         ⊎-elim (λ (l : ltb i (length b) ≡ true). subst (λ (x : ℕ). x < 256) (sym (getD-set-same b i v 0 (ltb-true i (length b) l))) h)
-        (λ (l : ltb i (length b) ≡ false). subst (λ (c : List ℕ). getD c i 0 < 256) (sym (set-out b i v (ltb-false i (length b) l))) (o .octet i)) (way (ltb i (length b)))
+        (λ (l : ltb i (length b) ≡ false). subst (λ (c : List ℕ). getD c i 0 < 256) (sym (set-out b i v (ltb-false i (length b) l))) (o .octet i))
+        (way (ltb i (length b)))
 
     each : (j : ℕ) → getD (set b i v) j 0 < 256
     each j =
@@ -81,7 +84,8 @@ octets-set b i v h o = record { octet = λ j. each j }
 pub octets-setNumber : (b : List ℕ) (at w v : ℕ) → Octets b → Octets (setNumber b at w v)
 unfolding setNumber
 octets-setNumber b at zero v o = o
-octets-setNumber b at (suc w) v o = octets-set (setNumber b at w (v / 256)) (at + w) (v % 256) (mod-lt v (omega arith)) (octets-setNumber b at w (v / 256) o)
+octets-setNumber b at (suc w) v o =
+    octets-set-byte (setNumber b at w (v / 256)) (at + w) (v % 256) (mod-lt v (omega arith)) (octets-setNumber b at w (v / 256) o)
 
 pub numberAt-below : (b : List ℕ) (at w : ℕ) → Octets b → numberAt b at w < 256 ^ w
 unfolding numberAt
@@ -100,13 +104,16 @@ pow-bytes (suc w) =
 pub length-bytesOfNumber : (w v : ℕ) → length (bytesOfNumber w v) ≡ w
 unfolding bytesOfNumber
 length-bytesOfNumber zero v = refl
-length-bytesOfNumber (suc w) v = length-append (bytesOfNumber w (v / 256)) (v % 256 ∷ []) ∙ (let e : length (bytesOfNumber w (v / 256)) ≡ w = length-bytesOfNumber w (v / 256) in omega arith)
+length-bytesOfNumber (suc w) v =
+    let e : length (bytesOfNumber w (v / 256)) ≡ w = length-bytesOfNumber w (v / 256) in
+    length-append (bytesOfNumber w (v / 256)) (v % 256 ∷ []) ∙ (omega arith)
 
 -- in a list they are read as the number
 pub numberAt-bytes : (xs : List ℕ) (w v : ℕ) (ys : List ℕ) → v < 256 ^ w → numberAt (xs ++ bytesOfNumber w v ++ ys) (length xs) w ≡ v
 unfolding bytesOfNumber numberAt
 numberAt-bytes xs zero v ys l = omega arith
-numberAt-bytes xs (suc w) v ys l = rw whole (ap₂ (λ (x y : ℕ). x * 256 + y) (numberAt-bytes xs w (v / 256) (v % 256 ∷ ys) below) last ∙ div-add-mod' v 256)
+numberAt-bytes xs (suc w) v ys l =
+    rw whole (ap₂ (λ (x y : ℕ). x * 256 + y) (numberAt-bytes xs w (v / 256) (v % 256 ∷ ys) below) last ∙ div-add-mod' v 256)
   where
     whole : xs ++ (bytesOfNumber w (v / 256) ++ (v % 256 ∷ [])) ++ ys ≡ xs ++ bytesOfNumber w (v / 256) ++ (v % 256 ∷ ys)
     whole = simp append-assoc
@@ -159,11 +166,13 @@ getD-bytesOfNumber (suc w) v j h = ⊎-elim (λ l. earlier l (getD-bytesOfNumber
     long : length front ≡ w
     long = length-bytesOfNumber w (v / 256)
 
-    earlier : j < w → getD front j 0 ≡ v / 256 / 256 ^ (w - suc j) % 256 → getD (front ++ (v % 256 ∷ [])) j 0 ≡ v / 256 ^ (suc w - suc j) % 256
+    earlier : j < w → getD front j 0 ≡ v / 256 / 256 ^ (w - suc j) % 256
+        → getD (front ++ (v % 256 ∷ [])) j 0 ≡ v / 256 ^ (suc w - suc j) % 256
     earlier l e =
         let q : suc w - suc j ≡ suc (w - suc j) = omega arith in
         List·getD-append front (v % 256 ∷ []) 0 j (rw long l) ∙ e
-        ∙ ap (λ (d : ℕ). d % 256) (div-div-eq-div-mul v 256 (256 ^ (w - suc j)) ∙ ap (λ (d : ℕ). v / d) (sym (pow-succ' 256 (w - suc j)) ∙ ap (λ (k : ℕ). 256 ^ k) (sym q)))
+        ∙ ap (λ (d : ℕ). d % 256)
+        (div-div-eq-div-mul v 256 (256 ^ (w - suc j)) ∙ ap (λ (d : ℕ). v / d) (sym (pow-succ' 256 (w - suc j)) ∙ ap (λ (k : ℕ). 256 ^ k) (sym q)))
 
     last : j ≡ w → getD (front ++ (v % 256 ∷ [])) j 0 ≡ v / 256 ^ (suc w - suc j) % 256
     last q =

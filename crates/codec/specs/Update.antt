@@ -69,10 +69,13 @@ module _ (b : List ℕ) (r c : ℕ) (row : r < shapeOf b .n) (column : c < colum
   bitAt-bounded j o = ⊎-elim (λ h. bitAt-cell j (ltb-true j (bitsOf (shapeOf b)) h)) beyond (way (ltb j (bitsOf (shapeOf b))))
     where
       beyond : ltb j (bitsOf (shapeOf b)) ≡ false → bitAt b j r (nameOf (shapeOf b .n) c) ≡ bit j (cellAt b r c)
-      beyond h = none-beyond b j r (nameOf (shapeOf b .n) c) h ∙ sym (bit-beyond (bitsOf (shapeOf b)) j (cellAt b r c) o (ltb-false j (bitsOf (shapeOf b)) h))
+      beyond h =
+          none-beyond b j r (nameOf (shapeOf b .n) c) h
+          ∙ sym (bit-beyond (bitsOf (shapeOf b)) j (cellAt b r c) o (ltb-false j (bitsOf (shapeOf b)) h))
 
 -- the bits that are read of a stored cell
-bitAt-stored : (b : List ℕ) (r c v j : ℕ) → Shaped b → r < shapeOf b .n → c < columns (shapeOf b) → v < 2 ^ bitsOf (shapeOf b) → bitAt (setCell b r c v) j r (nameOf (shapeOf b .n) c) ≡ bit j v
+bitAt-stored : (b : List ℕ) (r c v j : ℕ) → Shaped b → r < shapeOf b .n → c < columns (shapeOf b) → v < 2 ^ bitsOf (shapeOf b)
+    → bitAt (setCell b r c v) j r (nameOf (shapeOf b .n) c) ≡ bit j v
 bitAt-stored b r c v j s row column below =
     ap (λ (f : Shape). bitAt (setCell b r c v) j r (nameOf (f .n) c)) (sym e)
     ∙ bitAt-bounded (setCell b r c v) r c (rw e row) (rw e column) j (rw (e, same) below) ∙ ap (bit j) same
@@ -84,7 +87,8 @@ bitAt-stored b r c v j s row column below =
     same = cell-set-same b r c v s row column below
 
 -- every bit that is read after a cell is stored: the stored number's in that cell, the old one elsewhere
-pub bitAt-set : (b : List ℕ) (r c v j w : ℕ) (x : Name) → Shaped b → r < shapeOf b .n → c < columns (shapeOf b) → v < 2 ^ bitsOf (shapeOf b) → bitAt (setCell b r c v) j w x ≡ cond (isCell r (nameOf (shapeOf b .n) c) w x) (bit j v) (bitAt b j w x)
+pub bitAt-set : (b : List ℕ) (r c v j w : ℕ) (x : Name) → Shaped b → r < shapeOf b .n → c < columns (shapeOf b)
+    → v < 2 ^ bitsOf (shapeOf b) → bitAt (setCell b r c v) j w x ≡ cond (isCell r (nameOf (shapeOf b .n) c) w x) (bit j v) (bitAt b j w x)
 unfolding bitAt
 bitAt-set b r c v j w x s row column below = ⊎-elim here other (way (isCell r (nameOf (shapeOf b .n) c) w x))
   where
@@ -113,7 +117,9 @@ bitAt-set b r c v j w x s row column below = ⊎-elim here other (way (isCell r 
 
 -- ---- the state
 
-pub has-set : (b : List ℕ) (r c v : ℕ) (y : Right) (w : ℕ) (x : Name) → Shaped b → r < shapeOf b .n → c < columns (shapeOf b) → v < 2 ^ bitsOf (shapeOf b) → has (stateOf (setCell b r c v)) y w x ≡ cond (isCell r (nameOf (shapeOf b .n) c) w x) (bit (codeOf y) v) (has (stateOf b) y w x)
+pub has-set : (b : List ℕ) (r c v : ℕ) (y : Right) (w : ℕ) (x : Name) → Shaped b → r < shapeOf b .n → c < columns (shapeOf b)
+    → v < 2 ^ bitsOf (shapeOf b)
+    → has (stateOf (setCell b r c v)) y w x ≡ cond (isCell r (nameOf (shapeOf b .n) c) w x) (bit (codeOf y) v) (has (stateOf b) y w x)
 has-set b r c v y w x s row column below =
     has-state (setCell b r c v) y w x ∙ bitAt-set b r c v (codeOf y) w x s row column below
     ∙ ap (cond (isCell r (nameOf (shapeOf b .n) c) w x) (bit (codeOf y) v)) (sym (has-state b y w x))
@@ -129,8 +135,11 @@ one-bit true false on a old new h k = h ∙ sym (k refl)
 one-bit false true on a old new h k = refl
 one-bit false false on a old new h k = refl
 
-pub state-put : (b : List ℕ) (r c : ℕ) (y : Right) (on : Bool) → Shaped b → Octets b → r < shapeOf b .n → c < columns (shapeOf b) → codeOf y < bitsOf (shapeOf b) → stateOf (setCell b r c (withBit (codeOf y) on (cellAt b r c))) ≡ put y r (nameOf (shapeOf b .n) c) on (stateOf b)
-state-put b r c y on s o row column room = same-state (stateOf (setCell b r c v)) (put y r name on (stateOf b)) (top-set b r c v ∙ sym (top-put y r name on (stateOf b))) each
+pub state-put : (b : List ℕ) (r c : ℕ) (y : Right) (on : Bool) → Shaped b → Octets b → r < shapeOf b .n → c < columns (shapeOf b)
+    → codeOf y < bitsOf (shapeOf b)
+    → stateOf (setCell b r c (withBit (codeOf y) on (cellAt b r c))) ≡ put y r (nameOf (shapeOf b .n) c) on (stateOf b)
+state-put b r c y on s o row column room =
+    same-state (stateOf (setCell b r c v)) (put y r name on (stateOf b)) (top-set b r c v ∙ sym (top-put y r name on (stateOf b))) each
   where
     name : Name
     name = nameOf (shapeOf b .n) c
@@ -154,7 +163,8 @@ state-put b r c y on s o row column room = same-state (stateOf (setCell b r c v)
         (bit-withBit (codeOf z) (codeOf y) on (cellAt b r c)) (old z w x)
         ∙ sym (has-put y r name on (stateOf b) z w x)
 
-pub state-clear : (b : List ℕ) (r c : ℕ) → Shaped b → r < shapeOf b .n → c < columns (shapeOf b) → stateOf (setCell b r c 0) ≡ clear (λ w x. isCell r (nameOf (shapeOf b .n) c) w x) (stateOf b)
+pub state-clear : (b : List ℕ) (r c : ℕ) → Shaped b → r < shapeOf b .n → c < columns (shapeOf b)
+    → stateOf (setCell b r c 0) ≡ clear (λ w x. isCell r (nameOf (shapeOf b .n) c) w x) (stateOf b)
 state-clear b r c s row column =
     same-state (stateOf (setCell b r c 0)) (clear (λ w x. isCell r (nameOf (shapeOf b .n) c) w x) (stateOf b)) (top-set b r c 0)
     (λ y w x. has-set b r c 0 y w x s row column (pow-pos (bitsOf (shapeOf b)))
