@@ -32,9 +32,9 @@ two-rows act first code k l u e g h =
     ∙ ⊎-elim
     (λ (t : eqb code first ≡ true). ap (λ (b : Bool). Known (basicRule act k (cond b Plain Starred))) t ∙ one-row first code k (eqb-true code first t) g)
     (λ (t : eqb code first ≡ false).
-      let ne : code ≡ first → ⊥ = eqb-false code first t in
-      let q : code ≡ first + 1 = omega arith in
-      ap (λ (b : Bool). Known (basicRule act k (cond b Plain Starred))) t ∙ one-row (first + 1) code k q h)
+    let ne : code ≡ first → ⊥ = eqb-false code first t in
+    let q : code ≡ first + 1 = omega arith in
+    ap (λ (b : Bool). Known (basicRule act k (cond b Plain Starred))) t ∙ one-row (first + 1) code k q h)
     (way (eqb code first))
 
 -- no code

@@ -1,7 +1,13 @@
 // Decoding of a command: its code's row of the table, and the tests 6 and 7.
 
-use matrix::{Act, Command, Fields, Form, Kind, Name, Right, Rule};
-
+use matrix::Act;
+use matrix::Command;
+use matrix::Fields;
+use matrix::Form;
+use matrix::Kind;
+use matrix::Name;
+use matrix::Right;
+use matrix::Rule;
 ghost use mathlib.Core.Path.{_≡_};
 ghost use mathlib.Core.Bool.{_||_, cond};
 ghost use Prim.Native.Nat.{_≤_};
@@ -126,4 +132,90 @@ fn rule_of(code: usize, k: usize) -> Ruled
         10..=13 => name_rule(code, k),
         _ => Ruled::Unknown,
     }
+}
+
+// Whether a command's names are the record's.
+fn names_fit(n: usize, p: usize, c: Fields) -> bool
+    requires { ⌜ (n ≤ mostSubjects) × (p ≤ mostPlain) ⌝ }
+    ensures { λ t. ⌜ t ≡ withinNames n p c ⌝ }
+{
+    if n <= c.i {
+        return false;
+    }
+    if n <= c.s {
+        return false;
+    }
+    c.o < n + p
+}
+
+// Whether a field is used or 0.
+fn used_or_zero(used: bool, v: usize) -> bool
+    ensures { λ t. ⌜ t ≡ (used || eqb v 0) ⌝ }
+{
+    if used {
+        return true;
+    }
+    v == 0
+}
+
+// Whether the number of the basic right is in range where it is used, and else 0.
+fn basic_fits(used: bool, k: usize) -> bool
+    ensures { λ t. ⌜ t ≡ basicFits used k ⌝ }
+{
+    if used {
+        return k < 7;
+    }
+    k == 0
+}
+
+// Whether the fields are what the rule uses.
+fn fields_fit(r: Rule, c: Fields) -> bool
+    ensures { λ t. ⌜ t ≡ fieldsFit 7 r (c .s) (c .o) (c .k) ⌝ }
+{
+    if !used_or_zero(r.s, c.s) {
+        return false;
+    }
+    if !used_or_zero(r.o, c.o) {
+        return false;
+    }
+    basic_fits(r.k, c.k)
+}
+
+// The name of column o.
+fn name_of(n: usize, o: usize) -> Name
+    ensures { λ x. ⌜ x ≡ nameOf n o ⌝ }
+{
+    if o < n {
+        return Name::Subject(o);
+    }
+    Name::Plain(o)
+}
+
+// A command decoded for a record of n subject names and p plain names.
+pub fn decode(n: usize, p: usize, c: Fields) -> Decoded
+    requires { ⌜ (n ≤ mostSubjects) × (p ≤ mostPlain) ⌝ }
+    ensures { λ r. ⌜ r ≡ decodedOf n p c ⌝ }
+{
+    let ruled = rule_of(c.code, c.k);
+    let Ruled::Known(r) = ruled else {
+        return Decoded::Refused(6);
+    };
+    if !names_fit(n, p, c) {
+        return Decoded::Refused(7);
+    }
+    if !fields_fit(r, c) {
+        return Decoded::Refused(7);
+    }
+    let act = r.act;
+    let kind = r.kind;
+    let o = name_of(n, c.o);
+    Decoded::Ready(
+        Command {
+            i: c.i,
+            s: c.s,
+            o,
+            act,
+        },
+        kind,
+    )
 }
