@@ -1,0 +1,1 @@
+// The change that an accepted command makes in the bytes of a record.
