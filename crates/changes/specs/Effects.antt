@@ -1,17 +1,19 @@
 -- Changes made of several parts: a subject created, and a subject destroyed.
 use Prim.Native.Nat.{ℕ, suc, max, _<_}
 use native.Mathlib.Omega.{arith}
-use mathlib.Core.Path.{_≡_, refl, sym, _∙_, ap}
-use mathlib.Core.Bool.{Bool, true, false, cond, _&&_, _||_}
+use mathlib.Core.Path.{_≡_, ap}
+use mathlib.Core.Bool.{true}
 use mathlib.Core.List.{List}
-use Rattle.matrix.specs.declared.Name.{Name}
+use lib.Dec.{ltb}
+use borrow.Author.Tests.{lt-ltb}
 use Rattle.matrix.specs.declared.Name.the-variants.{Subject}
 use Rattle.matrix.specs.declared.Right.the-variants.{Own, Control}
-use Rattle.matrix.specs.State.{State, put, clear}
+use Rattle.matrix.specs.Names.{nameOf}
+use Rattle.matrix.specs.State.{put, clear}
 use Rattle.matrix.specs.Reading.{stateOf}
 use Rattle.matrix.specs.Changes.{admit, inherit, inColumn, inCross}
 use Rattle.states.specs.Reads.{top-is}
-use Rattle.cells.specs.Station.{Station, Cell}
+use Rattle.cells.specs.Station.{Station}
 use Rattle.changes.specs.Became.{Became}
 use Rattle.changes.specs.Passed.{inRow}
 use Rattle.changes.specs.Steps.{became-then, became-as}
@@ -23,3 +25,21 @@ admitted {b} {n} {p} s h l = ap (λ (m : ℕ). record { top = m; owns = stateOf 
   where
     room : stateOf b .top ≡ max (stateOf b .top) (suc s)
     room = let e : stateOf b .top ≡ n = top-is b n p h in omega arith
+
+pub created : {b b′ b″ : List ℕ} {n p : ℕ} (i s : ℕ) → Station b n p → s < n → Became b b′ (put Own i (Subject s) true (stateOf b))
+    → Became b′ b″ (put Control s (Subject s) true (stateOf b′))
+    → Became b b″ (put Control s (Subject s) true (put Own i (Subject s) true (admit s (stateOf b))))
+created i s h l f g =
+    became-then (put Control s (Subject s) true) (became-as f (ap (put Own i (Subject s) true) (admitted s h l))) g
+
+-- a subject's column by its number
+subject-column : {b b′ : List ℕ} (n s : ℕ) → s < n → Became b b′ (clear (inColumn (nameOf n s)) (stateOf b))
+    → Became b b′ (clear (inColumn (Subject s)) (stateOf b))
+subject-column {b} n s l h = let e : ltb s n ≡ true = lt-ltb s n l in rw e at h
+
+pub destroyed : {b b′ b″ b‴ : List ℕ} (n i s : ℕ) → s < n → Became b b′ (inherit i s (stateOf b))
+    → Became b′ b″ (clear (inColumn (nameOf n s)) (stateOf b′)) → Became b″ b‴ (clear (inRow s) (stateOf b″))
+    → Became b b‴ (clear (inCross s) (inherit i s (stateOf b)))
+destroyed {b} n i s l f g h =
+    became-as (became-then (clear (inRow s)) (became-then (clear (inColumn (Subject s))) f (subject-column n s l g)) h)
+    (clear-clear (inColumn (Subject s)) (inRow s) (inherit i s (stateOf b)))

@@ -114,7 +114,9 @@ module _ {b₀ : List ℕ} {n p : ℕ} (i s : ℕ) where
       → t ≡ bit 0 v → t ≡ false → Became b₀ b (inheritPart n i s (c + 1) (stateOf b₀))
   inherit-miss {c = c} h l e g y = became-as h (part-miss n i s (stateOf b₀) c (owns-read h l e g ∙ y))
 
-  pub inherit-all : {b : List ℕ} → Station b₀ n p → Became b₀ b (inheritPart n i s (n + p) (stateOf b₀)) → Became b₀ b (inherit i s (stateOf b₀))
-  inherit-all h k =
+  pub inherit-all : {b : List ℕ} {c : ℕ} → Station b₀ n p → c ≡ n + p → Became b₀ b (inheritPart n i s c (stateOf b₀))
+      → Became b₀ b (inherit i s (stateOf b₀))
+  inherit-all h e k =
       became-as k
-      (part-all n i s (stateOf b₀) p (λ x e. rw (h .subjects, h .plains) (within-read b₀ .column Own s x e)))
+      (ap (λ (m : ℕ). inheritPart n i s m (stateOf b₀)) e
+      ∙ part-all n i s (stateOf b₀) p (λ x g. rw (h .subjects, h .plains) (within-read b₀ .column Own s x g)))

@@ -123,11 +123,11 @@ module _ {b₀ : List ℕ} {n p : ℕ} (c : ℕ) where
       by false true false = refl
       by false false false = refl
 
-  pub column-all : {b : List ℕ} → Station b₀ n p → Became b₀ b (clear (columnPart n c n) (stateOf b₀))
+  pub column-all : {b : List ℕ} {r : ℕ} → Station b₀ n p → r ≡ n → Became b₀ b (clear (columnPart n c r) (stateOf b₀))
       → Became b₀ b (clear (inColumn (nameOf n c)) (stateOf b₀))
-  column-all s h =
-      cleared-all (columnPart n c n) (inColumn (nameOf n c)) s h
-      (λ w x l k. ap (λ (t : Bool). t && sameName x (nameOf n c)) (rows-all n w l))
+  column-all {r = r} s e h =
+      cleared-all (columnPart n c r) (inColumn (nameOf n c)) s h
+      (λ w x l k. ap (λ (t : Bool). t && sameName x (nameOf n c)) (ap (λ (m : ℕ). firstRows m w) e ∙ rows-all n w l))
 
 -- a row, from column 0 on
 module _ {b₀ : List ℕ} {n p : ℕ} (r : ℕ) where
@@ -153,11 +153,11 @@ module _ {b₀ : List ℕ} {n p : ℕ} (r : ℕ) where
       by false u true = refl
       by false u false = refl
 
-  pub row-all : {b : List ℕ} → Station b₀ n p → Became b₀ b (clear (rowPart n r (n + p)) (stateOf b₀))
+  pub row-all : {b : List ℕ} {c : ℕ} → Station b₀ n p → c ≡ n + p → Became b₀ b (clear (rowPart n r c) (stateOf b₀))
       → Became b₀ b (clear (inRow r) (stateOf b₀))
-  row-all s h =
-      cleared-all (rowPart n r (n + p)) (inRow r) s h
-      (λ w x l k. ap (λ (t : Bool). eqb w r && t) (columns-all n p x k) ∙ by (eqb w r))
+  row-all {c = c} s e h =
+      cleared-all (rowPart n r c) (inRow r) s h
+      (λ w x l k. ap (λ (t : Bool). eqb w r && t) (ap (λ (m : ℕ). firstColumns n m x) e ∙ columns-all n p x k) ∙ by (eqb w r))
     where
       by : (t : Bool) → (t && true) ≡ t
       by true = refl

@@ -1,14 +1,15 @@
 -- Laws of changes: they follow one another, and one stored cell is a bit put or a cell cleared.
 use Prim.Native.Nat.{ℕ, _+_, _<_}
-use mathlib.Core.Path.{_≡_, refl, sym, _∙_, ap, subst}
+use mathlib.Core.Path.{_≡_, refl, sym, _∙_, ap, ap₂, subst}
 use mathlib.Core.Bool.{Bool}
 use mathlib.Core.List.{List}
+use lib.ListN.{length}
 use Rattle.matrix.specs.declared.Name.{Name}
 use Rattle.matrix.specs.declared.Right.{Right}
 use Rattle.matrix.specs.Names.{nameOf, columnOf}
 use Rattle.matrix.specs.Rights.{codeOf}
 use Rattle.matrix.specs.State.{State, isCell, put, clear}
-use Rattle.matrix.specs.Shape.{Shape, shapeOf, bitsOf, columns}
+use Rattle.matrix.specs.Shape.{Shape, shapeOf, bitsOf, columns, sizeOf}
 use Rattle.matrix.specs.Reading.{cellAt, setCell, stateOf}
 use Rattle.codec.specs.Bits.{withBit}
 use Rattle.codec.specs.Cells.{shape-set, shaped-set, octets-set}
@@ -42,6 +43,12 @@ station-after s h =
       plains = s .plains ∙ ap (λ (f : Shape). f .p) (sym (h .shape));
     }
 
+pub length-after : {b b′ : List ℕ} {n p : ℕ} {S : State} → Station b n p → Became b b′ S → length b′ ≡ length b
+length-after s h = h .shaped .size ∙ ap sizeOf (h .shape) ∙ sym (s .shaped .size)
+
+pub cell-after : {b b′ : List ℕ} {n p r c : ℕ} {S : State} → Station b n p → Became b b′ S → r < n → c < n + p → Cell b′ n p r c
+cell-after s h row column = record { station = station-after s h; row = row; column = column }
+
 -- a cell's row and column are those of the shape
 pub cell-row : {b : List ℕ} {n p r c : ℕ} → Cell b n p r c → r < shapeOf b .n
 cell-row {r = r} h = subst (λ (m : ℕ). r < m) (h .station .subjects) (h .row)
@@ -59,16 +66,17 @@ became-set {b} {r = r} {c = c} v h e g =
       state = ap stateOf e ∙ g;
     }
 
--- one bit of it is set or cleared
-pub became-put : {b b′ : List ℕ} {n p w c : ℕ} (y : Right) (on : Bool) → Cell b n p w c → basicOf y < 7
-    → b′ ≡ setCell b w c (withBit (codeOf y) on (cellAt b w c)) → Became b b′ (put y w (nameOf n c) on (stateOf b))
-became-put {b} {w = w} {c = c} y on h l e =
-    became-set (withBit (codeOf y) on (cellAt b w c)) h e
-    (state-put b w c y on (h .station .shaped) (h .station .octets) (cell-row h) (cell-column h) (room y l)
+-- One bit of it is set or cleared: u is the number v of the cell, with the bit of the right's code j set or cleared.
+pub became-put : {b b′ : List ℕ} {n p w c j v u : ℕ} (y : Right) (on : Bool) → Cell b n p w c → basicOf y < 7 → j ≡ codeOf y → v ≡ cellAt b w c
+    → u ≡ withBit j on v → b′ ≡ setCell b w c u → Became b b′ (put y w (nameOf n c) on (stateOf b))
+became-put {b} {w = w} {c = c} y on h l e f g k =
+    became-set (withBit (codeOf y) on (cellAt b w c)) h
+    (k ∙ ap (setCell b w c) (g ∙ ap₂ (λ (i m : ℕ). withBit i on m) e f))
+    (state-put b w c y on (h .station .shaped) (h .station .octets) (cell-row h) (cell-column h) room
     ∙ ap (λ (m : ℕ). put y w (nameOf m c) on (stateOf b)) (sym (h .station .subjects)))
   where
-    room : (y : Right) → basicOf y < 7 → codeOf y < bitsOf (shapeOf b)
-    room y l = unfold shapeOf in code-small y l
+    room : codeOf y < bitsOf (shapeOf b)
+    room = unfold shapeOf in code-small y l
 
 -- it becomes 0
 pub became-clear : {b b′ : List ℕ} {n p r c : ℕ} → Cell b n p r c → b′ ≡ setCell b r c 0
