@@ -1,12 +1,12 @@
 -- Laws of changes: they follow one another, and one stored cell is a bit put or a cell cleared.
 use Prim.Native.Nat.{ℕ, _+_, _<_}
 use mathlib.Core.Path.{_≡_, refl, sym, _∙_, ap, ap₂, subst}
-use mathlib.Core.Bool.{Bool}
+use mathlib.Core.Bool.{Bool, true}
 use mathlib.Core.List.{List}
 use lib.ListN.{length}
 use Rattle.matrix.specs.declared.Name.{Name}
 use Rattle.matrix.specs.declared.Right.{Right}
-use Rattle.matrix.specs.Names.{nameOf, columnOf}
+use Rattle.matrix.specs.Names.{nameOf, columnOf, named}
 use Rattle.matrix.specs.Rights.{codeOf}
 use Rattle.matrix.specs.State.{State, isCell, put, clear}
 use Rattle.matrix.specs.Shape.{Shape, shapeOf, bitsOf, columns, sizeOf}
@@ -33,6 +33,9 @@ became-then F h g =
 pub became-as : {b b′ : List ℕ} {S T : State} → Became b b′ S → S ≡ T → Became b b′ T
 became-as h e = record { shaped = h .shaped; octets = h .octets; shape = h .shape; state = h .state ∙ e }
 
+pub became-at : {b b′ b″ : List ℕ} {S : State} → b″ ≡ b′ → Became b b′ S → Became b b″ S
+became-at {b} {S = S} e h = subst (λ (l : List ℕ). Became b l S) (sym e) h
+
 -- n and p stay as they are
 pub station-after : {b b′ : List ℕ} {n p : ℕ} {S : State} → Station b n p → Became b b′ S → Station b′ n p
 station-after s h =
@@ -48,6 +51,10 @@ length-after s h = h .shaped .size ∙ ap sizeOf (h .shape) ∙ sym (s .shaped .
 
 pub cell-after : {b b′ : List ℕ} {n p r c : ℕ} {S : State} → Station b n p → Became b b′ S → r < n → c < n + p → Cell b′ n p r c
 cell-after s h row column = record { station = station-after s h; row = row; column = column }
+
+pub bit-after : {b b′ : List ℕ} {n p w : ℕ} {y : Right} {x : Name} {S : State} → Station b n p → Became b b′ S → basicOf y < 7 → w < n
+    → named n p x ≡ true → BitIn b′ n p y w x
+bit-after s h right row column = record { station = station-after s h; right = right; row = row; column = column }
 
 -- a cell's row and column are those of the shape
 pub cell-row : {b : List ℕ} {n p r c : ℕ} → Cell b n p r c → r < shapeOf b .n

@@ -73,3 +73,50 @@ fn clear_row(b: &mut [u8], n: usize, p: usize, r: usize)
         cells::store(b, n, p, r, c, 0);
     }
 }
+
+// Row i gains own over all that row s owns.
+fn inherit_own(b: &mut [u8], n: usize, p: usize, i: usize, s: usize)
+    requires { ⌜ Station (now b) n p × (i < n) × (s < n) ⌝ }
+    ensures { λ _. ⌜ Became (now (b .entry)) (now (b .exit)) (inherit i s (stateOf (now (b .entry)))) ⌝ }
+{
+    for c in 0..n + p {
+        if cells::bit_of(cells::cell(b, n, p, s, c), 0) {
+            put_in_column(b, n, p, Right::Own, i, c, true);
+        }
+    }
+}
+
+// Right y is transferred: own leaves i, any other right stays with it.
+fn transfer(b: &mut [u8], n: usize, p: usize, c: Command, y: Right)
+    requires { ⌜ CommandIn (now b) n p c × (basicOf y < 7) ⌝ }
+    ensures { λ _. ⌜ Became (now (b .entry)) (now (b .exit)) (change (stateOf (now (b .entry))) c (Act.Transfer y)) ⌝ }
+{
+    let o = c.o;
+    match y {
+        Right::Own => {
+            put_right(b, n, p, Right::Own, c.i, o, false);
+            put_right(b, n, p, Right::Own, c.s, o, true);
+        }
+        Right::Control => {}
+        Right::Basic(_, _) => put_right(b, n, p, y, c.s, o, true),
+    }
+}
+
+// Subject s is created by i, which owns it.
+fn create_subject(b: &mut [u8], n: usize, p: usize, c: Command)
+    requires { ⌜ CommandIn (now b) n p c ⌝ }
+    ensures { λ _. ⌜ Became (now (b .entry)) (now (b .exit)) (change (stateOf (now (b .entry))) c Act.CreateSubject) ⌝ }
+{
+    put_right(b, n, p, Right::Own, c.i, Name::Subject(c.s), true);
+    put_right(b, n, p, Right::Control, c.s, Name::Subject(c.s), true);
+}
+
+// Subject s is destroyed by i, which inherits what s owns.
+fn destroy_subject(b: &mut [u8], n: usize, p: usize, c: Command)
+    requires { ⌜ CommandIn (now b) n p c ⌝ }
+    ensures { λ _. ⌜ Became (now (b .entry)) (now (b .exit)) (change (stateOf (now (b .entry))) c Act.DestroySubject) ⌝ }
+{
+    inherit_own(b, n, p, c.i, c.s);
+    clear_column(b, n, p, c.s);
+    clear_row(b, n, p, c.s);
+}
