@@ -120,3 +120,21 @@ fn destroy_subject(b: &mut [u8], n: usize, p: usize, c: Command)
     clear_column(b, n, p, c.s);
     clear_row(b, n, p, c.s);
 }
+
+// The change that an accepted command makes.
+pub fn apply(b: &mut [u8], n: usize, p: usize, c: Command)
+    requires { ⌜ CommandIn (now b) n p c ⌝ }
+    ensures { λ _. ⌜ Became (now (b .entry)) (now (b .exit)) (change (stateOf (now (b .entry))) c (c .act)) ⌝ }
+{
+    let act = c.act;
+    let o = c.o;
+    match act {
+        Act::Transfer(y) => transfer(b, n, p, c, y),
+        Act::Grant(y) => put_right(b, n, p, y, c.s, o, true),
+        Act::Delete(y) => put_right(b, n, p, y, c.s, o, false),
+        Act::CreateObject => put_right(b, n, p, Right::Own, c.i, o, true),
+        Act::DestroyObject => clear_column(b, n, p, states::column_of(o)),
+        Act::CreateSubject => create_subject(b, n, p, c),
+        Act::DestroySubject => destroy_subject(b, n, p, c),
+    }
+}

@@ -1,3 +1,7 @@
+-- `changes::destroy_subject` meets its contract: what s owns is inherited before its column and its row are cleared.
+use native.Mathlib.Omega.{arith}
+use Rattle.changes.specs.Steps.{station-after}
+use Rattle.changes.specs.Effects.{destroyed}
 use borrow.Author.Needs.{needs}
 use Rattle.changes.proofs.destroy_subject.Statement.{statement}
 use Rattle.changes.proofs.destroy_subject.Tie as tie
@@ -7,25 +11,20 @@ use Rattle.changes.proofs.clear_column.Reads as clear-column-reads
 use Rattle.changes.proofs.clear_row.Reads as clear-row-reads
 use Rattle.changes.proofs.inherit_own.Reads as inherit-own-reads
 
--- src/lib.rt:119:5
 inherit-own-requires : tie.Need-inherit-own-requires
 inherit-own-requires c κs = search needs
 
--- src/lib.rt:120:5
 clear-column-requires : tie.Need-clear-column-requires
-clear-column-requires c κs = ?
+clear-column-requires c κs = (station-after (c .before .before .before .before .before .before .pre .station) (c .before .before .before .inherit-own .ensures), omega (arith, c .before .before .before .before .before .before .pre .subject))
 
--- src/lib.rt:121:5
 clear-row-requires : tie.Need-clear-row-requires
-clear-row-requires c κs = ?
+clear-row-requires c κs = (station-after (station-after (c .before .before .before .before .before .before .before .before .before .before .pre .station) (c .before .before .before .before .before .before .before .inherit-own .ensures)) (c .before .before .before .clear-column .ensures), c .before .before .before .before .before .before .before .before .before .before .pre .subject)
 
--- src/lib.rt:115:1
 same-length : tie.Need-same-length
 same-length c = search needs
 
--- src/lib.rt:115:1
 returns : tie.Need-returns
-returns c = ?
+returns c = destroyed (c .before .before .before .before .before .before .before .before .before .before .before .before .before .args .n) (c .before .before .before .before .before .before .before .before .before .before .before .before .before .args .c .i) (c .before .before .before .before .before .before .before .before .before .before .before .before .before .args .c .s) (c .before .before .before .before .before .before .before .before .before .before .before .before .before .pre .subject) (c .before .before .before .before .before .before .before .before .before .before .inherit-own .ensures) (c .before .before .before .before .before .before .clear-column .ensures) (c .before .before .clear-row .ensures)
 
 pub destroy-subject-spec : {M : Type 1} → statement M
 destroy-subject-spec =
