@@ -1,0 +1,10 @@
+pub mod Bits
+pub mod Codes
+pub mod Numbers
+pub mod Cells
+pub mod Columns
+pub mod Update
+pub mod Blocks
+pub mod ShapeRight
+pub mod Written
+pub mod RoundTrip
