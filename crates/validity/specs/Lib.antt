@@ -1,0 +1,5 @@
+pub mod Counts
+pub mod Followed
+pub mod Fast
+pub mod Sound
+pub mod Tested
