@@ -5,3 +5,5 @@ pub mod Sound
 pub mod Tested
 pub mod Cells
 pub mod Valid
+pub mod Checks
+pub mod Loops

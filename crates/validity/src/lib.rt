@@ -1,1 +1,116 @@
 // Whether a record is turned down, and by which of the refusals 1 to 5.
+ghost use mathlib.Core.Path.{_≡_};
+ghost use mathlib.Core.Bool.{cond, not, _&&_};
+ghost use Prim.Native.Nat.{ℕ, _+_, _*_, _≤_, _<_};
+ghost use lib.Dec.{eqb, leb};
+ghost use lib.ListN.{length, getD};
+ghost use Rattle.matrix.specs.Bounded.{all};
+ghost use Rattle.matrix.specs.Bytes.{bit};
+ghost use Rattle.lanes.specs.Lists.{Stored};
+ghost use Rattle.validity.specs.Checks.{zeroFrom, zeroColumn, subjectAt, subjectTest, plainTest, ownerIn, Follows, Inside};
+ghost use Rattle.validity.specs.Followed.{followed};
+
+// The m bytes from `at` on are all zero. All of them are looked at, so that the compiler may take many at once.
+fn zero_from(b: &[u8], at: usize, m: usize) -> bool
+    requires { ⌜ at + m ≤ length (now b) ⌝ }
+    ensures { λ r. ⌜ r ≡ zeroFrom (now (b .entry)) at m ⌝ }
+{
+    let mut any: u8 = 0;
+    for j in 0..m {
+        any = any | b[at + j];
+    }
+    any == 0
+}
+
+// U has no owner, and nobody else controls it.
+fn root_counts(own: u8, control: u8) -> bool
+    ensures { λ r. ⌜ r ≡ (eqb own 0 && eqb control 1) ⌝ }
+{
+    if own == 0 {
+        control == 1
+    } else {
+        false
+    }
+}
+
+// Any other subject has one owner, and at most one besides itself controls it.
+fn other_counts(own: u8, control: u8) -> bool
+    ensures { λ r. ⌜ r ≡ (eqb own 1 && leb control 2) ⌝ }
+{
+    if own == 1 {
+        control <= 2
+    } else {
+        false
+    }
+}
+
+// Nothing is seen in the two byte columns from j on.
+fn zero_column(seen: &[u8; 512], j: usize) -> bool
+    requires { ⌜ (j + 1 < 512) × (length (now seen) ≡ 512) ⌝ }
+    ensures { λ r. ⌜ r ≡ zeroColumn (now (seen .entry)) j ⌝ }
+{
+    if seen[j] == 0 {
+        seen[j + 1] == 0
+    } else {
+        false
+    }
+}
+
+// A plain column: owned and controlled by nobody, or zero.
+fn plain(seen: &[u8; 512], j: usize) -> bool
+    requires { ⌜ (j + 1 < 512) × (length (now seen) ≡ 512) ⌝ }
+    ensures { λ r. ⌜ r ≡ plainTest (now (seen .entry)) j ⌝ }
+{
+    let v = seen[j + 1];
+    if v % 2 == 1 {
+        (v >> 1) % 2 != 1
+    } else {
+        zero_column(seen, j)
+    }
+}
+
+// The p plain columns, after n columns of subjects.
+fn plains(seen: &[u8; 512], n: usize, p: usize) -> bool
+    requires { ⌜ (n + p ≤ 256) × (length (now seen) ≡ 512) ⌝ }
+    ensures { λ r. ⌜ r ≡ all p (λ i. plainTest (now (seen .entry)) (2 * (n + i))) ⌝ }
+{
+    for i in 0..p {
+        if !plain(seen, 2 * (n + i)) {
+            return false;
+        }
+    }
+    true
+}
+
+// A table of owners from the last row that owns each subject's low byte column.
+fn owners(t: &mut [u8; 64], last: &[u8; 128], n: usize)
+    requires { ⌜ (n ≤ 64) × (length (now t) ≡ 64) × (length (now last) ≡ 128) ⌝ }
+    ensures { λ _. ⌜ Stored n (ownerIn (now (last .entry))) (now (t .entry)) (now (t .exit)) ⌝ }
+{
+    for s in 0..n {
+        t[s] = last[2 * s + 1];
+    }
+}
+
+// A table that follows t twice.
+fn double(t: &[u8; 64], u: &mut [u8; 64], n: usize)
+    requires { ⌜ (n ≤ 64) × (length (now t) ≡ 64) × (length (now u) ≡ 64) × ((s : ℕ) → s < n → getD (now t) s 0 < n) ⌝ }
+    ensures { λ _. ⌜ Stored n (λ s. getD (now (t .entry)) (getD (now (t .entry)) s 0) 0) (now (u .entry)) (now (u .exit)) ⌝ }
+{
+    for s in 0..n {
+        u[s] = t[t[s] as usize];
+    }
+}
+
+// The first n entries are all U.
+fn all_root(t: &[u8; 64], n: usize) -> bool
+    requires { ⌜ (n ≤ 64) × (length (now t) ≡ 64) ⌝ }
+    ensures { λ r. ⌜ r ≡ all n (λ s. eqb (getD (now (t .entry)) s 0) 0) ⌝ }
+{
+    for s in 0..n {
+        if t[s] != 0 {
+            return false;
+        }
+    }
+    true
+}
