@@ -49,3 +49,10 @@ pub record Follows (n : ℕ) (f : ℕ → ℕ) (j : ℕ) (l : List ℕ) : Type 0
 -- every owner is a subject
 pub record Inside (n : ℕ) (f : ℕ → ℕ) : Type 0 where
   pub below : (s : ℕ) → s < n → f s < n
+
+-- subject s, whose row of m bytes begins at `at`
+pub record Placed (b seen : List ℕ) (s at m : ℕ) : Type 0 where
+  pub subject : s < 64
+  pub column : 2 * s + 1 < m
+  pub row : at + m ≤ length b
+  pub room : length seen ≡ 512

@@ -7,7 +7,8 @@ ghost use lib.ListN.{length, getD};
 ghost use Rattle.matrix.specs.Bounded.{all};
 ghost use Rattle.matrix.specs.Bytes.{bit};
 ghost use Rattle.lanes.specs.Lists.{Stored};
-ghost use Rattle.validity.specs.Checks.{zeroFrom, zeroColumn, subjectAt, subjectTest, plainTest, ownerIn, Follows, Inside};
+ghost use Rattle.lanes.specs.Lanes.{Matrix};
+ghost use Rattle.validity.specs.Checks.{zeroFrom, zeroColumn, subjectAt, subjectTest, plainTest, ownerIn, Inside, Placed};
 ghost use Rattle.validity.specs.Followed.{followed};
 
 // The m bytes from `at` on are all zero. All of them are looked at, so that the compiler may take many at once.
@@ -54,6 +55,53 @@ fn zero_column(seen: &[u8; 512], j: usize) -> bool
     } else {
         false
     }
+}
+
+// An absent subject is not U, and its column and row are zero.
+fn absent(b: &[u8], seen: &[u8; 512], s: usize, at: usize, m: usize) -> bool
+    requires { ⌜ Placed (now b) (now seen) s at m ⌝ }
+    ensures { λ r. ⌜ r ≡ (not (eqb s 0) && (zeroColumn (now (seen .entry)) (2 * s) && zeroFrom (now (b .entry)) at m)) ⌝ }
+{
+    if s == 0 {
+        return false;
+    }
+    if zero_column(seen, 2 * s) {
+        zero_from(b, at, m)
+    } else {
+        false
+    }
+}
+
+// Subject s, whose row begins at `at`: it exists if its own cell has control.
+fn subject(b: &[u8], seen: &[u8; 512], own: &[u8; 128], control: &[u8; 128], s: usize, at: usize, m: usize) -> bool
+    requires { ⌜ Placed (now b) (now seen) s at m × (length (now own) ≡ 128) × (length (now control) ≡ 128) ⌝ }
+    ensures { λ r. ⌜ r ≡ subjectAt (now (b .entry)) m (now (seen .entry)) (now (own .entry)) (now (control .entry)) s at ⌝ }
+{
+    let low = 2 * s + 1;
+    if (b[at + low] >> 1) % 2 == 1 {
+        if s == 0 {
+            root_counts(own[low], control[low])
+        } else {
+            other_counts(own[low], control[low])
+        }
+    } else {
+        absent(b, seen, s, at, m)
+    }
+}
+
+// The n subjects, each with its row of m bytes.
+fn subjects(b: &[u8], seen: &[u8; 512], own: &[u8; 128], control: &[u8; 128], n: usize, m: usize) -> bool
+    requires { ⌜ Matrix (now b) n m (2 * n) × (length (now seen) ≡ 512) × (length (now own) ≡ 128) × (length (now control) ≡ 128) ⌝ }
+    ensures { λ r. ⌜ r ≡ all n (subjectTest (now (b .entry)) m (now (seen .entry)) (now (own .entry)) (now (control .entry))) ⌝ }
+{
+    let mut at = 7;
+    for s in 0..n {
+        if !subject(b, seen, own, control, s, at, m) {
+            return false;
+        }
+        at += m;
+    }
+    true
 }
 
 // A plain column: owned and controlled by nobody, or zero.
@@ -113,4 +161,21 @@ fn all_root(t: &[u8; 64], n: usize) -> bool
         }
     }
     true
+}
+
+// Following owners from any of the n subjects comes to U: after six doublings each entry has followed 64 owners.
+fn rooted(last: &[u8; 128], n: usize) -> bool
+    requires { ⌜ (n ≤ 64) × (length (now last) ≡ 128) × Inside n (ownerIn (now last)) ⌝ }
+    ensures { λ r. ⌜ r ≡ all n (λ s. eqb (followed (ownerIn (now (last .entry))) 64 s) 0) ⌝ }
+{
+    let mut t = [0u8; 64];
+    let mut u = [0u8; 64];
+    owners(&mut t, last, n);
+    double(&t, &mut u, n);
+    double(&u, &mut t, n);
+    double(&t, &mut u, n);
+    double(&u, &mut t, n);
+    double(&t, &mut u, n);
+    double(&u, &mut t, n);
+    all_root(&t, n)
 }
