@@ -7,3 +7,5 @@ pub mod Cells
 pub mod Valid
 pub mod Checks
 pub mod Loops
+pub mod Merged
+pub mod Passed
