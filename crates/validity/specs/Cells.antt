@@ -72,7 +72,7 @@ two-zero hi lo = same-test _ _ forth back
 module _ (b : List ℕ) (octets : Octets b) where
   -- a low bit of a cell of the record, own or control
   low-bit : (i h w c : ℕ) → 2 ^ (suc h + i) ≡ 256 → i < bitsOf (shapeOf b) → w < shapeOf b .n → c < columns (shapeOf b)
-    → bitAt b i w (nameOf (shapeOf b .n) c) ≡ bitIn b (rowBytes b) i (2 * c + 1) w
+      → bitAt b i w (nameOf (shapeOf b .n) c) ≡ bitIn b (rowBytes b) i (2 * c + 1) w
   low-bit i h w c e l r m =
       bitAt-cell b w c r m i l ∙ ap (bit i) (cell-bytes b w c)
       ∙ ap (λ (x : ℕ). bit i (byteAt b (rowBytes b) w (2 * c) * x + byteAt b (rowBytes b) w (2 * c + 1))) (sym e)
@@ -117,11 +117,11 @@ module _ (b : List ℕ) (octets : Octets b) where
 
   -- the name of a column exists
   pub column-read : (c : ℕ) → c < columns (shapeOf b)
-    → existsName (stateOf b) (nameOf (shapeOf b .n) c) ≡ columnExists (shapeOf b .n) (ownBit b (rowBytes b)) (controlBit b (rowBytes b)) c
+      → existsName (stateOf b) (nameOf (shapeOf b .n) c) ≡ columnExists (shapeOf b .n) (ownBit b (rowBytes b)) (controlBit b (rowBytes b)) c
   unfolding stateOf
   column-read c m = go (way (ltb c (shapeOf b .n)))
     where
       go : (ltb c (shapeOf b .n) ≡ true) ⊎ (ltb c (shapeOf b .n) ≡ false)
-        → existsName (stateOf b) (nameOf (shapeOf b .n) c) ≡ columnExists (shapeOf b .n) (ownBit b (rowBytes b)) (controlBit b (rowBytes b)) c
+          → existsName (stateOf b) (nameOf (shapeOf b .n) c) ≡ columnExists (shapeOf b .n) (ownBit b (rowBytes b)) (controlBit b (rowBytes b)) c
       go (inl q) = rw q (control-subject c c (ltb-true c _ q) (ltb-true c _ q))
       go (inr q) = rw q (any-same (shapeOf b .n) _ _ (λ w l. own-plain w c l (ltb-false c _ q) m))

@@ -33,7 +33,7 @@ followed-below n f h (suc j) s l = followed-below n f h j (f s) (h s l)
 
 -- what holds of a number and is kept by f lets one function be followed for the other
 pub followed-same : (f g : ℕ → ℕ) (P : ℕ → Type 0) → ((s : ℕ) → P s → f s ≡ g s) → ((s : ℕ) → P s → P (g s)) → (j s : ℕ) → P s
-  → followed f j s ≡ followed g j s
+    → followed f j s ≡ followed g j s
 unfolding followed
 followed-same f g P e k zero s p = refl
 followed-same f g P e k (suc j) s p = ap (λ (x : ℕ). followed f j x) (e s p) ∙ followed-same f g P e k j (g s) (k s p)
@@ -51,7 +51,7 @@ more-le (suc n) f g h = go (more-le n f g (λ i l e. h i (omega arith) e)) (way 
     go ih (inr a) (inr b) = rw (a, b) (omega arith)
 
 more-lt : (n : ℕ) (f g : ℕ → Bool) → ((i : ℕ) → i < n → f i ≡ true → g i ≡ true) → (i : ℕ) → i < n → f i ≡ false → g i ≡ true
-  → count n f < count n g
+    → count n f < count n g
 more-lt zero f g h i l a b = absurd (not-suc-le-zero l)
 more-lt (suc n) f g h i l a b =
     ⊎-elim (λ k. earlier (more-lt n f g (λ j m e. h j (omega arith) e) i k a b) (way (f n)) (way (g n))) here (below-suc i n l)

@@ -9,3 +9,5 @@ pub mod Checks
 pub mod Loops
 pub mod Merged
 pub mod Passed
+pub mod Header
+pub mod Whole

@@ -40,13 +40,14 @@ unfolding followed
 follows-once n f old new e s = record { size = s .size ∙ e; value = s .below }
 
 pub follows-twice : (n : ℕ) (f : ℕ → ℕ) (j : ℕ) (t old new : List ℕ) → Inside n f → Follows n f j t → length old ≡ 64
-  → Stored n (λ s. getD t (getD t s 0) 0) old new → Follows n f (j + j) new
+    → Stored n (λ s. getD t (getD t s 0) 0) old new → Follows n f (j + j) new
 follows-twice n f j t old new k h e g =
-    record
-      { size = g .size ∙ e;
-        value =
+    record {
+      size = g .size ∙ e;
+      value =
           λ s l. g .below s l ∙ ap (λ (x : ℕ). getD t x 0) (h .value s l) ∙ h .value (followed f j s) (followed-below n f (k .below) j s l)
-          ∙ sym (followed-add f j j s) }
+          ∙ sym (followed-add f j j s);
+    }
 
 -- an entry of such a table is a subject
 pub follows-inside : (n : ℕ) (f : ℕ → ℕ) (j : ℕ) (t : List ℕ) → Inside n f → Follows n f j t → (s : ℕ) → s < n → getD t s 0 < n
@@ -99,19 +100,19 @@ module _ (b : List ℕ) (m : ℕ) (seen own control : List ℕ) (s at : ℕ) (r 
   self = getD b (at + (2 * s + 1)) 0
 
   pub subject-root : self / 2 % 2 ≡ 1 → s ≡ 0 → r ≡ (eqb (getD own (2 * s + 1) 0) 0 && eqb (getD control (2 * s + 1) 0) 1)
-    → r ≡ subjectAt b m seen own control s at
+      → r ≡ subjectAt b m seen own control s at
   subject-root h e q = rw (bit-one-set self h, eq-eqb s 0 e) q
 
   pub subject-other : self / 2 % 2 ≡ 1 → (s ≡ 0 → ⊥) → r ≡ (eqb (getD own (2 * s + 1) 0) 1 && leb (getD control (2 * s + 1) 0) 2)
-    → r ≡ subjectAt b m seen own control s at
+      → r ≡ subjectAt b m seen own control s at
   subject-other h ne q = rw (bit-one-set self h, ne-eqb s 0 ne) q
 
   pub subject-absent : (self / 2 % 2 ≡ 1 → ⊥) → r ≡ (not (eqb s 0) && (zeroColumn seen (2 * s) && zeroFrom b at m))
-    → r ≡ subjectAt b m seen own control s at
+      → r ≡ subjectAt b m seen own control s at
   subject-absent h q = rw (bit-one-clear self h) q
 
 -- the test of subject s, by its row's place
 pub subject-test : (b : List ℕ) (m : ℕ) (seen own control : List ℕ) (s at : ℕ) (r t : Bool) → at ≡ 7 + s * m
-  → r ≡ subjectAt b m seen own control s at → r ≡ t → subjectTest b m seen own control s ≡ t
+    → r ≡ subjectAt b m seen own control s at → r ≡ t → subjectTest b m seen own control s ≡ t
 unfolding subjectTest
 subject-test b m seen own control s at r t place e q = ap (subjectAt b m seen own control s) (sym place) ∙ sym e ∙ q

@@ -18,7 +18,7 @@ use Rattle.validity.specs.Checks.{zeroFrom, zeroColumn, judged, subjectT
 use Rattle.validity.specs.Merged.{merged-zero, merged-zeros, merged-bit, all-pairs}
 
 module _ (b : List ℕ) (n k m : ℕ) (seen own control last : List ℕ) (lanes : Lanes b m (2 * n) n seen own control last)
-  (width : m ≡ 2 * k) (inside : n ≤ k) where
+    (width : m ≡ 2 * k) (inside : n ≤ k) where
   abbrev column : ℕ → ℕ → ℕ
   column j w = byteAt b m w j
 
@@ -60,11 +60,11 @@ module _ (b : List ℕ) (n k m : ℕ) (seen own control last : List ℕ) (lanes 
 
   -- what the code tests is what is to be tested
   pub all-passed : (p : ℕ) → k ≡ n + p → 0 < n
-    → (all n (subjectTest b m seen own control) && all p (λ i. plainTest seen (2 * (n + i))) && all n (λ s. eqb (followed (ownerIn last) 64 s) 0))
-    ≡ testsPass n p (ownBit b m) (controlBit b m) (zeroCell b m)
+      → (all n (subjectTest b m seen own control) && all p (λ i. plainTest seen (2 * (n + i))) && all n (λ s. eqb (followed (ownerIn last) 64 s) 0))
+      ≡ testsPass n p (ownBit b m) (controlBit b m) (zeroCell b m)
   all-passed p e some =
       let whole : all n (subjectTest b m seen own control) ≡ all n (subjectRight n (n + p) (ownBit b m) (controlBit b m) (zeroCell b m)) =
-          all-same n _ _ subject-passed ∙ ap (λ (i : ℕ). all n (subjectRight n i (ownBit b m) (controlBit b m) (zeroCell b m))) e in
+      all-same n _ _ subject-passed ∙ ap (λ (i : ℕ). all n (subjectRight n i (ownBit b m) (controlBit b m) (zeroCell b m))) e in
       let rest : all p (λ i. plainTest seen (2 * (n + i))) ≡ all p (λ i. plainRight n (ownBit b m) (controlBit b m) (zeroCell b m) (n + i)) =
-          all-same p _ _ (λ i l. plain-passed (n + i) (omega arith)) in
+      all-same p _ _ (λ i l. plain-passed (n + i) (omega arith)) in
       λ i. whole i && rest i && ascend-passed some i

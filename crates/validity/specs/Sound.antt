@@ -58,7 +58,7 @@ module _ (n k : ℕ) (O C Z : ℕ → ℕ → Bool) (inside : n ≤ k) (some : 0
   root-at h w l = all-each n (λ w. not (O w 0) && (eqb w 0 || not (C w 0))) (and-right (C 0 0) _ h) w l
 
   one-at : oneEach n O C ≡ true → (s : ℕ) → s < n → (s ≡ 0 → ⊥) → C s s ≡ true
-    → (eqb (count n (λ w. O w s)) 1 && leb (count n (λ w. C w s && not (eqb w s))) 1) ≡ true
+      → (eqb (count n (λ w. O w s)) 1 && leb (count n (λ w. C w s && not (eqb w s))) 1) ≡ true
   one-at h s l ne e =
       other (eqb s 0 || not (C s s)) _
       (all-each n (λ s. eqb s 0 || not (C s s) || eqb (count n (λ w. O w s)) 1 && leb (count n (λ w. C w s && not (eqb w s))) 1) h s l)
@@ -66,16 +66,17 @@ module _ (n k : ℕ) (O C Z : ℕ → ℕ → Bool) (inside : n ≤ k) (some : 0
 
   pub five-framed : zeroAbsent n k O C Z ≡ true → plainFree n k C ≡ true → rootAlone n O C ≡ true → oneEach n O C ≡ true → Framed n k O C Z
   five-framed a p r o =
-      record
-        { root = root;
-          root-owner = count-none n (λ w. O w 0) (λ w l. not-true (O w 0) (and-left (not (O w 0)) _ (root-at r w l)));
-          root-control = count-besides n (λ w. C w 0) 0 some root ∙ ap suc (count-none n (λ w. C w 0 && not (eqb w 0)) alone);
-          owner = λ s l ne e. eqb-true (count n (λ w. O w s)) 1 (and-left _ _ (one-at o s l ne e));
-          control = λ s l ne e. rw (count-besides n (λ w. C w s) s l e) (second s (leb-true _ 1 (and-right (eqb (count n (λ w. O w s)) 1) _ (one-at o s l ne e))));
-          column = λ s w l m e. left-over (Z w s) (C w w) _ (absent-at a w s m (omega arith)) (inr (rw (lt-ltb s n l) e));
-          row = λ s c l m e. left-over (Z s c) (C s s) _ (absent-at a s c l m) (inl e);
-          plain = λ c w g l m. not-true (C w c) (other (ltb c n) _ (plain-at p w c m l) (le-ltb c n g));
-          unowned = λ c w g l m e. left-over (Z w c) (C w w) _ (absent-at a w c m l) (inr (rw (le-ltb c n g) e)) }
+      record {
+        root = root;
+        root-owner = count-none n (λ w. O w 0) (λ w l. not-true (O w 0) (and-left (not (O w 0)) _ (root-at r w l)));
+        root-control = count-besides n (λ w. C w 0) 0 some root ∙ ap suc (count-none n (λ w. C w 0 && not (eqb w 0)) alone);
+        owner = λ s l ne e. eqb-true (count n (λ w. O w s)) 1 (and-left _ _ (one-at o s l ne e));
+        control = λ s l ne e. rw (count-besides n (λ w. C w s) s l e) (second s (leb-true _ 1 (and-right (eqb (count n (λ w. O w s)) 1) _ (one-at o s l ne e))));
+        column = λ s w l m e. left-over (Z w s) (C w w) _ (absent-at a w s m (omega arith)) (inr (rw (lt-ltb s n l) e));
+        row = λ s c l m e. left-over (Z s c) (C s s) _ (absent-at a s c l m) (inl e);
+        plain = λ c w g l m. not-true (C w c) (other (ltb c n) _ (plain-at p w c m l) (le-ltb c n g));
+        unowned = λ c w g l m e. left-over (Z w c) (C w w) _ (absent-at a w c m l) (inr (rw (le-ltb c n g) e));
+      }
     where
       root : C 0 0 ≡ true
       root = and-left (C 0 0) _ r
@@ -132,7 +133,7 @@ module _ (n k : ℕ) (O C Z : ℕ → ℕ → Bool) (inside : n ≤ k) (some : 0
           omega arith
 
       each : (s : ℕ) → s < n → (eqb s 0 ≡ true) ⊎ (eqb s 0 ≡ false) → (C s s ≡ true) ⊎ (C s s ≡ false)
-        → (eqb s 0 || not (C s s) || eqb (count n (λ w. O w s)) 1 && leb (count n (λ w. C w s && not (eqb w s))) 1) ≡ true
+          → (eqb s 0 || not (C s s) || eqb (count n (λ w. O w s)) 1 && leb (count n (λ w. C w s && not (eqb w s))) 1) ≡ true
       each s l (inl q) e = or-left _ (or-left _ q)
       each s l (inr q) (inr e) = or-left _ (or-right (eqb s 0) (false-not e))
       each s l (inr q) (inl e) =

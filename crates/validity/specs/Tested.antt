@@ -22,12 +22,12 @@ module _ (n p : ℕ) (O C Z : ℕ → ℕ → Bool) (bits : Bits O C Z) (some : 
   -- ---- from the tests
 
   present : (s : ℕ) → subjectRight n (n + p) O C Z s ≡ true → C s s ≡ true
-    → cond (eqb s 0) (eqb (count n (λ w. O w s)) 0 && eqb (count n (λ w. C w s)) 1) (eqb (count n (λ w. O w s)) 1 && leb (count n (λ w. C w s)) 2) ≡ true
+      → cond (eqb s 0) (eqb (count n (λ w. O w s)) 0 && eqb (count n (λ w. C w s)) 1) (eqb (count n (λ w. O w s)) 1 && leb (count n (λ w. C w s)) 2) ≡ true
   unfolding subjectRight
   present s h e = rw e at h
 
   absent : (s : ℕ) → subjectRight n (n + p) O C Z s ≡ true → C s s ≡ false
-    → (not (eqb s 0) && (all n (λ w. Z w s) && all (n + p) (λ c. Z s c))) ≡ true
+      → (not (eqb s 0) && (all n (λ w. Z w s) && all (n + p) (λ c. Z s c))) ≡ true
   unfolding subjectRight
   absent s h e = rw e at h
 
@@ -41,16 +41,17 @@ module _ (n p : ℕ) (O C Z : ℕ → ℕ → Bool) (bits : Bits O C Z) (some : 
 
   tests-framed : all n (subjectRight n (n + p) O C Z) ≡ true → all p (λ i. plainRight n O C Z (n + i)) ≡ true → Here
   tests-framed a b =
-      record
-        { root = root;
-          root-owner = eqb-true _ 0 (and-left _ _ (present 0 (sub 0 some) root));
-          root-control = eqb-true _ 1 (and-right (eqb (count n (λ w. O w 0)) 0) _ (present 0 (sub 0 some) root));
-          owner = λ s l ne e. eqb-true _ 1 (and-left _ _ (other-present s l ne e));
-          control = λ s l ne e. leb-true _ 2 (and-right (eqb (count n (λ w. O w s)) 1) _ (other-present s l ne e));
-          column = λ s w l m e. all-each n (λ w. Z w s) (and-left _ _ (and-right (not (eqb s 0)) _ (absent s (sub s l) e))) w m;
-          row = λ s c l m e. all-each (n + p) (λ c. Z s c) (and-right (all n (λ w. Z w s)) _ (and-right (not (eqb s 0)) _ (absent s (sub s l) e))) c m;
-          plain = λ c w g l m. free c w g l m (way (any n (λ v. O v c)));
-          unowned = λ c w g l m e. all-each n (λ w. Z w c) (unowned-zero c (pln c g l) e) w m }
+      record {
+        root = root;
+        root-owner = eqb-true _ 0 (and-left _ _ (present 0 (sub 0 some) root));
+        root-control = eqb-true _ 1 (and-right (eqb (count n (λ w. O w 0)) 0) _ (present 0 (sub 0 some) root));
+        owner = λ s l ne e. eqb-true _ 1 (and-left _ _ (other-present s l ne e));
+        control = λ s l ne e. leb-true _ 2 (and-right (eqb (count n (λ w. O w s)) 1) _ (other-present s l ne e));
+        column = λ s w l m e. all-each n (λ w. Z w s) (and-left _ _ (and-right (not (eqb s 0)) _ (absent s (sub s l) e))) w m;
+        row = λ s c l m e. all-each (n + p) (λ c. Z s c) (and-right (all n (λ w. Z w s)) _ (and-right (not (eqb s 0)) _ (absent s (sub s l) e))) c m;
+        plain = λ c w g l m. free c w g l m (way (any n (λ v. O v c)));
+        unowned = λ c w g l m e. all-each n (λ w. Z w c) (unowned-zero c (pln c g l) e) w m;
+      }
     where
       sub : (s : ℕ) → s < n → subjectRight n (n + p) O C Z s ≡ true
       sub s l = all-each n (subjectRight n (n + p) O C Z) a s l
@@ -126,9 +127,11 @@ module _ (n p : ℕ) (O C Z : ℕ → ℕ → Bool) (bits : Bits O C Z) (some : 
 
       at-owner : (s ≡ 0 → ⊥) → Exists (least n (λ w. O w s))
       at-owner ne =
-          let w = last-least n (λ w. O w s) (f .owner s (x .0) ne (x .1)) in
-          (w .1, holds (C (least n (λ w. O w s)) (least n (λ w. O w s)))
-          (λ e. clash (w .2) (bits .own (least n (λ w. O w s)) s (f .row (least n (λ w. O w s)) s (w .1) (let l : s < n = x .0 in omega arith) e))))
+          let w = last-least n (λ w. O w s) (f .owner s (x .0) ne (x .1)) in (
+            w .1,
+            holds (C (least n (λ w. O w s)) (least n (λ w. O w s)))
+                (λ e. clash (w .2) (bits .own (least n (λ w. O w s)) s (f .row (least n (λ w. O w s)) s (w .1) (let l : s < n = x .0 in omega arith) e))),
+          )
 
       go : (eqb s 0 ≡ true) ⊎ (eqb s 0 ≡ false) → Exists (ownerStep n O s)
       go (inl z) = subst (λ (i : ℕ). Exists (ownerStep n O i)) (sym (eqb-true s 0 z)) at-root
@@ -186,8 +189,8 @@ module _ (n p : ℕ) (O C Z : ℕ → ℕ → Bool) (bits : Bits O C Z) (some : 
           let three = and-left _ (oneEach n O C) four in
           let two = and-left _ (rootAlone n O C) three in
           let f : Here =
-              five-framed n (n + p) O C Z inside some (and-left _ (plainFree n (n + p) C) two) (and-right (zeroAbsent n (n + p) O C Z) _ two)
-              (and-right (zeroAbsent n (n + p) O C Z && plainFree n (n + p) C) _ three)
-              (and-right (zeroAbsent n (n + p) O C Z && plainFree n (n + p) C && rootAlone n O C) _ four) in
+          five-framed n (n + p) O C Z inside some (and-left _ (plainFree n (n + p) C) two) (and-right (zeroAbsent n (n + p) O C Z) _ two)
+          (and-right (zeroAbsent n (n + p) O C Z && plainFree n (n + p) C) _ three)
+          (and-right (zeroAbsent n (n + p) O C Z && plainFree n (n + p) C && rootAlone n O C) _ four) in
           and-both (and-both (each-all n _ (framed-subject f)) (each-all p _ (framed-plainly f)))
           (framed-ascend most f (and-right (zeroAbsent n (n + p) O C Z && plainFree n (n + p) C && rootAlone n O C && oneEach n O C) _ h))

@@ -28,7 +28,7 @@ use Rattle.validity.specs.Cells.{rowBytes, ownBit, controlBit, zeroCell,
 
 -- climbing owners is following them, where the subjects below n have the same owners
 climb-follows : (n : ℕ) (owns : ℕ → Name → Bool) (O : ℕ → ℕ → Bool) → ((w s : ℕ) → w < n → s < n → owns w (Subject s) ≡ O w s)
-  → (j s : ℕ) → s < n → climb n owns j s ≡ followed (ownerStep n O) j s
+    → (j s : ℕ) → s < n → climb n owns j s ≡ followed (ownerStep n O) j s
 unfolding climb followed
 climb-follows n owns O h zero s l = refl
 climb-follows n owns O h (suc j) s l =
@@ -64,7 +64,7 @@ module _ (b : List ℕ) (octets : Octets b) where
   plain-same = all-same n _ _ (λ w l. all-same (columns (shapeOf b)) _ _ (λ c m. cell w c l m (way (ltb c n))))
     where
       cell : (w c : ℕ) → w < n → c < columns (shapeOf b) → (ltb c n ≡ true) ⊎ (ltb c n ≡ false)
-        → (ltb c n || not (stateOf b .controls w (Plain c))) ≡ (ltb c n || not (C w c))
+          → (ltb c n || not (stateOf b .controls w (Plain c))) ≡ (ltb c n || not (C w c))
       cell w c l m (inl q) = rw q refl
       cell w c l m (inr q) = ap (λ (t : Bool). ltb c n || not t) (control-plain b octets w c l (ltb-false c n q) m)
 
@@ -91,14 +91,15 @@ module _ (b : List ℕ) (octets : Octets b) where
 
   cell-bits : Bits O C Z
   cell-bits =
-      record
-        { own = λ w c z. ap (bit 0) (low w c z) ∙ bit-zero 0;
-          control = λ w c z. ap (bit 1) (low w c z) ∙ bit-zero 1 }
+      record {
+        own = λ w c z. ap (bit 0) (low w c z) ∙ bit-zero 0;
+        control = λ w c z. ap (bit 1) (low w c z) ∙ bit-zero 1;
+      }
     where
       low : (w c : ℕ) → Z w c ≡ true → byteAt b (rowBytes b) w (2 * c + 1) ≡ 0
       low w c z = eqb-true _ 0 (and-right (eqb (byteAt b (rowBytes b) w (2 * c)) 0) _ z)
 
   -- the matrix of a record is valid just where the tests of one pass over its bytes pass
   pub valid-tests : 0 < shapeOf b .n → shapeOf b .n ≤ 64
-    → testsPass (shapeOf b .n) (shapeOf b .p) (ownBit b (rowBytes b)) (controlBit b (rowBytes b)) (zeroCell b (rowBytes b)) ≡ validMatrix (shapeOf b) (stateOf b)
+      → testsPass (shapeOf b .n) (shapeOf b .p) (ownBit b (rowBytes b)) (controlBit b (rowBytes b)) (zeroCell b (rowBytes b)) ≡ validMatrix (shapeOf b) (stateOf b)
   valid-tests some most = tests-five n (shapeOf b .p) O C Z cell-bits some most ∙ sym (valid-five some)

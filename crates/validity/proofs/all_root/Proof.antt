@@ -41,7 +41,7 @@ loop-less c = search needs
 
 -- src/lib.rt:110:5
 loop-again : tie.Need-loop-again Inv-loop μ-loop
-loop-again c = 
+loop-again c =
     let l = c .before .before .before .loop in
     let s = c .before .before .before .before in
     (search needs, all-more (l .s) (λ k. eqb (getD (s .args .t .now) k 0) 0) (l .inv .1) (eq-eqb _ _ (c .if1 .left)))

@@ -46,7 +46,7 @@ loop-less c = search needs
 
 -- src/lib.rt:90:5
 loop-again : tie.Need-loop-again Inv-loop μ-loop
-loop-again c = 
+loop-again c =
     let l = c .before .before .loop in
     (search needs, stored-step _ _ _ _ _ (l .inv .1) (search needs) refl)
 

@@ -49,7 +49,7 @@ loop-less c = search needs
 
 -- src/lib.rt:77:5
 loop-again : tie.Need-loop-again Inv-loop μ-loop
-loop-again c = 
+loop-again c =
     let l = c .before .before .before .loop in
     let s = c .before .before .before .before in
     (search needs, all-more (l .i) (λ k. plainTest (s .args .seen .now) (2 * (s .args .n + k))) (l .inv .1) (sym (c .before .plain .ensures) ∙ not-false _ (c .if1 .left)))

@@ -27,7 +27,7 @@ loop-holds c = (search needs, omega (arith, zero-mul (c .before .args .m)), all-
 
 -- src/lib.rt:99:13
 subject-requires : tie.Need-subject-requires Inv-loop μ-loop
-subject-requires c κs = 
+subject-requires c κs =
     let s = c .before .before .before in
     let l = c .before .loop in
     let r : l .at + s .args .m ≤ 7 + s .args .n * s .args .m = row-inside (s .args .n) (l .s) (s .args .m) (l .at) (c .loop-test .taken) (l .inv .1) in
@@ -36,13 +36,13 @@ subject-requires c κs =
 
 -- src/lib.rt:100:13
 returns : tie.Need-returns Inv-loop μ-loop
-returns c = 
+returns c =
     let l = c .before .before .before .loop in
     all-stop (l .s) _ _ (c .before .before .loop-test .taken) (subject-test _ _ _ _ _ (l .s) (l .at) _ _ (l .inv .1) (c .before .subject .ensures) (not-true _ (c .if1 .taken)))
 
 -- src/lib.rt:102:9
 add-at : tie.Need-add-at Inv-loop μ-loop
-add-at c = 
+add-at c =
     let s = c .before .before .before .before .before in
     let l = c .before .before .before .loop in
     record { fits = omega (arith, s .pre .0 .holds, row-inside (s .args .n) (l .s) (s .args .m) (l .at) (c .before .before .loop-test .taken) (l .inv .1)) }
@@ -57,11 +57,13 @@ loop-less c = search needs
 
 -- src/lib.rt:98:5
 loop-again : tie.Need-loop-again Inv-loop μ-loop
-loop-again c = 
+loop-again c =
     let s = c .before .before .before .before .before in
-    let l = c .before .before .before .loop in
-    (search needs, next-place (l .s) (s .args .m) (l .at) (l .inv .1),
-    all-more (l .s) _ (l .inv .2) (subject-test _ _ _ _ _ (l .s) (l .at) _ _ (l .inv .1) (c .before .subject .ensures) (not-false _ (c .if1 .left))))
+    let l = c .before .before .before .loop in (
+      search needs,
+      next-place (l .s) (s .args .m) (l .at) (l .inv .1),
+      all-more (l .s) _ (l .inv .2) (subject-test _ _ _ _ _ (l .s) (l .at) _ _ (l .inv .1) (c .before .subject .ensures) (not-false _ (c .if1 .left))),
+    )
 
 -- src/lib.rt:93:1
 returns-2 : tie.Need-returns-2 Inv-loop μ-loop

@@ -38,7 +38,7 @@ loop-less c = search needs
 
 -- src/lib.rt:19:5
 loop-again : tie.Need-loop-again Inv-loop μ-loop
-loop-again c = 
+loop-again c =
     let l = c .before .before .loop in
     (search needs, merged-more (l .j) (λ i. getD (c .before .before .before .args .b .now) (c .before .before .before .args .at + i) 0) (l .any) (l .inv .1))
 
