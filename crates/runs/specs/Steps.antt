@@ -1,0 +1,145 @@
+-- The steps of a list run.
+use Prim.Native.Nat.{ℕ, suc, _+_, _-_, _/_, _≤_, _<_}
+use native.Mathlib.Numerals.{add-one}
+use native.Mathlib.Omega.{arith}
+use mathlib.Core.Path.{_≡_, refl, sym, _∙_, ap, ap₂, subst}
+use mathlib.Core.Logic.{⊎-elim}
+use mathlib.Core.Bool.{Bool, true, false, cond}
+use mathlib.Core.List.{List, [], _∷_}
+use lib.Dec.{eqb}
+use lib.ListN.{length}
+use borrow.Author.Tests.{eqb-true, eqb-false}
+use Rattle.matrix.specs.declared.Fields.{Fields}
+use Rattle.matrix.specs.declared.Answer.{Answer}
+use Rattle.matrix.specs.declared.Answer.the-variants.{Accepted, Refused}
+use Rattle.matrix.specs.declared.Outcome.{Outcome}
+use Rattle.matrix.specs.State.{State}
+use Rattle.matrix.specs.Step.{answer, numberOf, refusal, next}
+use Rattle.matrix.specs.Shape.{Shape, shapeOf, sizeOf}
+use Rattle.matrix.specs.Reading.{stateOf}
+use Rattle.matrix.specs.CommandList.{fieldsAt, commandPlace, commandsFrom, commandsIn, recordBytes}
+use Rattle.matrix.specs.Calls.{refusalOn, linksOn, nextOn, Ran, runFrom, ranOn}
+use Rattle.laws.specs.Tests.{way}
+use Rattle.cells.specs.Station.{Station}
+use Rattle.commands.specs.Answered.{Answered}
+use Rattle.changes.specs.Became.{Became}
+use Rattle.runs.specs.Reached.{RunOn, Reached}
+
+-- the number of an answer is the refusal's
+number-is : (r l : ℕ) → numberOf (answer r l) ≡ r
+number-is r l =
+    ⊎-elim (λ (t : eqb r 0 ≡ true). ap (λ (b : Bool). numberOf (cond b (Accepted l) (Refused r l))) t ∙ sym (eqb-true r 0 t))
+    (λ (t : eqb r 0 ≡ false). ap (λ (b : Bool). numberOf (cond b (Accepted l) (Refused r l))) t) (way (eqb r 0))
+
+-- the next command of those that are left
+next-command : (l : List ℕ) (j m : ℕ) → j < m → commandsFrom l j (m - j) ≡ fieldsAt l (commandPlace j) ∷ commandsFrom l (j + 1) (m - (j + 1))
+unfolding commandsFrom
+next-command l j m h =
+    let e : m - j ≡ suc (m - (j + 1)) = omega arith in
+    let f : suc j ≡ j + 1 = omega arith in
+    ap (λ (k : ℕ). commandsFrom l j k) e ∙ ap (λ (i : ℕ). fieldsAt l (commandPlace j) ∷ commandsFrom l i (m - (j + 1))) f
+
+module _ (f : Shape) (S : State) (c : Fields) (cs : List Fields) (j : ℕ) where
+  run-accepts : refusalOn f S c ≡ 0 → runFrom j f S (c ∷ cs) ≡ runFrom (j + 1) f (nextOn f S c) cs
+  unfolding runFrom
+  run-accepts h = rw h refl
+
+  run-refuses : eqb (refusalOn f S c) 0 ≡ false → runFrom j f S (c ∷ cs) ≡ record { accepted = j; refusal = refusalOn f S c; state = S }
+  unfolding runFrom
+  run-refuses h = rw h refl
+
+none-left : (j : ℕ) (f : Shape) (S : State) (l : List ℕ) (i : ℕ) → runFrom j f S (commandsFrom l i 0) ≡ record { accepted = j; refusal = 0; state = S }
+unfolding runFrom commandsFrom
+none-left j f S l i = refl
+
+-- a refused command leaves the state
+refused-state : (f : Shape) (S : State) (c : Fields) → eqb (refusalOn f S c) 0 ≡ false → nextOn f S c ≡ S
+unfolding nextOn next refusalOn
+refused-state f S c h = rw h refl
+
+-- bytes of the same shape and of the right form are of the same length
+same-size : {b b′ : List ℕ} {n p : ℕ} {S : State} → Station b n p → Became b b′ S → length b′ ≡ length b
+same-size h w = w .shaped .size ∙ ap sizeOf (w .shape) ∙ sym (h .shaped .size)
+
+same-station : {b b′ : List ℕ} {n p : ℕ} {S : State} → Station b n p → Became b b′ S → Station b′ n p
+same-station h w =
+    record {
+      shaped = w .shaped;
+      octets = w .octets;
+      subjects = h .subjects ∙ ap (λ (f : Shape). f .n) (sym (w .shape));
+      plains = h .plains ∙ ap (λ (f : Shape). f .p) (sym (w .shape));
+    }
+
+-- before the first command
+pub reached-none : {b l : List ℕ} {n p m : ℕ} → Station b n p → m ≡ commandsIn l → Reached b b l n p m 0
+reached-none {b} {l} {m = m} h e =
+    let z : m - 0 ≡ commandsIn l = omega arith in
+    record { station = h; shape = refl; size = refl; rest = ap (λ (k : ℕ). runFrom 0 (shapeOf b) (stateOf b) (commandsFrom l 0 k)) z }
+
+-- a reply that is refused has a refusal
+refused-number : (r l : ℕ) {k x : ℕ} → answer r l ≡ Refused k x → eqb r 0 ≡ false
+refused-number r l {k} {x} h = ⊎-elim (λ t. absurd (never t)) (λ t. t) (way (eqb r 0))
+  where
+    never : eqb r 0 ≡ true → ⊥
+    never t =
+        let e : Accepted l ≡ Refused k x = sym (ap (λ (b : Bool). cond b (Accepted l) (Refused r l)) t) ∙ h in
+        let z : _≡_ {A = ℕ} 0 1 = cc in
+        omega arith
+
+module _ {b₀ b b′ l : List ℕ} {n p m j : ℕ} {c : Fields} {r : Answer} (h : Reached b₀ b l n p m j) (more : j < m) (read : c ≡ fieldsAt l (commandPlace j)) (w : Answered b b′ c r) where
+  -- the run from here, with the next command in front
+  here : runFrom j (shapeOf b₀) (stateOf b) (c ∷ commandsFrom l (j + 1) (m - (j + 1))) ≡ ranOn b₀ l
+  here =
+      ap (λ (c : Fields). runFrom j (shapeOf b₀) (stateOf b) (c ∷ commandsFrom l (j + 1) (m - (j + 1)))) read
+      ∙ ap (λ (cs : List Fields). runFrom j (shapeOf b₀) (stateOf b) cs) (sym (next-command l j m more))
+      ∙ h .rest
+
+  -- the reply and the state after it, at the first record's shape
+  reply : r ≡ answer (refusalOn (shapeOf b₀) (stateOf b) c) (linksOn (shapeOf b) (stateOf b) c)
+  reply = w .reply ∙ ap (λ (f : Shape). answer (refusalOn f (stateOf b) c) (linksOn (shapeOf b) (stateOf b) c)) (h .shape)
+
+  after : stateOf b′ ≡ nextOn (shapeOf b₀) (stateOf b) c
+  after = w .became .state ∙ ap (λ (f : Shape). nextOn f (stateOf b) c) (h .shape)
+
+  pub reached-more : {x : ℕ} → r ≡ Accepted x → Reached b₀ b′ l n p m (j + 1)
+  reached-more e =
+      let z : refusalOn (shapeOf b₀) (stateOf b) c ≡ 0 = sym (number-is (refusalOn (shapeOf b₀) (stateOf b) c) (linksOn (shapeOf b) (stateOf b) c)) ∙ ap numberOf (sym reply ∙ e) in
+      record {
+        station = same-station (h .station) (w .became);
+        shape = w .became .shape ∙ h .shape;
+        size = same-size (h .station) (w .became) ∙ h .size;
+        rest =
+            ap (λ (S : State). runFrom (j + 1) (shapeOf b₀) S (commandsFrom l (j + 1) (m - (j + 1)))) after
+            ∙ sym (run-accepts (shapeOf b₀) (stateOf b) c _ j z)
+            ∙ here;
+      }
+
+  pub ran-refused : {x k number : ℕ} → r ≡ Refused k x → number ≡ numberOf r → RunOn b₀ b′ l (record { accepted = j; refusal = number })
+  ran-refused {number = number} e f =
+      let t : eqb (refusalOn (shapeOf b₀) (stateOf b) c) 0 ≡ false = refused-number (refusalOn (shapeOf b₀) (stateOf b) c) (linksOn (shapeOf b) (stateOf b) c) (sym reply ∙ e) in
+      let q : number ≡ refusalOn (shapeOf b₀) (stateOf b) c = f ∙ ap numberOf reply ∙ number-is (refusalOn (shapeOf b₀) (stateOf b) c) (linksOn (shapeOf b) (stateOf b) c) in
+      let g : record { accepted = j; refusal = refusalOn (shapeOf b₀) (stateOf b) c; state = stateOf b } ≡ ranOn b₀ l = sym (run-refuses (shapeOf b₀) (stateOf b) c _ j t) ∙ here in
+      record {
+        outcome = λ i. record { accepted = g i .accepted; refusal = (q ∙ ap (λ (x : Ran). x .refusal) g) i };
+        became =
+            record {
+              shaped = w .became .shaped;
+              octets = w .became .octets;
+              shape = w .became .shape ∙ h .shape;
+              state = after ∙ refused-state (shapeOf b₀) (stateOf b) c t ∙ ap (λ (x : Ran). x .state) g;
+            };
+      }
+
+-- after the last command
+pub ran-all : {b₀ b l : List ℕ} {n p m j : ℕ} → Reached b₀ b l n p m j → j ≤ m → m ≤ j → RunOn b₀ b l (record { accepted = m; refusal = 0 })
+ran-all {b₀} {b} {l} {m = m} {j = j} h u d =
+    let z : m - j ≡ 0 = omega arith in
+    let e : j ≡ m = omega arith in
+    let g : record { accepted = j; refusal = 0; state = stateOf b } ≡ ranOn b₀ l = sym (done z) ∙ h .rest in
+    record {
+      outcome = λ i. record { accepted = (sym e ∙ ap (λ (x : Ran). x .accepted) g) i; refusal = g i .refusal };
+      became = record { shaped = h .station .shaped; octets = h .station .octets; shape = h .shape; state = ap (λ (x : Ran). x .state) g };
+    }
+  where
+    done : m - j ≡ 0 → runFrom j (shapeOf b₀) (stateOf b) (commandsFrom l j (m - j)) ≡ record { accepted = j; refusal = 0; state = stateOf b }
+    done z = ap (λ (k : ℕ). runFrom j (shapeOf b₀) (stateOf b) (commandsFrom l j k)) z ∙ none-left j (shapeOf b₀) (stateOf b) l j

@@ -1,0 +1,44 @@
+// A list run on a record that is of the right form, with a list that is of the right form.
+
+use matrix::Answer;
+use matrix::Outcome;
+ghost use mathlib.Core.Path.{_≡_};
+ghost use mathlib.Core.Bool.{true};
+ghost use Rattle.matrix.specs.Step.{numberOf};
+ghost use Rattle.matrix.specs.CommandList.{wellFormed};
+ghost use Rattle.cells.specs.Station.{Station};
+ghost use Rattle.runs.specs.Reached.{RunOn};
+
+// The number of an answer: 0 for accepted, else the refusal's.
+fn number_of(a: Answer) -> usize
+    ensures { λ r. ⌜ r ≡ numberOf a ⌝ }
+{
+    match a {
+        Answer::Accepted(_) => 0,
+        Answer::Refused(number, _) => number,
+    }
+}
+
+// The commands of the list in turn, up to the first that is refused.
+pub fn run_on(b: &mut [u8], n: usize, p: usize, l: &[u8]) -> Outcome
+    requires { ⌜ Station (now b) n p × (wellFormed (now l) ≡ true) ⌝ }
+    ensures { λ r. ⌜ RunOn (now (b .entry)) (now (b .exit)) (now (l .entry)) r ⌝ }
+{
+    let m = lists::count(l) / 6;
+    let mut j = 0;
+    while j < m {
+        let c = lists::fields(l, j);
+        let answer = commands::command_on(b, n, p, c);
+        let Answer::Accepted(_) = answer else {
+            return Outcome {
+                accepted: j,
+                refusal: number_of(answer),
+            };
+        };
+        j += 1;
+    }
+    Outcome {
+        accepted: m,
+        refusal: 0,
+    }
+}
