@@ -1,6 +1,6 @@
 -- Every condition of Valid but "no subject is met again by following owners upward", and what the others say of a subject's owner.
 use Prim.Native.Nat.{ℕ, _<_}
-use mathlib.Core.Path.{_≡_}
+use mathlib.Core.Path.{_≡_, subst}
 use mathlib.Core.Logic.{_≢_}
 use mathlib.Core.Bool.{true, false}
 use Rattle.matrix.specs.declared.Name.{Name}
@@ -72,6 +72,9 @@ module _ {S : State} (F : Framed S) where
   -- nobody owns U
   pub root-unowned : (w : ℕ) → S .owns w (Subject U) ≡ true → ⊥
   root-unowned w h = clash h (F .root-owner w)
+
+  pub owned-not-root : (w : ℕ) (x : Name) → S .owns w x ≡ true → x ≢ Subject U
+  owned-not-root w x h e = root-unowned w (subst (λ (y : Name). S .owns w y ≡ true) e h)
 
   -- an owned subject exists
   pub owned-exists : (w s : ℕ) → S .owns w (Subject s) ≡ true → exists S s ≡ true
