@@ -18,7 +18,8 @@ use Rattle.matrix.specs.Valid.{Valid}
 use Rattle.laws.specs.Tests.{clash, and-left, and-right, and-both}
 use Rattle.laws.specs.Same.{sameName-ne}
 use Rattle.laws.specs.Bounded.{any-hit, any-found, any-none}
-use Rattle.kept.specs.Cells.{put-found, put-new, put-keeps, put-bit, clear-found, clear-other, clear-bit}
+use Rattle.laws.specs.Changed.{put-bit, clear-bit}
+use Rattle.kept.specs.Cells.{put-found, put-new, put-keeps, clear-found, clear-other}
 use Rattle.kept.specs.Parts.{Lives, AllLive, join, controllers-of, tree-of, grown, lives-at, controllers-fewer, controllers-put, tree-fewer}
 
 -- where one row owns a plain object, it exists
@@ -32,7 +33,7 @@ put-live : (y : Right) (r : ℕ) (c : Name) (v : Bool) (S : State) → Valid S
     → AllLive (put y r c v S)
 put-live y r c v S h rows names l =
     grown S (put y r c v S) h rows names
-    (λ z w x b. ⊎-elim (λ old. inl old) (λ p. inr (lives-at (put y r c v S) r c (l .0) (l .1) w x p)) (put-bit y r c v S z w x b))
+    (λ z w x b. ⊎-elim (λ old. inl old) (λ p. inr (lives-at (put y r c v S) r c (l .0) (l .1) w x (p .1, p .2))) (put-bit y r c v S z w x b))
 
 pub basic-keeps : (k : ℕ) (f : Form) (r : ℕ) (c : Name) (v : Bool) (S : State) → Valid S
     → (exists S r && existsName S c) ≡ true → Valid (put (Basic k f) r c v S)
