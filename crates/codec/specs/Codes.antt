@@ -1,5 +1,5 @@
 -- A right and its code determine each other.
-use Prim.Native.Nat.{ℕ, zero, suc, _+_, _*_, _/_, _%_, _≤_}
+use Prim.Native.Nat.{ℕ, zero, suc, _+_, _-_, _*_, _/_, _%_, _≤_, _<_}
 use native.Mathlib.Omega.{arith}
 use mathlib.Core.Path.{_≡_, refl, sym, _∙_, ap, subst}
 use mathlib.Core.Logic.{⊎-elim}
@@ -50,6 +50,11 @@ codeOf-same y z h = sym (rightOf-codeOf y) ∙ ap rightOf h ∙ rightOf-codeOf z
 pub codeOf-above : (k : ℕ) (f : Form) → 2 ≤ codeOf (Basic k f)
 codeOf-above k Plain = omega arith
 codeOf-above k Starred = omega arith
+
+-- a cell of w bytes has room for the basic rights below 4 w - 1
+pub codeOf-room : (w k : ℕ) (f : Form) → k < 4 * w - 1 → codeOf (Basic k f) < 8 * w
+codeOf-room w k Plain h = omega arith
+codeOf-room w k Starred h = omega arith
 
 -- codes are the same where the rights are
 pub codeOf-test : (z y : Right) → eqb (codeOf z) (codeOf y) ≡ sameRight z y

@@ -1,6 +1,5 @@
 pub mod Conditions
-pub mod Bits
-pub mod Passed
+pub mod Rules
 pub mod Untouched
 pub mod Stays
 pub mod Top

@@ -1,28 +1,24 @@
 -- A valid state stays valid: under every command, and through a list of commands.
 use Prim.Native.Nat.{ℕ, _+_}
-use mathlib.Core.Path.{_≡_, refl, subst}
-use mathlib.Core.Logic.{_≢_, ⊎-elim}
-use mathlib.Core.Bool.{Bool, true, false, cond, _&&_, false≢true}
+use mathlib.Core.Path.{_≡_}
+use mathlib.Core.Logic.{⊎-elim}
+use mathlib.Core.Bool.{Bool, true, false, false≢true}
 use mathlib.Core.List.{List, [], _∷_}
 use lib.Dec.{eqb}
-use borrow.Author.Tests.{eqb-true, eqb-false, not-true}
-use Rattle.matrix.specs.declared.Name.{Name}
-use Rattle.matrix.specs.declared.Name.the-variants.{Subject}
+use borrow.Author.Tests.{eqb-true, not-true}
 use Rattle.matrix.specs.declared.Right.the-variants.{Own, Control, Basic}
 use Rattle.matrix.specs.declared.Act.{Act}
 use Rattle.matrix.specs.declared.Act.the-variants.{Transfer, Grant, Delete, CreateObject, DestroyObject, CreateSubject, DestroySubject}
 use Rattle.matrix.specs.declared.Command.{Command}
 use Rattle.matrix.specs.declared.Fields.{Fields}
-use Rattle.matrix.specs.Names.{U, columnOf}
 use Rattle.matrix.specs.State.{State, exists, existsName}
-use Rattle.matrix.specs.Commands.{Raw, known, ruleOf, fieldsFit, decode}
-use Rattle.matrix.specs.Tests.{firstFailed}
+use Rattle.matrix.specs.Commands.{Raw, decode}
 use Rattle.matrix.specs.Changes.{change}
 use Rattle.matrix.specs.Step.{refusalOf, refusal, next}
 use Rattle.matrix.specs.Shape.{Shape, basicsOf}
 use Rattle.matrix.specs.Calls.{rawOf, namesFit, refusalOn, nextOn, runFrom}
 use Rattle.matrix.specs.Valid.{Valid}
-use Rattle.laws.specs.Tests.{way, clash, and-left}
+use Rattle.laws.specs.Tests.{way, and-left}
 use Rattle.laws.specs.Passed.{taken}
 use Rattle.owners.specs.Framed.{valid-framed, owned-not-root}
 use Rattle.kept.specs.Allowed.{Allowed, allowed}

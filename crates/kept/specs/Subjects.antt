@@ -9,7 +9,7 @@ use borrow.Author.Tests.{eqb-true, eqb-false}
 use Rattle.matrix.specs.declared.Name.{Name}
 use Rattle.matrix.specs.declared.Name.the-variants.{Subject, Plain}
 use Rattle.matrix.specs.declared.Right.{Right}
-use Rattle.matrix.specs.declared.Right.the-variants.{Own, Control, Basic}
+use Rattle.matrix.specs.declared.Right.the-variants.{Own, Control}
 use Rattle.matrix.specs.declared.Kind.the-variants.{SubjectName}
 use Rattle.matrix.specs.Names.{U, sameName, columnOf}
 use Rattle.matrix.specs.State.{State, has, exists, existsName, isCell, put, clear}
@@ -17,7 +17,7 @@ use Rattle.matrix.specs.Owners.{owner, walk, meets}
 use Rattle.matrix.specs.Changes.{admit, inherit, inCross}
 use Rattle.matrix.specs.Tests.{kindFits}
 use Rattle.matrix.specs.Valid.{Valid}
-use Rattle.laws.specs.Tests.{way, clash, fails, and-left, and-right, and-both, or-cases, or-left, or-right, or-none-left, or-none-right}
+use Rattle.laws.specs.Tests.{way, clash, fails, and-both, or-cases, or-left, or-right, or-none-left, or-none-right}
 use Rattle.laws.specs.Same.{eqb-same, sameName-eq, isCell-at, isCell-row, isCell-column, isCell-apart}
 use Rattle.laws.specs.Bounded.{any-found}
 use Rattle.laws.specs.Changed.{put-bit, clear-bit, inherit-bit, has-admit}

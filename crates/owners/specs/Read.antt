@@ -1,25 +1,20 @@
 -- Bytes are turned down by none of the tests 1 to 5 exactly where they have the right form and the state that is read from them is valid.
 use Prim.Native.Nat.{ℕ, _≤_, _<_}
 use native.Mathlib.Omega.{arith}
-use mathlib.Core.Path.{_≡_, refl, sym, _∙_}
-use mathlib.Core.Logic.{⊎-elim}
+use mathlib.Core.Path.{_≡_}
 use mathlib.Core.Bool.{true, _&&_}
 use mathlib.Core.List.{List, [], _∷_}
-use lib.Dec.{eqb, ltb, leb}
+use lib.Dec.{eqb, leb}
 use lib.ListN.{length}
-use borrow.Author.Tests.{eqb-true, eq-eqb, ltb-true, leb-true, le-leb}
+use borrow.Author.Tests.{eqb-true, eq-eqb, leb-true, le-leb}
 use Rattle.matrix.specs.declared.Name.{Name}
-use Rattle.matrix.specs.declared.Right.{Right}
-use Rattle.matrix.specs.Names.{named, columnOf}
-use Rattle.matrix.specs.Rights.{codeOf}
-use Rattle.matrix.specs.State.{has}
 use Rattle.matrix.specs.Owners.{walk, linksOf}
 use Rattle.matrix.specs.Valid.{Valid}
-use Rattle.matrix.specs.Tests.{Test, test, firstFailed}
-use Rattle.matrix.specs.Bytes.{numberAt, bit}
-use Rattle.matrix.specs.Shape.{Shape, shapeOf, knownVersion, inRange, sized, mostSubjects, mostPlain, countOf, sizeOf, bitsOf}
-use Rattle.matrix.specs.Reading.{cellAt, bitAt, stateOf}
-use Rattle.matrix.specs.Shaped.{Shaped, Within}
+use Rattle.matrix.specs.Tests.{Test, test}
+use Rattle.matrix.specs.Bytes.{numberAt}
+use Rattle.matrix.specs.Shape.{Shape, shapeOf, knownVersion, inRange, sized, mostSubjects, mostPlain, countOf, sizeOf}
+use Rattle.matrix.specs.Reading.{stateOf}
+use Rattle.matrix.specs.Shaped.{Shaped}
 use Rattle.matrix.specs.Record.{validMatrix, recordRefusal}
 use Rattle.laws.specs.Tests.{and-left, and-right, and-both}
 use Rattle.laws.specs.Passed.{Passed, none-failed, all-passed}
