@@ -18,6 +18,10 @@ use Rattle.laws.specs.Bounded.{least-found, least-passes}
 abbrev pub ownerIn : State → ℕ → ℕ
 ownerIn S s = ownerOf (S .top) (S .owns) s
 
+-- what the search for an owner finds below `top` is an owner
+pub found-owns : (S : State) (s : ℕ) → ownerIn S s < S .top → S .owns (ownerIn S s) (Subject s) ≡ true
+found-owns S s l = least-passes (S .top) (λ w. S .owns w (Subject s)) l
+
 pub record Framed (S : State) : Type 0 where
   pub row : (y : Right) (w : ℕ) (x : Name) → has S y w x ≡ true → exists S w ≡ true
   pub column : (y : Right) (w : ℕ) (x : Name) → has S y w x ≡ true → existsName S x ≡ true
@@ -85,7 +89,7 @@ module _ {S : State} (F : Framed S) where
   owner-found w s h = least-found (S .top) (λ v. S .owns v (Subject s)) w (owner-below w (Subject s) h) h
 
   pub owner-owns : (w s : ℕ) → S .owns w (Subject s) ≡ true → S .owns (ownerIn S s) (Subject s) ≡ true
-  owner-owns w s h = least-passes (S .top) (λ v. S .owns v (Subject s)) (owner-found w s h)
+  owner-owns w s h = found-owns S s (owner-found w s h)
 
   pub owner-same : (w s : ℕ) → S .owns w (Subject s) ≡ true → w ≡ ownerIn S s
   owner-same w s h = F .one-owner s w (ownerIn S s) h (owner-owns w s h)

@@ -23,7 +23,7 @@ use Rattle.codec.specs.Codes.{rightOf-codeOf}
 use Rattle.codec.specs.Columns.{nameOf-columnOf, named-below}
 use Rattle.laws.specs.Tests.{way, clash, fails, fails-not, and-left, and-right, and-both, or-cases, or-left, or-right, or-other}
 use Rattle.laws.specs.Bounded.{any-hit, any-found, all-each, each-all}
-use Rattle.owners.specs.Counting.{count-some, some-count, count-one, one-count}
+use Rattle.laws.specs.Counting.{count-some, some-count, count-one, one-count}
 use Rattle.owners.specs.Framed.{Framed, valid-framed, framed-valid}
 use Rattle.owners.specs.Climb.{climbIn, climb-add, climb-root, climb-ends}
 use Rattle.owners.specs.Rooted.{rooted-no-cycle, climb-rooted}

@@ -5,7 +5,7 @@ use native.Mathlib.Nat.{not-suc-le-zero}
 use native.Mathlib.Omega.{arith}
 use mathlib.Core.Path.{_≡_, refl, sym, _∙_, ap, subst}
 use mathlib.Core.Logic.{_⊎_, inl, inr, ⊎-elim, _≢_}
-use mathlib.Core.Bool.{true, false}
+use mathlib.Core.Bool.{Bool, true, false}
 use lib.Dec.{eqb, ltb}
 use borrow.Author.Tests.{eqb-true, eqb-false, eq-eqb, lt-ltb, ltb-true}
 use Rattle.matrix.specs.declared.Name.{Name}
@@ -19,9 +19,8 @@ use Rattle.matrix.specs.Valid.{Valid}
 use Rattle.matrix.specs.Record.{climb}
 use Rattle.laws.specs.Tests.{way, fails, clash}
 use Rattle.laws.specs.Same.{sameName-refl, sameName-eq}
-use Rattle.laws.specs.Bounded.{least-passes}
 use Rattle.laws.specs.Walks.{walk-met, walk-root, walk-up, walk-lost}
-use Rattle.owners.specs.Framed.{Framed, ownerIn, valid-framed, owned-exists, root-unowned, owner-same}
+use Rattle.owners.specs.Framed.{Framed, ownerIn, found-owns, valid-framed, owned-exists, root-unowned, owner-same}
 use Rattle.owners.specs.Climb.{climbIn, climb-up, climb-ends, owner-of-below, owner-of-exists}
 
 -- a walk in a state that may visit `left` more subjects
@@ -46,7 +45,7 @@ found-from S (suc left) s o links h =
     (way (sameName (Subject s) o))
   where
     owns-it : ltb (ownerIn S s) (S .top) ≡ true → S .owns (ownerIn S s) (Subject s) ≡ true
-    owns-it l = least-passes (S .top) (λ w. S .owns w (Subject s)) (ltb-true (ownerIn S s) (S .top) l)
+    owns-it l = found-owns S s (ltb-true (ownerIn S s) (S .top) l)
 
     above : ltb (ownerIn S s) (S .top) ≡ true → AtOrAbove S (ownerIn S s) o → (v : ℕ) × (o ≡ Subject v) × Above (S .owns) (Subject s) v
     above l (inl q) = (ownerIn S s, q, owner (owns-it l))
@@ -62,11 +61,13 @@ record Ends (walked : Walked) (most : ℕ) : Type 0 where
   ends : walked ≡ Lost → ⊥
   links : linksOf walked ≤ most
 
-ends-met : (links most : ℕ) → links ≤ most → Ends (Meets links) most
-ends-met links most l = record { ends = λ q. let z : _≡_ {A = ℕ} 0 1 = cc in omega arith; links = l }
+abbrev lost : Walked → Bool
+lost (Meets links) = false
+lost (Root links) = false
+lost Lost = true
 
-ends-root : (links most : ℕ) → links ≤ most → Ends (Root links) most
-ends-root links most l = record { ends = λ q. let z : _≡_ {A = ℕ} 0 1 = cc in omega arith; links = l }
+ends-here : (walked : Walked) (most : ℕ) → lost walked ≡ false → linksOf walked ≤ most → Ends walked most
+ends-here walked most n l = record { ends = λ q. clash (ap lost q) n; links = l }
 
 module _ {S : State} (F : Framed S) where
   -- the walk goes up from an existing subject that is neither U nor wanted
@@ -79,11 +80,11 @@ module _ {S : State} (F : Framed S) where
   unfolding climb
   ends-from zero k s o links e c l = absurd (not-suc-le-zero l)
   ends-from (suc left) zero s o links e c l =
-      ⊎-elim (λ m. rw (walk-met (S .top) (S .owns) left s o links m) (ends-met links (links + 0) (omega arith)))
-      (λ m. rw (walk-root (S .top) (S .owns) left s o links m (eq-eqb s U c)) (ends-root links (links + 0) (omega arith))) (way (sameName (Subject s) o))
+      ⊎-elim (λ m. rw (walk-met (S .top) (S .owns) left s o links m) (ends-here (Meets links) (links + 0) refl (omega arith)))
+      (λ m. rw (walk-root (S .top) (S .owns) left s o links m (eq-eqb s U c)) (ends-here (Root links) (links + 0) refl (omega arith))) (way (sameName (Subject s) o))
   ends-from (suc left) (suc k) s o links e c l =
-      ⊎-elim (λ m. rw (walk-met (S .top) (S .owns) left s o links m) (ends-met links (links + suc k) (omega arith)))
-      (λ m. ⊎-elim (λ u. rw (walk-root (S .top) (S .owns) left s o links m u) (ends-root links (links + suc k) (omega arith)))
+      ⊎-elim (λ m. rw (walk-met (S .top) (S .owns) left s o links m) (ends-here (Meets links) (links + suc k) refl (omega arith)))
+      (λ m. ⊎-elim (λ u. rw (walk-root (S .top) (S .owns) left s o links m u) (ends-here (Root links) (links + suc k) refl (omega arith)))
       (λ u. let n : s ≢ U = eqb-false s U u in
       let d : links + suc k ≡ links + 1 + k = omega arith in
       rw (goes-up left s o links e m u, d)
@@ -124,7 +125,7 @@ module _ {S : State} (F : Framed S) where
   unowned : (s : ℕ) → exists S s ≡ false → ltb (ownerIn S s) (S .top) ≡ false
   unowned s e =
       fails (ltb (ownerIn S s) (S .top))
-      (λ l. clash (owned-exists F (ownerIn S s) s (least-passes (S .top) (λ w. S .owns w (Subject s)) (ltb-true (ownerIn S s) (S .top) l))) e)
+      (λ l. clash (owned-exists F (ownerIn S s) s (found-owns S s (ltb-true (ownerIn S s) (S .top) l))) e)
 
   absent-from : (left s : ℕ) (o : Name) → exists S s ≡ false → linksOf (walkIn S left s o 0) ≡ 0
   unfolding walkFrom
