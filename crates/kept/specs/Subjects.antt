@@ -238,9 +238,9 @@ destroyed-keeps S i c h ei own =
 
     links : (w : ℕ) (x : Name) → S' .owns w x ≡ true → (w ≢ c) × ((S .owns w x ≡ true) ⊎ ((w ≡ i) × (S .owns c x ≡ true)))
     links w x e = let p = clear-found (inCross c) (inherit i c S .owns) w x e in (
-          off-row w x (p .0),
-          ⊎-elim (λ old. inl old) (λ k. inr (k .1, k .2)) (inherit-bit i c S Own w x (p .1)),
-        )
+      off-row w x (p .0),
+      ⊎-elim (λ old. inl old) (λ k. inr (k .1, k .2)) (inherit-bit i c S Own w x (p .1)),
+    )
 
     owned-before : (d : ℕ) → (w : ℕ) × (S' .owns w (Subject d) ≡ true) → (v : ℕ) × (S .owns v (Subject d) ≡ true)
     owned-before d e = ⊎-elim (λ old. (e .0, old)) (λ k. (c, k .1)) (links (e .0) (Subject d) (e .1) .1)
