@@ -1,7 +1,11 @@
 // The tests 9 to 12 of a command on a record that is of the right form, each by itself.
 
-use matrix::{Act, Command, Form, Kind, Name, Right};
-
+use matrix::Act;
+use matrix::Command;
+use matrix::Form;
+use matrix::Kind;
+use matrix::Name;
+use matrix::Right;
 ghost use mathlib.Core.Path.{_≡_};
 ghost use mathlib.Core.Bool.{_&&_};
 ghost use Prim.Native.Nat.{_<_};

@@ -4,22 +4,26 @@ use mathlib.Core.Path.{_≡_, refl, sym, _∙_, ap, subst}
 use mathlib.Core.Bool.{Bool, true, false, not, cond, _||_, false≢true}
 use mathlib.Core.List.{List, [], _∷_}
 use lib.Dec.{eqb}
+use borrow.Author.Tests.{ne-eqb}
 use Rattle.matrix.specs.declared.Name.{Name}
 use Rattle.matrix.specs.declared.Name.the-variants.{Subject, Plain}
 use Rattle.matrix.specs.declared.Right.{Right}
 use Rattle.matrix.specs.declared.Right.the-variants.{Own, Control, Basic}
 use Rattle.matrix.specs.declared.Act.{Act}
 use Rattle.matrix.specs.declared.Act.the-variants.{Transfer, Grant}
+use Rattle.matrix.specs.declared.Kind.{Kind}
+use Rattle.matrix.specs.declared.Kind.the-variants.{SubjectName}
 use Rattle.matrix.specs.declared.Walked.{Walked}
 use Rattle.matrix.specs.declared.Walked.the-variants.{Meets, Root, Lost}
 use Rattle.matrix.specs.declared.Command.{Command}
 use Rattle.matrix.specs.State.{State}
+use Rattle.matrix.specs.Commands.{kindOf}
 use Rattle.matrix.specs.Owners.{walk, meets, linksOf}
-use Rattle.matrix.specs.Tests.{Test, test, firstFailed, permitted, apart, uncontrolled, otherController}
-use Rattle.matrix.specs.Step.{walkLinks, linksWith}
+use Rattle.matrix.specs.Tests.{Test, test, firstFailed, kindFits, permitted, apart, uncontrolled, otherController}
+use Rattle.matrix.specs.Step.{refusalOf, walkLinks, linksWith}
 use Rattle.verdict.specs.declared.Verdict.{Verdict}
 use Rattle.verdict.specs.Stages.{late, early, refusal-stages, early-not-thirteen}
-use Rattle.verdict.specs.Judged.{JudgedLate, Judged}
+use Rattle.verdict.specs.Judged.{Entitled, JudgedLate, Judged}
 
 abbrev pub verdictOf : ℕ → ℕ → Verdict
 verdictOf refusal links = record { refusal = refusal; links = links }
@@ -47,7 +51,49 @@ module _ (S : State) (c : Command) where
 
   -- the whole verdict from the two stages
   pub judged-early : {r : ℕ} → r ≡ early S c → (r ≡ 0 → ⊥) → Judged S c (verdictOf r 0)
-  judged-early = ?
+  judged-early {r} e h =
+      let z : eqb (early S c) 0 ≡ false = ne-eqb (early S c) 0 (λ q. h (e ∙ q)) in
+      let f : refusalOf S c ≡ early S c = refusal-stages S c ∙ ap (λ (t : Bool). cond t (late S c) (early S c)) z in
+      let g : (eqb (early S c) 0 || eqb (early S c) 13) ≡ false = rw (z, early-not-thirteen S c) refl in
+      record {
+        refusal = e ∙ sym f;
+        links = sym (ap (λ (m : ℕ). linksWith m S c) f ∙ ap (λ (t : Bool). cond t (walkLinks S c (c .act)) 0) g);
+      }
 
   pub judged-late : {v : Verdict} → early S c ≡ 0 → JudgedLate S c v → Judged S c v
-  judged-late = ?
+  judged-late h j =
+      let f : refusalOf S c ≡ late S c = refusal-stages S c ∙ ap (λ (m : ℕ). cond (eqb m 0) (late S c) m) h in
+      record { refusal = j .refusal ∙ sym f; links = j .links ∙ sym (ap (λ (m : ℕ). linksWith m S c) f) }
+
+  -- an act that the tests 13 and 14 do not look at
+  pub pass-judged : (a : Act) → permitted S c (c .act) ≡ true → c .act ≡ a → apart S c a ≡ true → uncontrolled S c a ≡ true → walkLinks S c a ≡ 0 → JudgedLate S c (verdictOf 0 0)
+  pass-judged a h e f g l = passes h (ap (λ (a : Act). apart S c a) e ∙ f) (ap (λ (a : Act). uncontrolled S c a) e ∙ g) (ap (λ (a : Act). walkLinks S c a) e ∙ l)
+
+  -- a transfer of own over subject t, with the answer w of the walk
+  module _ {t : ℕ} (right : permitted S c (c .act) ≡ true) (own : c .act ≡ Transfer Own) (object : c .o ≡ Subject t) where
+    pub own-judged : {v : Walked} (w : Walked) → v ≡ walk S (c .s) (Subject t) → v ≡ w → JudgedLate S c (verdictOf (cond (meets w) 13 0) (linksOf w))
+    own-judged w e f =
+        let g : walk S (c .s) (c .o) ≡ w = ap (λ (x : Name). walk S (c .s) x) object ∙ sym e ∙ f in
+        let a : apart S c (c .act) ≡ not (meets w) = ap (λ (a : Act). apart S c a) own ∙ ap (λ (w : Walked). not (meets w)) g in
+        let l : walkLinks S c (c .act) ≡ linksOf w = ap (λ (a : Act). walkLinks S c a) own ∙ ap linksOf g in
+        let u : uncontrolled S c (c .act) ≡ true = ap (λ (a : Act). uncontrolled S c a) own in
+        answered w a l u
+      where
+        answered : (w : Walked) → apart S c (c .act) ≡ not (meets w) → walkLinks S c (c .act) ≡ linksOf w → uncontrolled S c (c .act) ≡ true → JudgedLate S c (verdictOf (cond (meets w) 13 0) (linksOf w))
+        answered (Meets l) a f u = met right a f
+        answered (Root l) a f u = passes right a u f
+        answered Lost a f u = passes right a u f
+
+  -- a grant of control over subject t, with the answer r of the search for another controller
+  module _ {t : ℕ} (right : permitted S c (c .act) ≡ true) (control : c .act ≡ Grant Control) (object : c .o ≡ Subject t) where
+    pub control-judged : {r : Bool} (u : Bool) → r ≡ otherController S (Subject t) → r ≡ u → JudgedLate S c (verdictOf (cond u 14 0) 0)
+    control-judged u e f = answered u (ap (λ (a : Act). uncontrolled S c a) control ∙ ap (λ (x : Name). not (otherController S x)) object ∙ ap not (sym e ∙ f))
+      where
+        answered : (u : Bool) → uncontrolled S c (c .act) ≡ not u → JudgedLate S c (verdictOf (cond u 14 0) 0)
+        answered true g = shared right (ap (λ (a : Act). apart S c a) control) g
+        answered false g = passes right (ap (λ (a : Act). apart S c a) control) g (ap (λ (a : Act). walkLinks S c a) control)
+
+-- o is a subject where the act needs one
+pub not-plain : {b : List ℕ} {n p : ℕ} {c : Command} {t : ℕ} {a : Act} → Entitled b n p c → c .act ≡ a → kindOf a ≡ SubjectName → c .o ≡ Plain t → ⊥
+not-plain {c = c} h e k o =
+    false≢true (ap (λ (x : Name). kindFits SubjectName x) (sym o) ∙ ap (λ (k : Kind). kindFits k (c .o)) (sym (ap kindOf e ∙ k)) ∙ h .kind)

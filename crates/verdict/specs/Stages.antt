@@ -54,3 +54,21 @@ not-thirteen true true true true = refl
 pub early-not-thirteen : (S : State) (c : Command) → eqb (early S c) 13 ≡ false
 unfolding early
 early-not-thirteen S c = not-thirteen (exists S (c .i)) (kindFits (kindOf (c .act)) (c .o)) (present S c (c .act)) (free S c (c .act))
+
+module _ (S : State) (c : Command) where
+  pub early-8 : exists S (c .i) ≡ false → 8 ≡ early S c
+  unfolding early firstFailed
+  early-8 h = rw h refl
+
+  pub early-9 : exists S (c .i) ≡ true → kindFits (kindOf (c .act)) (c .o) ≡ false → 9 ≡ early S c
+  unfolding early firstFailed
+  early-9 h e = rw (h, e) refl
+
+  pub early-10 : exists S (c .i) ≡ true → kindFits (kindOf (c .act)) (c .o) ≡ true → present S c (c .act) ≡ false → 10 ≡ early S c
+  unfolding early firstFailed
+  early-10 h e f = rw (h, e, f) refl
+
+  -- the last test is passed (u), or not
+  pub early-11 : {u : Bool} → exists S (c .i) ≡ true → kindFits (kindOf (c .act)) (c .o) ≡ true → present S c (c .act) ≡ true → free S c (c .act) ≡ u → cond u 0 11 ≡ early S c
+  unfolding early firstFailed
+  early-11 h e f g = rw (h, e, f, g) refl

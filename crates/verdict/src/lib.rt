@@ -1,7 +1,11 @@
 // The verdict on a command: the tests 8 to 14 in number order, with the links of the owner walk.
 
-use matrix::{Act, Command, Kind, Name, Right, Walked};
-
+use matrix::Act;
+use matrix::Command;
+use matrix::Kind;
+use matrix::Name;
+use matrix::Right;
+use matrix::Walked;
 ghost use mathlib.Core.Path.{_≡_};
 ghost use mathlib.Core.Bool.{true};
 ghost use Rattle.matrix.specs.Commands.{kindOf};
@@ -29,10 +33,16 @@ fn own_transferred(b: &[u8], n: usize, p: usize, c: Command) -> Verdict
             match w {
                 Walked::Meets(links) => Verdict { refusal: 13, links },
                 Walked::Root(links) => Verdict { refusal: 0, links },
-                Walked::Lost => Verdict { refusal: 0, links: 0 },
+                Walked::Lost => Verdict {
+                    refusal: 0,
+                    links: 0,
+                },
             }
         }
-        Name::Plain(_) => Verdict { refusal: 0, links: 0 },
+        Name::Plain(_) => Verdict {
+            refusal: 0,
+            links: 0,
+        },
     }
 }
 
@@ -45,11 +55,20 @@ fn control_granted(b: &[u8], n: usize, p: usize, c: Command) -> Verdict
     match o {
         Name::Subject(t) => {
             if states::controlled(b, n, p, t) {
-                return Verdict { refusal: 14, links: 0 };
+                return Verdict {
+                    refusal: 14,
+                    links: 0,
+                };
             }
-            Verdict { refusal: 0, links: 0 }
+            Verdict {
+                refusal: 0,
+                links: 0,
+            }
         }
-        Name::Plain(_) => Verdict { refusal: 0, links: 0 },
+        Name::Plain(_) => Verdict {
+            refusal: 0,
+            links: 0,
+        },
     }
 }
 
@@ -60,8 +79,14 @@ fn transferred(b: &[u8], n: usize, p: usize, c: Command, y: Right) -> Verdict
 {
     match y {
         Right::Own => own_transferred(b, n, p, c),
-        Right::Control => Verdict { refusal: 0, links: 0 },
-        Right::Basic(_, _) => Verdict { refusal: 0, links: 0 },
+        Right::Control => Verdict {
+            refusal: 0,
+            links: 0,
+        },
+        Right::Basic(_, _) => Verdict {
+            refusal: 0,
+            links: 0,
+        },
     }
 }
 
@@ -70,9 +95,15 @@ fn granted(b: &[u8], n: usize, p: usize, c: Command, y: Right) -> Verdict
     ensures { λ v. ⌜ JudgedLate (stateOf (now (b .entry))) c v ⌝ }
 {
     match y {
-        Right::Own => Verdict { refusal: 0, links: 0 },
+        Right::Own => Verdict {
+            refusal: 0,
+            links: 0,
+        },
         Right::Control => control_granted(b, n, p, c),
-        Right::Basic(_, _) => Verdict { refusal: 0, links: 0 },
+        Right::Basic(_, _) => Verdict {
+            refusal: 0,
+            links: 0,
+        },
     }
 }
 
@@ -91,11 +122,26 @@ fn judge_late(b: &[u8], n: usize, p: usize, c: Command) -> Verdict
     match act {
         Act::Transfer(y) => transferred(b, n, p, c, y),
         Act::Grant(y) => granted(b, n, p, c, y),
-        Act::Delete(_) => Verdict { refusal: 0, links: 0 },
-        Act::CreateObject => Verdict { refusal: 0, links: 0 },
-        Act::DestroyObject => Verdict { refusal: 0, links: 0 },
-        Act::CreateSubject => Verdict { refusal: 0, links: 0 },
-        Act::DestroySubject => Verdict { refusal: 0, links: 0 },
+        Act::Delete(_) => Verdict {
+            refusal: 0,
+            links: 0,
+        },
+        Act::CreateObject => Verdict {
+            refusal: 0,
+            links: 0,
+        },
+        Act::DestroyObject => Verdict {
+            refusal: 0,
+            links: 0,
+        },
+        Act::CreateSubject => Verdict {
+            refusal: 0,
+            links: 0,
+        },
+        Act::DestroySubject => Verdict {
+            refusal: 0,
+            links: 0,
+        },
     }
 }
 

@@ -1,33 +1,30 @@
+-- `verdict::control_granted` meets its contract.
+use mathlib.Core.Path.{refl}
+use Rattle.states.specs.Reads.{named-subject}
+use Rattle.verdict.specs.Late.{control-judged, not-plain}
 use borrow.Author.Needs.{needs}
 use Rattle.verdict.proofs.control_granted.Statement.{statement}
 use Rattle.verdict.proofs.control_granted.Tie as tie
-use Rattle.verdict.proofs.control_granted.Reads as reads
-use Rattle.verdict.proofs.control_granted.Lts as lts
-use Rattle.states.proofs.controlled.Reads as controlled-reads
 
--- src/lib.rt:46:23
 enum-known-o : tie.Need-enum-known-o
 enum-known-o c = search needs
 
--- src/lib.rt:47:16
 controlled-requires : tie.Need-controlled-requires
-controlled-requires c κs = ?
+controlled-requires c κs =
+    let q = c .before .before .before .before .pre .0 .command in
+    (q .station, named-subject (record { station = q .station; column = q .object }) (c .before .o .given .1))
 
--- src/lib.rt:48:17
 returns : tie.Need-returns
-returns c = ?
+returns c = control-judged _ _ (c .before .before .before .before .before .before .pre .0 .right) (c .before .before .before .before .before .before .pre .1) (c .before .before .before .o .given .1) _ (c .before .controlled .ensures) (c .if1 .taken)
 
--- src/lib.rt:52:27
 enum-told : tie.Need-enum-told
 enum-told c = search needs
 
--- src/lib.rt:40:1
 returns-2 : tie.Need-returns-2
-returns-2 c = ?
+returns-2 c = control-judged _ _ (c .before .before .before .before .before .before .pre .0 .right) (c .before .before .before .before .before .before .pre .1) (c .before .before .before .o .given .1) _ (c .before .controlled .ensures) (c .if1 .left)
 
--- src/lib.rt:40:1
 returns-3 : tie.Need-returns-3
-returns-3 c = ?
+returns-3 c = absurd (not-plain (c .before .before .before .pre .0) (c .before .before .before .pre .1) refl (c .enum-told .given .1))
 
 pub control-granted-spec : {M : Type 1} → statement M
 control-granted-spec =

@@ -1,37 +1,34 @@
+-- `verdict::granted` meets its contract.
+use mathlib.Core.Path.{refl, _∙_, ap}
+use Rattle.matrix.specs.declared.Act.the-variants.{Grant}
+use Rattle.matrix.specs.declared.Right.{Right}
+use Rattle.verdict.specs.Late.{pass-judged}
 use borrow.Author.Needs.{needs}
 use Rattle.verdict.proofs.granted.Statement.{statement}
 use Rattle.verdict.proofs.granted.Tie as tie
-use Rattle.verdict.proofs.granted.Reads as reads
-use Rattle.verdict.proofs.granted.Lts as lts
-use Rattle.verdict.proofs.control_granted.Reads as control-granted-reads
 
--- src/lib.rt:73:23
 enum-told : tie.Need-enum-told
 enum-told c = search needs
 
--- src/lib.rt:74:27
 enum-told-2 : tie.Need-enum-told-2
 enum-told-2 c = search needs
 
--- src/lib.rt:74:27
 control-granted-requires : tie.Need-control-granted-requires
-control-granted-requires c κs = ?
+control-granted-requires c κs = (c .before .before .before .pre .0, c .before .before .before .pre .1 ∙ ap (λ (y : Right). Grant y) (c .enum-told2 .given .1))
 
--- src/lib.rt:75:31
 enum-told-3 : tie.Need-enum-told-3
 enum-told-3 c = search needs
 
--- src/lib.rt:68:1
 returns : tie.Need-returns
-returns c = ?
+returns c =
+    pass-judged _ _ _ (c .before .before .before .pre .0 .right) (c .before .before .before .pre .1 ∙ ap (λ (y : Right). Grant y) (c .enum-told .given .1)) refl refl refl
 
--- src/lib.rt:68:1
 returns-2 : tie.Need-returns-2
 returns-2 c = search needs
 
--- src/lib.rt:68:1
 returns-3 : tie.Need-returns-3
-returns-3 c = ?
+returns-3 c =
+    pass-judged _ _ _ (c .before .before .before .pre .0 .right) (c .before .before .before .pre .1 ∙ ap (λ (y : Right). Grant y) (c .enum-told3 .given .1)) refl refl refl
 
 pub granted-spec : {M : Type 1} → statement M
 granted-spec =

@@ -1,26 +1,23 @@
+-- `verdict::judge` meets its contract.
+use mathlib.Core.Path.{sym, _∙_}
+use Rattle.verdict.specs.Stages.{early-kind}
+use Rattle.verdict.specs.Late.{judged-early, judged-late}
 use borrow.Author.Needs.{needs}
 use Rattle.verdict.proofs.judge.Statement.{statement}
 use Rattle.verdict.proofs.judge.Tie as tie
-use Rattle.verdict.proofs.judge.Reads as reads
-use Rattle.verdict.proofs.judge.Lts as lts
-use Rattle.verdict.proofs.judge_early.Reads as judge-early-reads
-use Rattle.verdict.proofs.judge_late.Reads as judge-late-reads
 
--- src/lib.rt:128:9
 judge-early-requires : tie.Need-judge-early-requires
 judge-early-requires c κs = search needs
 
--- src/lib.rt:130:9
 returns : tie.Need-returns
-returns c = ?
+returns c = judged-early _ _ (c .before .judge-early .ensures) (c .if1 .taken)
 
--- src/lib.rt:135:5
 judge-late-requires : tie.Need-judge-late-requires
-judge-late-requires c κs = ?
+judge-late-requires c κs =
+    (c .before .before .before .pre .0, early-kind _ _ (sym (c .before .judge-early .ensures) ∙ c .if1 .left))
 
--- src/lib.rt:124:1
 returns-2 : tie.Need-returns-2
-returns-2 c = ?
+returns-2 c = judged-late _ _ (sym (c .before .before .judge-early .ensures) ∙ c .before .if1 .left) (c .judge-late .ensures)
 
 pub judge-spec : {M : Type 1} → statement M
 judge-spec = tie.close (tie.spec judge-early-requires returns judge-late-requires returns-2)

@@ -1,49 +1,42 @@
+-- `verdict::own_transferred` meets its contract.
+use mathlib.Core.Path.{refl}
+use Rattle.verdict.specs.Late.{own-judged, not-plain}
 use borrow.Author.Needs.{needs}
 use Rattle.verdict.proofs.own_transferred.Statement.{statement}
 use Rattle.verdict.proofs.own_transferred.Tie as tie
-use Rattle.verdict.proofs.own_transferred.Reads as reads
-use Rattle.verdict.proofs.own_transferred.Lts as lts
-use Rattle.states.proofs.owner_walk.Reads as owner-walk-reads
 
--- src/lib.rt:27:23
 enum-known-o : tie.Need-enum-known-o
 enum-known-o c = search needs
 
--- src/lib.rt:28:17
 owner-walk-requires : tie.Need-owner-walk-requires
 owner-walk-requires c κs = search needs
 
--- src/lib.rt:30:31
 enum-known-w : tie.Need-enum-known-w
 enum-known-w c = search needs
 
--- src/lib.rt:31:30
 enum-known-w-2 : tie.Need-enum-known-w-2
 enum-known-w-2 c = search needs
 
--- src/lib.rt:32:33
 enum-told : tie.Need-enum-told
 enum-told c = search needs
 
--- src/lib.rt:35:27
 enum-told-2 : tie.Need-enum-told-2
 enum-told-2 c = search needs
 
--- src/lib.rt:21:1
 returns : tie.Need-returns
-returns c = ?
+returns c =
+    own-judged _ _ (c .before .before .before .before .before .before .before .before .pre .0 .right) (c .before .before .before .before .before .before .before .before .pre .1) (c .before .before .before .before .before .o .given .1) _ (c .before .before .before .owner-walk .ensures) (c .before .w .given .1)
 
--- src/lib.rt:21:1
 returns-2 : tie.Need-returns-2
-returns-2 c = ?
+returns-2 c =
+    own-judged _ _ (c .before .before .before .before .before .before .before .before .pre .0 .right) (c .before .before .before .before .before .before .before .before .pre .1) (c .before .before .before .before .before .o .given .1) _ (c .before .before .before .owner-walk .ensures) (c .before .w2 .given .1)
 
--- src/lib.rt:21:1
 returns-3 : tie.Need-returns-3
-returns-3 c = ?
+returns-3 c =
+    own-judged _ _ (c .before .before .before .before .before .before .before .pre .0 .right) (c .before .before .before .before .before .before .before .pre .1) (c .before .before .before .before .o .given .1) _ (c .before .before .owner-walk .ensures) (c .enum-told .given .1)
 
--- src/lib.rt:21:1
 returns-4 : tie.Need-returns-4
-returns-4 c = ?
+returns-4 c = absurd (not-plain (c .before .before .before .pre .0) (c .before .before .before .pre .1) refl (c .enum-told2 .given .1))
 
 pub own-transferred-spec : {M : Type 1} → statement M
 own-transferred-spec =

@@ -1,0 +1,47 @@
+-- The arms of the match on a code: each is a row, or two rows, of the table of commands.
+use Prim.Native.Nat.{ℕ, _+_, _≤_, _<_}
+use native.Mathlib.Omega.{arith}
+use mathlib.Core.Path.{_≡_, refl, sym, _∙_, ap, subst}
+use mathlib.Core.Logic.{⊎-elim}
+use mathlib.Core.Bool.{Bool, true, false, cond, _&&_}
+use lib.Dec.{eqb, leb}
+use borrow.Author.Tests.{eqb-true, eqb-false, lt-leb, le-leb}
+use Rattle.matrix.specs.declared.Form.{Form}
+use Rattle.matrix.specs.declared.Form.the-variants.{Plain, Starred}
+use Rattle.matrix.specs.declared.Right.{Right}
+use Rattle.matrix.specs.declared.Right.the-variants.{Basic}
+use Rattle.matrix.specs.declared.Act.{Act}
+use Rattle.matrix.specs.declared.Kind.the-variants.{AnyName}
+use Rattle.matrix.specs.declared.Rule.{Rule}
+use Rattle.laws.specs.Tests.{way}
+use Rattle.decoding.specs.declared.Ruled.the-variants.{Known, Unknown}
+use Rattle.decoding.specs.Decoded.{formFrom, ruledOf}
+
+-- one code
+pub one-row : (j code k : ℕ) {r : Rule} → code ≡ j → Known r ≡ ruledOf j k → Known r ≡ ruledOf code k
+one-row j code k e h = h ∙ ap (λ (m : ℕ). ruledOf m k) (sym e)
+
+-- a basic right of the form that the code says
+abbrev pub basicRule : (Right → Act) → ℕ → Form → Rule
+basicRule act k f = record { s = true; o = true; k = true; kind = AnyName; act = act (Basic k f) }
+
+-- two codes, the first plain and the second starred
+pub two-rows : (act : Right → Act) (first code k : ℕ) {f : Form} → first ≤ code → code < first + 2 → f ≡ formFrom code first → Known (basicRule act k Plain) ≡ ruledOf first k → Known (basicRule act k Starred) ≡ ruledOf (first + 1) k → Known (basicRule act k f) ≡ ruledOf code k
+two-rows act first code k l u e g h =
+    ap (λ (f : Form). Known (basicRule act k f)) e
+    ∙ ⊎-elim
+    (λ (t : eqb code first ≡ true). ap (λ (b : Bool). Known (basicRule act k (cond b Plain Starred))) t ∙ one-row first code k (eqb-true code first t) g)
+    (λ (t : eqb code first ≡ false).
+    let ne : code ≡ first → ⊥ = eqb-false code first t in
+    let q : code ≡ first + 1 = omega arith in
+    ap (λ (b : Bool). Known (basicRule act k (cond b Plain Starred))) t ∙ one-row (first + 1) code k q h)
+    (way (eqb code first))
+
+-- no code
+pub below-codes : (code k : ℕ) → code < 1 → Unknown ≡ ruledOf code k
+unfolding ruledOf
+below-codes code k h = rw (lt-leb 1 code h) refl
+
+pub above-codes : (code k : ℕ) → 14 ≤ code → Unknown ≡ ruledOf code k
+unfolding ruledOf
+above-codes code k h = let l : leb 1 code ≡ true = le-leb 1 code (omega arith) in let u : leb code 13 ≡ false = lt-leb code 13 h in rw (l, u) refl

@@ -1,0 +1,221 @@
+// Decoding of a command: its code's row of the table, and the tests 6 and 7.
+
+use matrix::Act;
+use matrix::Command;
+use matrix::Fields;
+use matrix::Form;
+use matrix::Kind;
+use matrix::Name;
+use matrix::Right;
+use matrix::Rule;
+ghost use mathlib.Core.Path.{_≡_};
+ghost use mathlib.Core.Bool.{_||_, cond};
+ghost use Prim.Native.Nat.{_≤_};
+ghost use lib.Dec.{eqb};
+ghost use Rattle.matrix.specs.Names.{nameOf};
+ghost use Rattle.matrix.specs.Shape.{mostSubjects, mostPlain};
+ghost use Rattle.matrix.specs.Commands.{fieldsFit};
+ghost use Rattle.decoding.specs.Decoded.{formFrom, ruledOf, basicFits, withinNames, decodedOf};
+
+// The row of a code in the table of commands, if there is one.
+pub enum Ruled {
+    Known(Rule),
+    Unknown,
+}
+
+// A decoded command with the kind that its o has to be of, or the refusal 6 or 7.
+pub enum Decoded {
+    Ready(Command, Kind),
+    Refused(usize),
+}
+
+// The form of a basic right, by whether the code is the first of its pair.
+fn form_from(code: usize, first: usize) -> Form
+    ensures { λ f. ⌜ f ≡ formFrom code first ⌝ }
+{
+    if code == first {
+        return Form::Plain;
+    }
+    Form::Starred
+}
+
+// The row of codes 6 and 7: control over a subject, own over a plain object.
+fn grant_rule(code: usize, k: usize) -> Ruled
+    requires { ⌜ (6 ≤ code) × (code ≤ 7) ⌝ }
+    ensures { λ r. ⌜ r ≡ ruledOf code k ⌝ }
+{
+    if code == 6 {
+        return Ruled::Known(Rule {
+            s: true,
+            o: true,
+            k: false,
+            kind: Kind::SubjectName,
+            act: Act::Grant(Right::Control),
+        });
+    }
+    Ruled::Known(Rule {
+        s: true,
+        o: true,
+        k: false,
+        kind: Kind::PlainName,
+        act: Act::Grant(Right::Own),
+    })
+}
+
+// The row of codes 10 to 13: a name is created or destroyed.
+fn name_rule(code: usize, k: usize) -> Ruled
+    requires { ⌜ (10 ≤ code) × (code ≤ 13) ⌝ }
+    ensures { λ r. ⌜ r ≡ ruledOf code k ⌝ }
+{
+    if code <= 11 {
+        let act = if code == 10 {
+            Act::CreateObject
+        } else {
+            Act::DestroyObject
+        };
+        return Ruled::Known(Rule {
+            s: false,
+            o: true,
+            k: false,
+            kind: Kind::PlainName,
+            act,
+        });
+    }
+    let act = if code == 12 {
+        Act::CreateSubject
+    } else {
+        Act::DestroySubject
+    };
+    Ruled::Known(Rule {
+        s: true,
+        o: false,
+        k: false,
+        kind: Kind::AnyName,
+        act,
+    })
+}
+
+// The row of a code: the fields used, the kind needed and the change.
+fn rule_of(code: usize, k: usize) -> Ruled
+    ensures { λ r. ⌜ r ≡ ruledOf code k ⌝ }
+{
+    match code {
+        1..=2 => Ruled::Known(Rule {
+            s: true,
+            o: true,
+            k: true,
+            kind: Kind::AnyName,
+            act: Act::Transfer(Right::Basic(k, form_from(code, 1))),
+        }),
+        3..=3 => Ruled::Known(Rule {
+            s: true,
+            o: true,
+            k: false,
+            kind: Kind::SubjectName,
+            act: Act::Transfer(Right::Own),
+        }),
+        4..=5 => Ruled::Known(Rule {
+            s: true,
+            o: true,
+            k: true,
+            kind: Kind::AnyName,
+            act: Act::Grant(Right::Basic(k, form_from(code, 4))),
+        }),
+        6..=7 => grant_rule(code, k),
+        8..=9 => Ruled::Known(Rule {
+            s: true,
+            o: true,
+            k: true,
+            kind: Kind::AnyName,
+            act: Act::Delete(Right::Basic(k, form_from(code, 8))),
+        }),
+        10..=13 => name_rule(code, k),
+        _ => Ruled::Unknown,
+    }
+}
+
+// Whether a command's names are the record's.
+fn names_fit(n: usize, p: usize, c: Fields) -> bool
+    requires { ⌜ (n ≤ mostSubjects) × (p ≤ mostPlain) ⌝ }
+    ensures { λ t. ⌜ t ≡ withinNames n p c ⌝ }
+{
+    if n <= c.i {
+        return false;
+    }
+    if n <= c.s {
+        return false;
+    }
+    c.o < n + p
+}
+
+// Whether a field is used or 0.
+fn used_or_zero(used: bool, v: usize) -> bool
+    ensures { λ t. ⌜ t ≡ (used || eqb v 0) ⌝ }
+{
+    if used {
+        return true;
+    }
+    v == 0
+}
+
+// Whether the number of the basic right is in range where it is used, and else 0.
+fn basic_fits(used: bool, k: usize) -> bool
+    ensures { λ t. ⌜ t ≡ basicFits used k ⌝ }
+{
+    if used {
+        return k < 7;
+    }
+    k == 0
+}
+
+// Whether the fields are what the rule uses.
+fn fields_fit(r: Rule, c: Fields) -> bool
+    ensures { λ t. ⌜ t ≡ fieldsFit 7 r (c .s) (c .o) (c .k) ⌝ }
+{
+    if !used_or_zero(r.s, c.s) {
+        return false;
+    }
+    if !used_or_zero(r.o, c.o) {
+        return false;
+    }
+    basic_fits(r.k, c.k)
+}
+
+// The name of column o.
+fn name_of(n: usize, o: usize) -> Name
+    ensures { λ x. ⌜ x ≡ nameOf n o ⌝ }
+{
+    if o < n {
+        return Name::Subject(o);
+    }
+    Name::Plain(o)
+}
+
+// A command decoded for a record of n subject names and p plain names.
+pub fn decode(n: usize, p: usize, c: Fields) -> Decoded
+    requires { ⌜ (n ≤ mostSubjects) × (p ≤ mostPlain) ⌝ }
+    ensures { λ r. ⌜ r ≡ decodedOf n p c ⌝ }
+{
+    let ruled = rule_of(c.code, c.k);
+    let Ruled::Known(r) = ruled else {
+        return Decoded::Refused(6);
+    };
+    if !names_fit(n, p, c) {
+        return Decoded::Refused(7);
+    }
+    if !fields_fit(r, c) {
+        return Decoded::Refused(7);
+    }
+    let act = r.act;
+    let kind = r.kind;
+    let o = name_of(n, c.o);
+    Decoded::Ready(
+        Command {
+            i: c.i,
+            s: c.s,
+            o,
+            act,
+        },
+        kind,
+    )
+}
