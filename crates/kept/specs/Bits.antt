@@ -26,6 +26,15 @@ use Rattle.kept.specs.Parts.{Lives, AllLive, join, controllers-of, tree-
 pub object-owned : (S : State) (w o : ℕ) → w < S .top → S .owns w (Plain o) ≡ true → existsName S (Plain o) ≡ true
 object-owned S w o l h = any-hit (S .top) (λ v. S .owns v (Plain o)) w l h
 
+-- and where each row that owned it left it an owner, it still exists
+pub object-kept : (S S' : State) (o : ℕ)
+    → ((w : ℕ) → w < S .top → S .owns w (Plain o) ≡ true → (v : ℕ) × (v < S' .top) × (S' .owns v (Plain o) ≡ true))
+    → existsName S (Plain o) ≡ true → existsName S' (Plain o) ≡ true
+object-kept S S' o heir e =
+    let w = any-found (S .top) (λ v. S .owns v (Plain o)) e in
+    let v = heir (w .0) (w .1) (w .2) in
+    object-owned S' (v .0) o (v .1) (v .2)
+
 -- the set bits after one bit over existing names is put
 put-live : (y : Right) (r : ℕ) (c : Name) (v : Bool) (S : State) → Valid S
     → ((w : ℕ) → exists S w ≡ true → exists (put y r c v S) w ≡ true)
@@ -66,9 +75,7 @@ object-keeps r (Plain a) S fit h er =
 
     names : (x : Name) → existsName S x ≡ true → existsName S' x ≡ true
     names (Subject c) e = e
-    names (Plain c) e =
-        let w = any-found (S .top) (λ v. S .owns v (Plain c)) e in
-        object-owned S' (w .0) c (w .1) (put-keeps r (Plain a) (S .owns) (w .0) (Plain c) (w .2))
+    names (Plain c) e = object-kept S S' c (λ w l o. (w, l, put-keeps r (Plain a) (S .owns) w (Plain c) o)) e
 
 -- r gains control over a subject that is not U and that no other controls
 pub control-keeps : (r : ℕ) (o : Name) (S : State) → kindFits SubjectName o ≡ true → Valid S
@@ -123,6 +130,4 @@ object-destroyed (Plain a) S fit h =
 
     names : (x : Name) → sameName x (Plain a) ≡ false → existsName S x ≡ true → existsName S' x ≡ true
     names (Subject c) d e = e
-    names (Plain c) d e =
-        let w = any-found (S .top) (λ v. S .owns v (Plain c)) e in
-        object-owned S' (w .0) c (w .1) (clear-other (inColumn (Plain a)) (S .owns) (w .0) (Plain c) d (w .2))
+    names (Plain c) d e = object-kept S S' c (λ w l o. (w, l, clear-other (inColumn (Plain a)) (S .owns) w (Plain c) d o)) e

@@ -19,13 +19,12 @@ use Rattle.matrix.specs.Tests.{kindFits}
 use Rattle.matrix.specs.Valid.{Valid}
 use Rattle.laws.specs.Tests.{way, clash, fails, and-both, or-cases, or-left, or-right, or-none-left, or-none-right}
 use Rattle.laws.specs.Same.{eqb-same, sameName-eq, isCell-at, isCell-row, isCell-column, isCell-apart}
-use Rattle.laws.specs.Bounded.{any-found}
 use Rattle.laws.specs.Changed.{put-bit, clear-bit, inherit-bit, has-admit}
 use Rattle.owners.specs.Framed.{valid-framed, owned-not-root}
 use Rattle.owners.specs.Walk.{walk-self, walk-finds}
 use Rattle.kept.specs.Cells.{put-cases, put-found, put-new, put-other, put-keeps, clear-found, clear-other}
 use Rattle.kept.specs.Parts.{four-cases, Lives, AllLive, Reowned, Up, join, controllers-of, tree-of, grown, lives-at, controllers-fewer, controllers-put, tree-reowned, reowned-owned, above-owns, above-heir}
-use Rattle.kept.specs.Bits.{object-owned}
+use Rattle.kept.specs.Bits.{object-kept}
 
 -- whoever has an owner is not U
 not-root : (S : State) → Valid S → (w c : ℕ) → S .owns w (Subject c) ≡ true → c ≢ U
@@ -127,10 +126,7 @@ created-keeps S i s h ei absent =
 
     names : (x : Name) → existsName S x ≡ true → existsName S' x ≡ true
     names (Subject c) e = rows c e
-    names (Plain c) e =
-        let w = any-found (S .top) (λ v. S .owns v (Plain c)) e in
-        let l : w .0 < S .top = w .1 in
-        object-owned S' (w .0) c (omega arith) (w .2)
+    names (Plain c) e = object-kept S S' c (λ w l o. (w, omega arith, o)) e
 
     here : exists S' s ≡ true
     here = put-new s (Subject s) (S .controls)
@@ -222,10 +218,7 @@ destroyed-keeps S i c h ei own =
 
     names : (x : Name) → x ≢ Subject c → existsName S x ≡ true → existsName S' x ≡ true
     names (Subject d) q e = rows d (λ a. q (ap (λ (n : ℕ). Subject n) a)) e
-    names (Plain d) q e =
-        let w = any-found (S .top) (λ v. S .owns v (Plain d)) e in
-        let v = heir (Plain d) q (w .0) (w .2) in
-        object-owned S' (v .0) d (h .bound (v .0) (v .2)) (v .1)
+    names (Plain d) q e = object-kept S S' d (λ w l o. let v = heir (Plain d) q w o in (v .0, h .bound (v .0) (v .2), v .1)) e
 
     live : AllLive S'
     live y w x b =
