@@ -1,0 +1,56 @@
+-- `changes::clear_column` meets its contract. The loop's invariant: the cells of the rows passed so far are cleared.
+use borrow.Author.Needs.{needs}
+use Prim.Native.Nat.{_-_, _≤_}
+use native.Mathlib.Omega.{arith}
+use Rattle.matrix.specs.State.{clear}
+use Rattle.matrix.specs.Reading.{stateOf}
+use Rattle.changes.specs.Became.{Became}
+use Rattle.changes.specs.Passed.{columnPart}
+use Rattle.changes.specs.Steps.{cell-after, length-after}
+use Rattle.changes.specs.Loops.{column-none, column-next, column-all}
+use Rattle.changes.proofs.clear_column.Statement.{statement}
+use Rattle.changes.proofs.clear_column.Tie as tie
+use Rattle.changes.proofs.clear_column.Reads as reads
+use Rattle.changes.proofs.clear_column.Lts as lts
+use Rattle.cells.proofs.store.Reads as store-reads
+
+abbrev Inv-loop : tie.InvT-loop
+Inv-loop b₀ n p c r₀ b r = (r ≤ n) × Became b₀ b (clear (columnPart n c r) (stateOf b₀))
+
+abbrev μ-loop : tie.MeasureT-loop
+μ-loop b₀ n p c r₀ b r = n - r
+
+loop-holds : tie.Need-loop-holds Inv-loop μ-loop
+loop-holds c = (search needs, column-none (c .before .args .c) (c .before .pre .0))
+
+store-requires : tie.Need-store-requires Inv-loop μ-loop
+store-requires c κs = cell-after (c .before .before .before .before .pre .0) (c .before .before .loop .inv .1) (c .before .loop-test .taken) (c .before .before .before .before .pre .1)
+
+add-r : tie.Need-add-r Inv-loop μ-loop
+add-r c = search needs
+
+loop-less : tie.Need-loop-less Inv-loop μ-loop
+loop-less c = search needs
+
+loop-again : tie.Need-loop-again Inv-loop μ-loop
+loop-again c = (search needs, column-next (c .before .before .before .before .before .before .before .args .c) (c .before .before .before .before .before .loop .inv .1) (cell-after (c .before .before .before .before .before .before .before .pre .0) (c .before .before .before .before .before .loop .inv .1) (c .before .before .before .before .loop-test .taken) (c .before .before .before .before .before .before .before .pre .1)) (c .before .before .store .ensures))
+
+same-length : tie.Need-same-length Inv-loop μ-loop
+same-length c = length-after (c .before .before .before .pre .0) (c .before .loop .inv .1)
+
+returns : tie.Need-returns Inv-loop μ-loop
+returns c = column-all (c .before .before .before .args .c) (c .before .before .before .pre .0) (omega arith) (c .before .loop .inv .1)
+
+pub clear-column-spec : {M : Type 1} → statement M
+clear-column-spec =
+    tie.close
+    (tie.spec
+    Inv-loop
+    μ-loop
+    loop-holds
+    store-requires
+    add-r
+    loop-less
+    loop-again
+    same-length
+    returns)

@@ -1,0 +1,76 @@
+-- `changes::inherit_own` meets its contract. The loop's invariant: own is gained in the columns passed so far.
+use borrow.Author.Needs.{needs}
+use Prim.Native.Nat.{_+_, _-_, _≤_}
+use native.Mathlib.Omega.{arith}
+use mathlib.Core.Logic.{⊎-elim}
+use Rattle.matrix.specs.Reading.{stateOf}
+use Rattle.cells.specs.Places.{subjects-few, plains-few}
+use Rattle.changes.specs.Became.{Became}
+use Rattle.changes.specs.Passed.{inheritPart}
+use Rattle.changes.specs.Steps.{became-at, cell-after, length-after}
+use Rattle.changes.specs.Inherits.{inherit-none, inherit-hit, inherit-miss, inherit-all}
+use Rattle.changes.proofs.inherit_own.Statement.{statement}
+use Rattle.changes.proofs.inherit_own.Tie as tie
+use Rattle.changes.proofs.inherit_own.Reads as reads
+use Rattle.changes.proofs.inherit_own.Lts as lts
+use Rattle.cells.proofs.bit_of.Reads as bit-of-reads
+use Rattle.cells.proofs.cell.Reads as cell-reads
+use Rattle.changes.proofs.put_in_column.Reads as put-in-column-reads
+
+abbrev Inv-loop : tie.InvT-loop
+Inv-loop b₀ n p i s c₀ c-end b c = (c ≤ n + p) × Became b₀ b (inheritPart n i s c (stateOf b₀))
+
+abbrev μ-loop : tie.MeasureT-loop
+μ-loop b₀ n p i s c₀ c-end b c = n + p - c
+
+add-c-end : tie.Need-add-c-end Inv-loop μ-loop
+add-c-end c = omega (arith, subjects-few _ _ _ (c .before .pre .0), plains-few _ _ _ (c .before .pre .0))
+
+loop-holds : tie.Need-loop-holds Inv-loop μ-loop
+loop-holds c = (search needs, inherit-none (c .before .args .i) (c .before .args .s) (c .before .pre .0))
+
+cell-requires : tie.Need-cell-requires Inv-loop μ-loop
+cell-requires c κs = cell-after (c .before .before .before .before .pre .0) (c .before .before .loop .inv .1) (c .before .before .before .before .pre .2) (c .before .loop-test .taken)
+
+bit-of-requires : tie.Need-bit-of-requires Inv-loop μ-loop
+bit-of-requires c κs = search needs
+
+put-in-column-requires : tie.Need-put-in-column-requires Inv-loop μ-loop
+put-in-column-requires c κs = (cell-after (c .before .before .before .before .before .before .before .before .pre .0) (c .before .before .before .before .before .before .loop .inv .1) (c .before .before .before .before .before .before .before .before .pre .1) (c .before .before .before .before .before .loop-test .taken), omega arith)
+
+add-c : tie.Need-add-c Inv-loop μ-loop
+add-c c = search needs
+
+loop-less : tie.Need-loop-less Inv-loop μ-loop
+loop-less c = search needs
+
+loop-again : tie.Need-loop-again Inv-loop μ-loop
+loop-again c = 
+    (search needs,
+    ⊎-elim
+    (λ w. inherit-hit (c .before .before .before .before .before .before .before .args .i) (c .before .before .before .before .before .before .before .args .s) (c .before .before .before .before .before .loop .inv .1) (cell-after (c .before .before .before .before .before .before .before .pre .0) (c .before .before .before .before .before .loop .inv .1) (c .before .before .before .before .before .before .before .pre .2) (c .before .before .before .before .loop-test .taken)) (c .before .before .cell .ensures) (c .before .bit-of .ensures) (w .0 .taken) (became-at (w .5) (w .2 .ensures)))
+    (λ w. became-at (w .1) (inherit-miss (c .before .before .before .before .before .before .before .args .i) (c .before .before .before .before .before .before .before .args .s) (c .before .before .before .before .before .loop .inv .1) (cell-after (c .before .before .before .before .before .before .before .pre .0) (c .before .before .before .before .before .loop .inv .1) (c .before .before .before .before .before .before .before .pre .2) (c .before .before .before .before .loop-test .taken)) (c .before .before .cell .ensures) (c .before .bit-of .ensures) (w .0 .left)))
+    (c .if1 .came))
+
+same-length : tie.Need-same-length Inv-loop μ-loop
+same-length c = length-after (c .before .before .before .pre .0) (c .before .loop .inv .1)
+
+returns : tie.Need-returns Inv-loop μ-loop
+returns c = inherit-all (c .before .before .before .args .i) (c .before .before .before .args .s) (c .before .before .before .pre .0) (omega arith) (c .before .loop .inv .1)
+
+pub inherit-own-spec : {M : Type 1} → statement M
+inherit-own-spec =
+    tie.close
+    (tie.spec
+    Inv-loop
+    μ-loop
+    add-c-end
+    loop-holds
+    cell-requires
+    bit-of-requires
+    put-in-column-requires
+    add-c
+    loop-less
+    loop-again
+    same-length
+    returns)

@@ -1,0 +1,36 @@
+-- `changes::put_in_column` meets its contract: the cell is stored with the bit of the right set or cleared.
+use Rattle.states.specs.Reads.{code-small}
+use Rattle.changes.specs.OneBit.{cell-small}
+use Rattle.changes.specs.Steps.{became-put}
+use borrow.Author.Needs.{needs}
+use Rattle.changes.proofs.put_in_column.Statement.{statement}
+use Rattle.changes.proofs.put_in_column.Tie as tie
+use Rattle.changes.proofs.put_in_column.Reads as reads
+use Rattle.changes.proofs.put_in_column.Lts as lts
+use Rattle.cells.proofs.cell.Reads as cell-reads
+use Rattle.cells.proofs.store.Reads as store-reads
+use Rattle.changes.proofs.with_bit.Reads as with-bit-reads
+use Rattle.states.proofs.code_of.Reads as code-of-reads
+
+code-of-requires : tie.Need-code-of-requires
+code-of-requires c κs = search needs
+
+cell-requires : tie.Need-cell-requires
+cell-requires c κs = search needs
+
+with-bit-requires : tie.Need-with-bit-requires
+with-bit-requires c κs = (cell-small (c .before .before .before .before .pre .0) (c .cell .ensures), rw (c .before .before .code-of .ensures) (code-small (c .before .before .before .before .args .y) (c .before .before .before .before .pre .1)))
+
+store-requires : tie.Need-store-requires
+store-requires c κs = search needs
+
+same-length : tie.Need-same-length
+same-length c = search needs
+
+returns : tie.Need-returns
+returns c = became-put (c .before .before .before .before .before .before .before .before .before .args .y) (c .before .before .before .before .before .before .before .before .before .args .on) (c .before .before .before .before .before .before .before .before .before .pre .0) (c .before .before .before .before .before .before .before .before .before .pre .1) (c .before .before .before .before .before .before .before .code-of .ensures) (c .before .before .before .before .before .cell .ensures) (c .before .before .before .before .with-bit .ensures) (c .before .before .store .ensures)
+
+pub put-in-column-spec : {M : Type 1} → statement M
+put-in-column-spec =
+    tie.close
+    (tie.spec code-of-requires cell-requires with-bit-requires store-requires same-length returns)

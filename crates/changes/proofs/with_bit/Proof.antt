@@ -1,0 +1,52 @@
+-- `changes::with_bit` meets its contract: each arm is a case of the definition.
+use Prim.Native.Nat.{ℕ, _+_, _-_}
+use native.Mathlib.Omega.{arith}
+use mathlib.Core.Path.{sym, _∙_, ap}
+use Rattle.changes.specs.OneBit.{power-small, one-shifted, bit-within, with-bit-is}
+use borrow.Author.Needs.{needs}
+use Rattle.changes.proofs.with_bit.Statement.{statement}
+use Rattle.changes.proofs.with_bit.Tie as tie
+use Rattle.changes.proofs.with_bit.Reads as reads
+use Rattle.changes.proofs.with_bit.Lts as lts
+use Rattle.cells.proofs.bit_of.Reads as bit-of-reads
+
+bit-of-requires : tie.Need-bit-of-requires
+bit-of-requires c κs = search needs
+
+shl-result : tie.Need-shl-result
+shl-result c = search needs
+
+sub-result : tie.Need-sub-result
+sub-result c = omega (arith, one-shifted (c .before .before .before .args .j) (c .before .before .before .pre .1), bit-within (c .before .before .before .args .j) (c .before .before .before .args .v) (c .before .before .bit-of .ensures) (c .before .if1 .taken))
+
+shl-result-2 : tie.Need-shl-result-2
+shl-result-2 c = search needs
+
+add-result : tie.Need-add-result
+add-result c = omega (arith, one-shifted (c .before .before .before .args .j) (c .before .before .before .pre .1), power-small (c .before .before .before .args .j) (c .before .before .before .pre .1))
+
+returns : tie.Need-returns
+returns c = sym (with-bit-is (c .before .before .before .args .j) (c .before .before .before .args .v) (c .before .before .bit-of .ensures) (c .before .if1 .taken) (c .if2 .taken))
+
+returns-2 : tie.Need-returns-2
+returns-2 c = ap (λ (m : ℕ). c .before .before .before .args .v - m) (one-shifted (c .before .before .before .args .j) (c .before .before .before .pre .1)) ∙ sym (with-bit-is (c .before .before .before .args .j) (c .before .before .before .args .v) (c .before .before .bit-of .ensures) (c .before .if1 .taken) (c .if2 .left))
+
+returns-3 : tie.Need-returns-3
+returns-3 c = ap (λ (m : ℕ). c .before .before .before .args .v + m) (one-shifted (c .before .before .before .args .j) (c .before .before .before .pre .1)) ∙ sym (with-bit-is (c .before .before .before .args .j) (c .before .before .before .args .v) (c .before .before .bit-of .ensures) (c .before .if1 .left) (c .if3 .taken))
+
+returns-4 : tie.Need-returns-4
+returns-4 c = sym (with-bit-is (c .before .before .before .args .j) (c .before .before .before .args .v) (c .before .before .bit-of .ensures) (c .before .if1 .left) (c .if3 .left))
+
+pub with-bit-spec : {M : Type 1} → statement M
+with-bit-spec =
+    tie.close
+    (tie.spec
+    bit-of-requires
+    shl-result
+    sub-result
+    shl-result-2
+    add-result
+    returns
+    returns-2
+    returns-3
+    returns-4)

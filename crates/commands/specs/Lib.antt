@@ -1,0 +1,4 @@
+pub mod Answered
+pub mod Rows
+pub mod Ready
+pub mod Outcomes

@@ -1,0 +1,94 @@
+// A list of commands: its form, and the fields of a command in it.
+
+use matrix::Fields;
+ghost use mathlib.Core.Path.{_≡_};
+ghost use Prim.Native.Nat.{_+_, _*_, _≤_, _<_};
+ghost use lib.ListN.{length};
+ghost use Rattle.matrix.specs.Bytes.{numberAt};
+ghost use Rattle.matrix.specs.CommandList.{wellFormed, fieldsAt, commandPlace};
+ghost use Rattle.lists.specs.Forms.{lengthsRight, countRight};
+
+// A byte as a number.
+fn wide(x: u8) -> usize
+    ensures { λ r. ⌜ (r ≡ x) × (r < 256) ⌝ }
+{
+    x as usize
+}
+
+// The number in the four bytes from `at` on.
+fn number(l: &[u8], at: usize) -> usize
+    requires { ⌜ at + 4 ≤ length (now l) ⌝ }
+    ensures { λ r. ⌜ r ≡ numberAt (now (l .entry)) at 4 ⌝ }
+{
+    let a = wide(l[at]);
+    let b = wide(l[at + 1]);
+    let c = wide(l[at + 2]);
+    let d = wide(l[at + 3]);
+    ((a * 256 + b) * 256 + c) * 256 + d
+}
+
+// The number of bytes after the head, as the list says it.
+pub fn count(l: &[u8]) -> usize
+    requires { ⌜ 5 ≤ length (now l) ⌝ }
+    ensures { λ r. ⌜ r ≡ numberAt (now (l .entry)) 1 4 ⌝ }
+{
+    number(l, 1)
+}
+
+// Whether the length byte of each of the first m commands is 5.
+fn lengths_right(l: &[u8], m: usize) -> bool
+    requires { ⌜ 5 + 6 * m ≤ length (now l) ⌝ }
+    ensures { λ t. ⌜ t ≡ lengthsRight (now (l .entry)) m ⌝ }
+{
+    for j in 0..m {
+        if l[5 + 6 * j] != 5 {
+            return false;
+        }
+    }
+    true
+}
+
+// Whether the list has the length that its head says, within bounds, in whole commands of the right form.
+fn count_right(l: &[u8], count: usize) -> bool
+    requires { ⌜ count ≤ 4294967295 ⌝ }
+    ensures { λ t. ⌜ t ≡ countRight (now (l .entry)) count ⌝ }
+{
+    if 5 + count != l.len() {
+        return false;
+    }
+    if 60000 < count {
+        return false;
+    }
+    if count % 6 != 0 {
+        return false;
+    }
+    lengths_right(l, count / 6)
+}
+
+// Whether the list is of the right form.
+pub fn well_formed(l: &[u8]) -> bool
+    ensures { λ t. ⌜ t ≡ wellFormed (now (l .entry)) ⌝ }
+{
+    if l.len() < 5 {
+        return false;
+    }
+    if l[0] != 1 {
+        return false;
+    }
+    let n = count(l);
+    count_right(l, n)
+}
+
+// The fields of the command numbered j.
+pub fn fields(l: &[u8], j: usize) -> Fields
+    requires { ⌜ commandPlace j + 6 ≤ length (now l) ⌝ }
+    ensures { λ c. ⌜ c ≡ fieldsAt (now (l .entry)) (commandPlace j) ⌝ }
+{
+    let at = 5 + 6 * j;
+    let code = wide(l[at + 1]);
+    let i = wide(l[at + 2]);
+    let s = wide(l[at + 3]);
+    let o = wide(l[at + 4]);
+    let k = wide(l[at + 5]);
+    Fields { code, i, s, o, k }
+}
