@@ -1,22 +1,15 @@
--- The conditions that this crate's theorems speak of: rules that have a property, bits of a record.
-use Prim.Native.Nat.{ℕ, suc, _<_}
+-- The conditions that this crate's theorems speak of: bits, names and rights of a record.
+use Prim.Native.Nat.{ℕ, _<_}
 use mathlib.Core.Path.{_≡_}
 use mathlib.Core.Bool.{true}
-use mathlib.Core.List.{List, [], _∷_}
 use Rattle.matrix.specs.declared.Name.{Name}
 use Rattle.matrix.specs.declared.Right.{Right}
 use Rattle.matrix.specs.declared.Act.{Act}
 use Rattle.matrix.specs.declared.Act.the-variants.{Transfer, Grant, Delete, CreateObject, DestroyObject, CreateSubject, DestroySubject}
-use Rattle.matrix.specs.declared.Rule.{Rule}
 use Rattle.matrix.specs.declared.Command.{Command}
 use Rattle.matrix.specs.Names.{named}
 use Rattle.matrix.specs.Rights.{codeOf}
 use Rattle.matrix.specs.Shape.{Shape, bitsOf}
-
--- every rule of a list has a property of its place and itself
-abbrev pub Every : (ℕ → Rule → Type 0) → List Rule → Type 0
-Every P [] = Unit
-Every P (r ∷ rs) = P 0 r × Every (λ j. P (suc j)) rs
 
 -- the bit of right z in the cell of row w and column x is one of the record's
 pub record Inside (f : Shape) (z : Right) (w : ℕ) (x : Name) : Type 0 where

@@ -1,5 +1,4 @@
 pub mod Conditions
-pub mod Rules
 pub mod Untouched
 pub mod Stays
 pub mod Top

@@ -28,12 +28,12 @@ use Rattle.matrix.specs.Shape.{Shape, shapeOf, bitsOf, basicsOf, columns}
 use Rattle.matrix.specs.Shaped.{Within}
 use Rattle.matrix.specs.Calls.{rawOf, namesFit, refusalOn, nextOn, runFrom}
 use Rattle.laws.specs.Tests.{way, and-left, and-right}
+use Rattle.laws.specs.Rules.{Every, every-rule}
 use Rattle.laws.specs.Passed.{Taken, taken}
 use Rattle.laws.specs.Changed.{top-put, put-bit, clear-bit, inherit-bit, has-admit}
 use Rattle.codec.specs.Codes.{codeOf-room}
 use Rattle.codec.specs.Columns.{named-nameOf}
-use Rattle.frame.specs.Conditions.{Every, Inside, NamesIn, RightFits}
-use Rattle.frame.specs.Rules.{every-rule}
+use Rattle.frame.specs.Conditions.{Inside, NamesIn, RightFits}
 
 -- a state is within the record where its `top` is n and every set bit is one of the record's
 within-made : {f : Shape} {S : State} → S .top ≡ f .n → ((z : Right) (w : ℕ) (x : Name) → has S z w x ≡ true → Inside f z w x) → Within f S

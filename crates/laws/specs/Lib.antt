@@ -5,3 +5,4 @@ pub mod Counting
 pub mod Passed
 pub mod Changed
 pub mod Walks
+pub mod Rules

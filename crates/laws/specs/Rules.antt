@@ -4,7 +4,11 @@ use mathlib.Core.List.{List, [], _∷_}
 use lib.ListN.{getD}
 use Rattle.matrix.specs.declared.Rule.{Rule}
 use Rattle.matrix.specs.Commands.{ruleOf, rules}
-use Rattle.frame.specs.Conditions.{Every}
+
+-- every rule of a list has a property of its place and itself
+abbrev pub Every : (ℕ → Rule → Type 0) → List Rule → Type 0
+Every P [] = Unit
+Every P (r ∷ rs) = P 0 r × Every (λ j. P (suc j)) rs
 
 -- what every rule of a list has, and the rule beyond it at each place, has the rule at any place
 pub every-getD : (P : ℕ → Rule → Type 0) (rs : List Rule) (j : ℕ) (d : Rule) → Every P rs → ((j : ℕ) → P j d) → P j (getD rs j d)
