@@ -1,7 +1,9 @@
 // The change that an accepted command makes in the bytes of a record that is of the right form.
 
-use matrix::{Act, Command, Name, Right};
-
+use matrix::Act;
+use matrix::Command;
+use matrix::Name;
+use matrix::Right;
 ghost use mathlib.Core.Path.{_≡_};
 ghost use Prim.Native.Nat.{_+_, _<_};
 ghost use Rattle.matrix.specs.Names.{nameOf};
@@ -21,17 +23,9 @@ fn with_bit(v: usize, j: usize, on: bool) -> usize
     ensures { λ r. ⌜ r ≡ withBit j on v ⌝ }
 {
     if cells::bit_of(v, j) {
-        if on {
-            v
-        } else {
-            v - (1 << j)
-        }
+        if on { v } else { v - (1 << j) }
     } else {
-        if on {
-            v + (1 << j)
-        } else {
-            v
-        }
+        if on { v + (1 << j) } else { v }
     }
 }
 

@@ -2,3 +2,4 @@ pub mod Answered
 pub mod Rows
 pub mod Ready
 pub mod Outcomes
+pub mod Carrying

@@ -10,20 +10,23 @@ use borrow.Author.Tests.{ltb-true, eqb-true}
 use Rattle.matrix.specs.declared.Kind.{Kind}
 use Rattle.matrix.specs.declared.Fields.{Fields}
 use Rattle.matrix.specs.declared.Command.{Command}
+use Rattle.matrix.specs.declared.Answer.{Answer}
+use Rattle.matrix.specs.declared.Answer.the-variants.{Accepted, Refused}
 use Rattle.matrix.specs.Names.{nameOf, columnOf}
 use Rattle.matrix.specs.State.{State}
 use Rattle.matrix.specs.Commands.{kindOf, known, ruleOf, fieldsFit, decode}
 use Rattle.matrix.specs.Tests.{test, firstFailed}
 use Rattle.matrix.specs.Changes.{change}
-use Rattle.matrix.specs.Step.{refusalOf, linksWith, refusal, links, next}
+use Rattle.matrix.specs.Step.{refusalOf, walkLinks, linksWith, refusal, links, next, answer}
 use Rattle.matrix.specs.Shape.{Shape, shapeOf, basicsOf}
 use Rattle.matrix.specs.Reading.{stateOf}
 use Rattle.matrix.specs.Calls.{rawOf, namesFit, refusalOn, linksOn, nextOn}
-use Rattle.laws.specs.Tests.{way, and-left, and-right, and-both}
+use Rattle.laws.specs.Tests.{way, clash, and-left, and-right, and-both}
 use Rattle.codec.specs.Columns.{columnOf-nameOf, named-nameOf}
 use Rattle.cells.specs.Station.{Station}
 use Rattle.rules.specs.Needs.{CommandIn, basicOfAct}
 use Rattle.decoding.specs.Decoded.{withinNames}
+use Rattle.commands.specs.Answered.{Answered, Carried}
 use Rattle.commands.specs.Rows.{row-basic}
 use Rattle.commands.specs.Ready.{Fits, commandOf, DecodedTo, fitsAll, RefusedBy}
 
@@ -37,6 +40,23 @@ unfolding firstFailed
 three-tests true true m = itself m
 three-tests true false m = refl
 three-tests false u m = refl
+
+unfit : (t u : Bool) (m : ℕ) → (t && u) ≡ false → cond t (cond u m 7) 6 ≡ cond t 7 6
+unfit true true m h = absurd (clash refl h)
+unfit true false m h = refl
+unfit false u m h = refl
+
+refused-reply : (t : Bool) {r l : ℕ} → r ≡ cond t 7 6 → l ≡ 0 → Refused (cond t 7 6) 0 ≡ answer r l
+refused-reply true e f = sym (ap₂ (λ (r l : ℕ). answer r l) e f)
+refused-reply false e f = sym (ap₂ (λ (r l : ℕ). answer r l) e f)
+
+refused-none : {A : Type 0} (t : Bool) (x y : A) → cond (eqb (cond t 7 6) 0) x y ≡ y
+refused-none true x y = refl
+refused-none false x y = refl
+
+refused-links : {A : Type 0} (t : Bool) (x y : A) → cond (eqb (cond t 7 6) 0 || eqb (cond t 7 6) 13) x y ≡ y
+refused-links true x y = refl
+refused-links false x y = refl
 
 module _ (b : List ℕ) (n p : ℕ) (station : Station b n p) (c : Fields) where
   abbrev S : State
@@ -65,3 +85,46 @@ module _ (b : List ℕ) (n p : ℕ) (station : Station b n p) (c : Fields) where
   next-is : nextOn (shapeOf b) S c ≡ cond (eqb (refusalOn (shapeOf b) S c) 0) (change S d (d .act)) S
   unfolding nextOn next refusalOn
   next-is = refl
+
+  -- a command that is not decoded
+  pub answered-refused : {m : ℕ} → RefusedBy n p c m → Answered b b c (Refused m 0)
+  answered-refused {m} w =
+      let e : refusalOn (shapeOf b) S c ≡ cond (known (c .code)) 7 6 = refusal-is ∙ unfit (known (c .code)) (fitsAll n p c) (refusalOf S d) (w .unfit) in
+      let l : linksOn (shapeOf b) S c ≡ 0 = links-are ∙ ap (λ (r : ℕ). linksWith r S d) e ∙ refused-links (known (c .code)) (walkLinks S d (d .act)) 0 in
+      let s : nextOn (shapeOf b) S c ≡ S = next-is ∙ ap (λ (r : ℕ). cond (eqb r 0) (change S d (d .act)) S) e ∙ refused-none (known (c .code)) (change S d (d .act)) S in
+      record {
+        reply = ap (λ (m : ℕ). Refused m 0) (w .number) ∙ refused-reply (known (c .code)) e l;
+        became = record { shaped = station .shaped; octets = station .octets; shape = refl; state = sym s };
+      }
+
+  -- a decoded command
+  pub answered-decoded : {b′ : List ℕ} {d′ : Command} {kind : Kind} {r : Answer} → DecodedTo n p c d′ kind → Carried b b′ d′ r → Answered b b′ c r
+  answered-decoded {b′} {d′} {r = r} w h =
+      let q : d′ ≡ d = w .command ∙ sym same-command in
+      let k : known (c .code) ≡ true = w .fits .code in
+      let g : fitsAll n p c ≡ true = and-both (w .fits .names) (w .fits .fields) in
+      let e : refusalOn (shapeOf b) S c ≡ refusalOf S d = refusal-is ∙ rw (k, g) refl in
+      let l : linksOn (shapeOf b) S c ≡ linksWith (refusalOf S d) S d = links-are ∙ ap (λ (r : ℕ). linksWith r S d) e in
+      let s : nextOn (shapeOf b) S c ≡ cond (eqb (refusalOf S d) 0) (change S d (d .act)) S = next-is ∙ ap (λ (r : ℕ). cond (eqb r 0) (change S d (d .act)) S) e in
+      let a : r ≡ answer (refusalOf S d) (linksWith (refusalOf S d) S d) = h .reply ∙ ap (λ (d : Command). answer (refusalOf S d) (linksWith (refusalOf S d) S d)) q in
+      let f : stateOf b′ ≡ cond (eqb (refusalOf S d) 0) (change S d (d .act)) S = h .became .state ∙ ap (λ (d : Command). cond (eqb (refusalOf S d) 0) (change S d (d .act)) S) q in
+      record {
+        reply = a ∙ sym (ap₂ (λ (r l : ℕ). answer r l) e l);
+        became = record { shaped = h .became .shaped; octets = h .became .octets; shape = h .became .shape; state = f ∙ sym s };
+      }
+
+  -- a decoded command is on names and rights of the record
+  pub command-in : {d′ : Command} {kind : Kind} → DecodedTo n p c d′ kind → CommandIn b n p d′
+  command-in {d′} w =
+      let names = w .fits .names in
+      let i : (ltb (c .i) n && ltb (c .s) n) ≡ true = and-left (ltb (c .i) n && ltb (c .s) n) (ltb (c .o) (n + p)) names in
+      let k : basicOfAct (ruleOf (c .code) (c .k) .act) < 7 = row-basic (c .code) (c .k) (and-right ((ruleOf (c .code) (c .k) .s || eqb (c .s) 0) && (ruleOf (c .code) (c .k) .o || eqb (c .o) 0)) _ (w .fits .fields)) in
+      let whole : CommandIn b n p (commandOf n c) =
+      record {
+        station = station;
+        initiator = ltb-true (c .i) n (and-left (ltb (c .i) n) (ltb (c .s) n) i);
+        subject = ltb-true (c .s) n (and-right (ltb (c .i) n) (ltb (c .s) n) i);
+        object = named-nameOf n p (c .o) (ltb-true (c .o) (n + p) (and-right (ltb (c .i) n && ltb (c .s) n) (ltb (c .o) (n + p)) names));
+        basic = k;
+      } in
+      subst (λ (d : Command). CommandIn b n p d) (sym (w .command)) whole

@@ -55,9 +55,9 @@ module _ (n p : ℕ) (c : Fields) where
   is-ready true true {d} {kind} e f h =
       let q : d ≡ commandOf n c = cc in
       record {
-        fits = record { code = e; names = and-left _ _ f; fields = and-right _ _ f };
+        fits = record { code = e; names = and-left (withinNames n p c) _ f; fields = and-right (withinNames n p c) _ f };
         command = q;
-        kind-needed = (let g : kind ≡ ruleOf (c .code) (c .k) .kind = cc in g ∙ row-kind (c .code) (c .k)) ∙ ap (λ (d : Command). kindOf (d .act)) (sym q)
+        kind-needed = (let g : kind ≡ ruleOf (c .code) (c .k) .kind = cc in g ∙ row-kind (c .code) (c .k)) ∙ ap (λ (d : Command). kindOf (d .act)) (sym q);
       }
   is-ready true false e f h = let z : _≡_ {A = ℕ} 0 1 = cc in absurd (omega arith)
   is-ready false u e f h = let z : _≡_ {A = ℕ} 0 1 = cc in absurd (omega arith)

@@ -45,12 +45,13 @@ loop-less : tie.Need-loop-less Inv-loop μ-loop
 loop-less c = search needs
 
 loop-again : tie.Need-loop-again Inv-loop μ-loop
-loop-again c = 
-    (search needs,
-    ⊎-elim
-    (λ w. inherit-hit (c .before .before .before .before .before .before .before .args .i) (c .before .before .before .before .before .before .before .args .s) (c .before .before .before .before .before .loop .inv .1) (cell-after (c .before .before .before .before .before .before .before .pre .0) (c .before .before .before .before .before .loop .inv .1) (c .before .before .before .before .before .before .before .pre .2) (c .before .before .before .before .loop-test .taken)) (c .before .before .cell .ensures) (c .before .bit-of .ensures) (w .0 .taken) (became-at (w .5) (w .2 .ensures)))
-    (λ w. became-at (w .1) (inherit-miss (c .before .before .before .before .before .before .before .args .i) (c .before .before .before .before .before .before .before .args .s) (c .before .before .before .before .before .loop .inv .1) (cell-after (c .before .before .before .before .before .before .before .pre .0) (c .before .before .before .before .before .loop .inv .1) (c .before .before .before .before .before .before .before .pre .2) (c .before .before .before .before .loop-test .taken)) (c .before .before .cell .ensures) (c .before .bit-of .ensures) (w .0 .left)))
-    (c .if1 .came))
+loop-again c = (
+  search needs,
+  ⊎-elim
+      (λ w. inherit-hit (c .before .before .before .before .before .before .before .args .i) (c .before .before .before .before .before .before .before .args .s) (c .before .before .before .before .before .loop .inv .1) (cell-after (c .before .before .before .before .before .before .before .pre .0) (c .before .before .before .before .before .loop .inv .1) (c .before .before .before .before .before .before .before .pre .2) (c .before .before .before .before .loop-test .taken)) (c .before .before .cell .ensures) (c .before .bit-of .ensures) (w .0 .taken) (became-at (w .5) (w .2 .ensures)))
+      (λ w. became-at (w .1) (inherit-miss (c .before .before .before .before .before .before .before .args .i) (c .before .before .before .before .before .before .before .args .s) (c .before .before .before .before .before .loop .inv .1) (cell-after (c .before .before .before .before .before .before .before .pre .0) (c .before .before .before .before .before .loop .inv .1) (c .before .before .before .before .before .before .before .pre .2) (c .before .before .before .before .loop-test .taken)) (c .before .before .cell .ensures) (c .before .bit-of .ensures) (w .0 .left)))
+      (c .if1 .came),
+)
 
 same-length : tie.Need-same-length Inv-loop μ-loop
 same-length c = length-after (c .before .before .before .pre .0) (c .before .loop .inv .1)

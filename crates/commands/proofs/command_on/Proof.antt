@@ -1,0 +1,42 @@
+-- `commands::command_on` meets its contract.
+use Rattle.commands.specs.Ready.{decoded-to, refused-by}
+use Rattle.commands.specs.Outcomes.{answered-refused, answered-decoded, command-in}
+use borrow.Author.Needs.{needs}
+use Rattle.commands.proofs.command_on.Statement.{statement}
+use Rattle.commands.proofs.command_on.Tie as tie
+
+decode-requires : tie.Need-decode-requires
+decode-requires c κs = search needs
+
+enum-known-decoded : tie.Need-enum-known-decoded
+enum-known-decoded c = search needs
+
+carry-out-requires : tie.Need-carry-out-requires
+carry-out-requires c κs =
+    let w = decoded-to _ _ _ (c .before .before .before .before .decode .ensures) (c .before .before .decoded .given .1) in
+    (command-in _ _ _ (c .before .before .before .before .before .before .pre) _ w, w .kind-needed)
+
+enum-known-decoded-2 : tie.Need-enum-known-decoded-2
+enum-known-decoded-2 c = search needs
+
+same-length : tie.Need-same-length
+same-length c = search needs
+
+returns : tie.Need-returns
+returns c =
+    answered-decoded _ _ _ (c .before .before .before .before .before .before .before .before .before .pre) _ (decoded-to _ _ _ (c .before .before .before .before .before .before .before .decode .ensures) (c .before .before .before .before .before .decoded .given .1)) (c .before .before .carry-out .ensures)
+
+returns-2 : tie.Need-returns-2
+returns-2 c = answered-refused _ _ _ (c .before .before .before .before .before .pre) _ (refused-by _ _ _ (c .before .before .before .decode .ensures) (c .before .decoded2 .given .1))
+
+pub command-on-spec : {M : Type 1} → statement M
+command-on-spec =
+    tie.close
+    (tie.spec
+    decode-requires
+    enum-known-decoded
+    carry-out-requires
+    enum-known-decoded-2
+    same-length
+    returns
+    returns-2)

@@ -1,0 +1,66 @@
+use Rattle.lanes.specs.LaneLaws.{mark-hit, mark-miss}
+use native.Mathlib.Nat.{le-refl}
+use mathlib.Core.Logic.{⊎-elim}
+use borrow.Author.Needs.{needs}
+use Prim.Native.Nat.{ℕ, _+_, _-_, _/_, _%_, _^_, _≤_, _<_}
+use native.Mathlib.Omega.{arith}
+use mathlib.Core.Path.{_≡_, refl, sym, _∙_, ap}
+use mathlib.Core.Bool.{cond}
+use lib.ListN.{length, getD}
+use Rattle.matrix.specs.Bytes.{bit}
+use Rattle.lanes.specs.Lists.{Stored, stored-none, stored-step, stored-done}
+use Rattle.lanes.proofs.mark.Statement.{statement}
+use Rattle.lanes.proofs.mark.Tie as tie
+
+abbrev Inv-loop : tie.InvT-loop
+Inv-loop last₀ b at w row j₀ last j = (j ≤ w) × Stored j (λ i. cond (bit 0 (getD b (at + i) 0)) row (getD last₀ i 0)) last₀ last
+
+abbrev μ-loop : tie.MeasureT-loop
+μ-loop last₀ b at w row j₀ last j = w - j
+
+loop-holds : tie.Need-loop-holds Inv-loop μ-loop
+loop-holds c = (search needs, stored-none _ _)
+
+element-copy-out-before : tie.Need-element-copy-out-before Inv-loop μ-loop
+element-copy-out-before c = search needs
+
+add-if1 : tie.Need-add-if1 Inv-loop μ-loop
+add-if1 c = search needs
+
+shared-slice-read-if1 : tie.Need-shared-slice-read-if1 Inv-loop μ-loop
+shared-slice-read-if1 c = search needs
+
+element-write-last : tie.Need-element-write-last Inv-loop μ-loop
+element-write-last c = search needs
+
+add-j : tie.Need-add-j Inv-loop μ-loop
+add-j c = search needs
+
+loop-less : tie.Need-loop-less Inv-loop μ-loop
+loop-less c = search needs
+
+loop-again : tie.Need-loop-again Inv-loop μ-loop
+loop-again c =
+    let a = c .before .before .before .before .before .args in
+    let l = c .before .before .before .before .loop in
+    let v : ℕ = getD (a .b .now) (a .at + l .j) 0 in
+    (search needs, stored-step _ _ _ _ _ (l .inv .1) (search needs) (⊎-elim (λ w. w .1 ∙ sym (mark-hit v (a .row) _ (w .0 .taken))) (λ w. w .1 ∙ l .inv .1 .above (l .j) (le-refl (l .j)) ∙ sym (mark-miss v (a .row) _ (w .0 .left))) (c .if1 .came)))
+
+returns : tie.Need-returns Inv-loop μ-loop
+returns c = stored-done _ _ _ _ _ (c .before .loop .inv .0) (c .loop-test .left) (c .before .loop .inv .1)
+
+pub mark-spec : {M : Type 1} → statement M
+mark-spec =
+    tie.close
+    (tie.spec
+    Inv-loop
+    μ-loop
+    loop-holds
+    element-copy-out-before
+    add-if1
+    shared-slice-read-if1
+    element-write-last
+    add-j
+    loop-less
+    loop-again
+    returns)

@@ -1,0 +1,53 @@
+-- What the pass over the rows of a record keeps for each byte column, after r rows.
+use Prim.Native.Nat.{ℕ, zero, suc, _+_, _*_, _≤_, _<_}
+use mathlib.Core.Path.{_≡_}
+use mathlib.Core.Bool.{Bool, true, false, cond}
+use mathlib.Core.List.{List}
+use lib.Bits.{bitOr}
+use lib.ListN.{length, getD}
+use Rattle.matrix.specs.Bounded.{count}
+use Rattle.matrix.specs.Bytes.{bit}
+use Rattle.lanes.specs.Lists.{Holds}
+
+-- the bits that are set in one of the first r numbers
+unfoldable pub merged : ℕ → (ℕ → ℕ) → ℕ
+merged zero f = 0
+merged (suc r) f = bitOr (merged r f) (f r)
+
+-- the highest number below r that passes, or 0 if none does
+unfoldable pub lastOf : ℕ → (ℕ → Bool) → ℕ
+lastOf zero f = 0
+lastOf (suc r) f = cond (f r) r (lastOf r f)
+
+-- the byte of row r and byte column j, where a row has m bytes and the first row begins at byte 7
+abbrev pub byteAt : List ℕ → ℕ → ℕ → ℕ → ℕ
+byteAt b m r j = getD b (7 + r * m + j) 0
+
+-- bit k of the byte of row r and byte column j
+abbrev pub bitIn : List ℕ → ℕ → ℕ → ℕ → ℕ → Bool
+bitIn b m k j r = bit k (byteAt b m r j)
+
+-- The four lists after r rows: the bits seen in each of the m byte columns; and of each of the first w, the number of rows that
+-- have bit 0 (own), the number of rows that have bit 1 (control), and the last row that has bit 0.
+pub record Lanes (b : List ℕ) (m w r : ℕ) (seen own control last : List ℕ) : Type 0 where
+  pub saw : Holds 512 m (λ j. merged r (λ v. byteAt b m v j)) seen
+  pub owned : Holds 128 w (λ j. count r (bitIn b m 0 j)) own
+  pub controlled : Holds 128 w (λ j. count r (bitIn b m 1 j)) control
+  pub owner : Holds 128 w (λ j. lastOf r (bitIn b m 0 j)) last
+
+-- the sizes for which the lists have room
+pub record Room (b : List ℕ) (m w r at : ℕ) : Type 0 where
+  pub bytes : m ≤ 512
+  pub width : w ≤ 128
+  pub inside : w ≤ m
+  pub row : r < 64
+  pub place : at ≡ 7 + r * m
+  pub fits : at + m ≤ length b
+
+-- bytes that hold n rows of m bytes each, for which the lists have room
+pub record Matrix (b : List ℕ) (n m w : ℕ) : Type 0 where
+  pub bytes : m ≤ 512
+  pub width : w ≤ 128
+  pub inside : w ≤ m
+  pub rows : n ≤ 64
+  pub holds : 7 + n * m ≤ length b

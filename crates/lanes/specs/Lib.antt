@@ -1,0 +1,4 @@
+pub mod Lists
+pub mod Lanes
+pub mod LaneLaws
+pub mod RowLaws

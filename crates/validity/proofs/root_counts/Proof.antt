@@ -1,0 +1,16 @@
+use borrow.Author.Tests.{eq-eqb, ne-eqb}
+use Rattle.validity.proofs.root_counts.Statement.{statement}
+use Rattle.validity.proofs.root_counts.Tie as tie
+use Rattle.validity.proofs.root_counts.Reads as reads
+use Rattle.validity.proofs.root_counts.Lts as lts
+
+-- src/lib.rt:26:1
+returns : tie.Need-returns
+returns c = simp (eq-eqb _ _ (c .if1 .taken))
+
+-- src/lib.rt:26:1
+returns-2 : tie.Need-returns-2
+returns-2 c = simp (ne-eqb _ _ (c .if1 .left))
+
+pub root-counts-spec : {M : Type 1} → statement M
+root-counts-spec = tie.close (tie.spec returns returns-2)

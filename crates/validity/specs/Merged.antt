@@ -1,0 +1,91 @@
+-- What numbers merged tell of each of them.
+use Prim.Native.Nat.{ℕ, zero, suc, _+_, _*_, _/_, _%_, _^_, _≤_, _<_}
+use native.Mathlib.Omega.{arith}
+use mathlib.Core.Path.{_≡_, refl, sym, _∙_, ap, subst}
+use mathlib.Core.Logic.{_⊎_, inl, inr, ⊎-elim}
+use mathlib.Core.Bool.{Bool, true, false, cond, not, _&&_, _||_, false≢true}
+use lib.Dec.{eqb}
+use lib.Bits.{bitOr, bitAnd, or-shr, or-mod, or-add-and, and-le-l, and-le-r}
+use borrow.Author.Tests.{eqb-true, eqb-false, eq-eqb}
+use Rattle.matrix.specs.Bounded.{any, all}
+use Rattle.matrix.specs.Bytes.{bit}
+use Rattle.laws.specs.Tests.{way, same-test, and-left, and-right, and-both}
+use Rattle.laws.specs.Bounded.{all-each, each-all}
+use Rattle.lanes.specs.Lanes.{merged}
+use Rattle.codec.specs.Bits.{bit-zero}
+
+or-zero : (a b : ℕ) → eqb (bitOr a b) 0 ≡ (eqb a 0 && eqb b 0)
+or-zero a b = same-test _ _ forth back
+  where
+    total : bitOr a b + bitAnd a b ≡ a + b
+    total = or-add-and a b
+
+    forth : eqb (bitOr a b) 0 ≡ true → (eqb a 0 && eqb b 0) ≡ true
+    forth h =
+        let e : bitOr a b ≡ 0 = eqb-true (bitOr a b) 0 h in
+        and-both (eq-eqb a 0 (omega (arith, total, and-le-l a b, and-le-r a b))) (eq-eqb b 0 (omega (arith, total, and-le-l a b, and-le-r a b)))
+
+    back : (eqb a 0 && eqb b 0) ≡ true → eqb (bitOr a b) 0 ≡ true
+    back h =
+        let p : a ≡ 0 = eqb-true a 0 (and-left _ _ h) in
+        let q : b ≡ 0 = eqb-true b 0 (and-right (eqb a 0) _ h) in
+        eq-eqb (bitOr a b) 0 (omega (arith, total))
+
+-- all of them are zero
+pub merged-zero : (n : ℕ) (f : ℕ → ℕ) → eqb (merged n f) 0 ≡ all n (λ i. eqb (f i) 0)
+unfolding merged all
+merged-zero zero f = refl
+merged-zero (suc n) f = or-zero (merged n f) (f n) ∙ ap (λ (t : Bool). t && eqb (f n) 0) (merged-zero n f)
+
+-- two lists of them are zero together
+pub merged-zeros : (n : ℕ) (f g : ℕ → ℕ) → (eqb (merged n f) 0 && eqb (merged n g) 0) ≡ all n (λ i. eqb (f i) 0 && eqb (g i) 0)
+merged-zeros n f g = rw (merged-zero n f, merged-zero n g) (both n (λ i. eqb (f i) 0) (λ i. eqb (g i) 0))
+  where
+    both : (n : ℕ) (t u : ℕ → Bool) → (all n t && all n u) ≡ all n (λ i. t i && u i)
+    both n t u =
+        same-test _ _
+        (λ h. each-all n _ (λ i l. and-both (all-each n t (and-left _ _ h) i l) (all-each n u (and-right (all n t) _ h) i l)))
+        (λ h. and-both (each-all n t (λ i l. and-left _ _ (all-each n (λ i. t i && u i) h i l)))
+        (each-all n u (λ i l. and-right (t i) _ (all-each n (λ i. t i && u i) h i l))))
+
+-- one of them has the bit
+or-bit : (k a b : ℕ) → bit k (bitOr a b) ≡ (bit k a || bit k b)
+unfolding bit
+or-bit k a b =
+    ap (λ (x : ℕ). eqb (x % 2) 1) (or-shr a b k) ∙ ap (λ (x : ℕ). eqb x 1) (or-mod (a / 2 ^ k) (b / 2 ^ k) 1)
+    ∙ digits (a / 2 ^ k % 2) (b / 2 ^ k % 2) (omega arith) (omega arith)
+  where
+    digits : (x y : ℕ) → x < 2 → y < 2 → eqb (bitOr x y) 1 ≡ (eqb x 1 || eqb y 1)
+    digits zero zero h l = refl
+    digits zero (suc zero) h l = refl
+    digits (suc zero) zero h l = refl
+    digits (suc zero) (suc zero) h l = refl
+    digits zero (suc (suc y)) h l = absurd (omega arith)
+    digits (suc zero) (suc (suc y)) h l = absurd (omega arith)
+    digits (suc (suc x)) zero h l = absurd (omega arith)
+    digits (suc (suc x)) (suc y) h l = absurd (omega arith)
+
+pub merged-bit : (k n : ℕ) (f : ℕ → ℕ) → bit k (merged n f) ≡ any n (λ i. bit k (f i))
+unfolding merged any
+merged-bit k zero f = bit-zero k
+merged-bit k (suc n) f = or-bit k (merged n f) (f n) ∙ ap (λ (t : Bool). t || bit k (f n)) (merged-bit k n f)
+
+-- a row of 2 k bytes is zero where each pair of them is
+pub all-pairs : (k : ℕ) (t : ℕ → Bool) → all (2 * k) t ≡ all k (λ c. t (2 * c) && t (2 * c + 1))
+all-pairs k t =
+    same-test _ _
+    (λ h. each-all k _ (λ c l. and-both (all-each (2 * k) t h (2 * c) (omega arith)) (all-each (2 * k) t h (2 * c + 1) (omega arith))))
+    (λ h. each-all (2 * k) t (λ j l. pair h j l (way (eqb (j % 2) 0))))
+  where
+    at : all k (λ c. t (2 * c) && t (2 * c + 1)) ≡ true → (j : ℕ) → j < 2 * k → (t (2 * (j / 2)) && t (2 * (j / 2) + 1)) ≡ true
+    at h j l = all-each k (λ c. t (2 * c) && t (2 * c + 1)) h (j / 2) (omega arith)
+
+    pair : all k (λ c. t (2 * c) && t (2 * c + 1)) ≡ true → (j : ℕ) → j < 2 * k → (eqb (j % 2) 0 ≡ true) ⊎ (eqb (j % 2) 0 ≡ false) → t j ≡ true
+    pair h j l (inl e) =
+        let z : j % 2 ≡ 0 = eqb-true (j % 2) 0 e in
+        let q : 2 * (j / 2) ≡ j = omega arith in
+        subst (λ (i : ℕ). t i ≡ true) q (and-left _ _ (at h j l))
+    pair h j l (inr e) =
+        let z : j % 2 ≡ 0 → ⊥ = eqb-false (j % 2) 0 e in
+        let q : 2 * (j / 2) + 1 ≡ j = omega arith in
+        subst (λ (i : ℕ). t i ≡ true) q (and-right (t (2 * (j / 2))) _ (at h j l))

@@ -1,0 +1,121 @@
+-- The tests of a whole record, from those that the code makes one after another.
+use Prim.Native.Nat.{ℕ, zero, suc, _+_, _-_, _*_, _≤_, _<_}
+use native.Mathlib.Omega.{arith}
+use mathlib.Core.Path.{_≡_, refl, sym, _∙_, ap}
+use mathlib.Core.Bool.{Bool, true, false, cond, not, _&&_, _||_}
+use mathlib.Core.List.{List}
+use lib.Dec.{eqb, leb}
+use lib.ListN.{length, getD, replicate, length-replicate, getD-replicate}
+use borrow.Author.Tests.{eqb-true, leb-true, eq-eqb, ne-eqb}
+use Rattle.matrix.specs.Bounded.{all, count}
+use Rattle.matrix.specs.Bytes.{numberAt}
+use Rattle.matrix.specs.Shape.{Shape, shapeOf, knownVersion, inRange, sized, columns, countOf, sizeOf}
+use Rattle.matrix.specs.Shaped.{Octets}
+use Rattle.matrix.specs.Reading.{stateOf}
+use Rattle.matrix.specs.Record.{validMatrix}
+use Rattle.laws.specs.Tests.{and-left, and-right}
+use Rattle.lanes.specs.Lists.{Holds}
+use Rattle.lanes.specs.Lanes.{merged, lastOf, bitIn, Lanes}
+use Rattle.validity.specs.Followed.{followed}
+use Rattle.validity.specs.Fast.{testsPass}
+use Rattle.validity.specs.Cells.{ownBit, controlBit, zeroCell}
+use Rattle.validity.specs.Valid.{valid-tests}
+use Rattle.validity.specs.Checks.{subjectTest, plainTest, ownerIn, Inside}
+use Rattle.validity.specs.Passed.{all-passed, owners-inside}
+use Rattle.validity.specs.Header.{Headed, Whole}
+
+-- lists of zeros, before the first row
+pub lanes-none : (b : List ℕ) (m w : ℕ) → m ≤ 512 → w ≤ 128 → Lanes b m w 0 (replicate 512 0) (replicate 128 0) (replicate 128 0) (replicate 128 0)
+unfolding merged count lastOf
+lanes-none b m w h l =
+    record {
+      saw = record { size = length-replicate {A = ℕ} 512 0; value = λ j g. getD-replicate 512 j 0 0 (omega arith) };
+      owned = zeros;
+      controlled = zeros;
+      owner = zeros;
+    }
+  where
+    zeros : Holds 128 w (λ j. 0) (replicate 128 0)
+    zeros = record { size = length-replicate {A = ℕ} 128 0; value = λ j g. getD-replicate 128 j 0 0 (omega arith) }
+
+module _ (b : List ℕ) (n p : ℕ) (seen own control last : List ℕ) (whole : Whole b n p) (octets : Octets b)
+    (lanes : Lanes b (2 * (n + p)) (2 * n) n seen own control last) where
+  abbrev S : Bool
+  S = all n (subjectTest b (2 * (n + p)) seen own control)
+
+  abbrev P : Bool
+  P = all p (λ i. plainTest seen (2 * (n + i)))
+
+  abbrev R : Bool
+  R = all n (λ s. eqb (followed (ownerIn last) 64 s) 0)
+
+  valid-whole : (S && P && R) ≡ validMatrix (shapeOf b) (stateOf b)
+  valid-whole =
+      let some : 0 < n = whole .head .low in
+      let most : n ≤ 64 = whole .head .high in
+      let e : n ≡ shapeOf b .n = whole .head .subjects in
+      let q : p ≡ shapeOf b .p = whole .head .plain in
+      all-passed b n (n + p) (2 * (n + p)) seen own control last lanes refl (omega arith) p refl some
+      ∙ (λ i. testsPass (e i) (q i) (ownBit b (2 * (e i + q i))) (controlBit b (2 * (e i + q i))) (zeroCell b (2 * (e i + q i))))
+      ∙ valid-tests b octets (omega arith) (omega arith)
+
+  pub table-inside : Inside n (ownerIn last)
+  table-inside = owners-inside b n (n + p) (2 * (n + p)) seen own control last lanes refl (omega arith) (whole .head .low)
+
+  -- a subject is wrong; a plain column is wrong; what is left is whether every owner is followed to U
+  pub subjects-wrong : S ≡ false → false ≡ validMatrix (shapeOf b) (stateOf b)
+  subjects-wrong h = let e : (S && P && R) ≡ false = rw h refl in sym e ∙ valid-whole
+
+  pub plain-wrong : S ≡ true → P ≡ false → false ≡ validMatrix (shapeOf b) (stateOf b)
+  plain-wrong g h = let e : (S && P && R) ≡ false = rw (g, h) refl in sym e ∙ valid-whole
+
+  pub owners-left : (r : Bool) → S ≡ true → P ≡ true → r ≡ R → r ≡ validMatrix (shapeOf b) (stateOf b)
+  owners-left r g h q = let e : (S && P && R) ≡ R = rw (g, h) refl in q ∙ sym e ∙ valid-whole
+
+-- ---- the header
+
+pub version-read : (b : List ℕ) → getD b 0 0 ≡ 1 → knownVersion (shapeOf b .version) ≡ true
+unfolding shapeOf
+version-read b h = eq-eqb (getD b 0 0) 1 h
+
+pub version-wrong : (b : List ℕ) → (getD b 0 0 ≡ 1 → ⊥) → knownVersion (shapeOf b .version) ≡ false
+unfolding shapeOf
+version-wrong b h = ne-eqb (getD b 0 0) 1 h
+
+pub range-read : (b : List ℕ) (r t : Bool) → r ≡ (leb 1 (getD b 5 0) && leb (getD b 5 0) 64 && leb (getD b 6 0) 192) → r ≡ t → inRange (shapeOf b) ≡ t
+unfolding shapeOf
+range-read b r t e q = sym e ∙ q
+
+pub headed : (b : List ℕ) → 7 ≤ length b → inRange (shapeOf b) ≡ true → Headed b (getD b 5 0) (getD b 6 0)
+unfolding shapeOf
+headed b long h =
+    record {
+      long = long;
+      subjects = refl;
+      plain = refl;
+      low = leb-true 1 (getD b 5 0) (and-left _ _ (and-left _ _ h));
+      high = leb-true (getD b 5 0) 64 (and-right (leb 1 (getD b 5 0)) _ (and-left _ _ h));
+      most = leb-true (getD b 6 0) 192 (and-right (leb 1 (getD b 5 0) && leb (getD b 5 0) 64) _ h);
+    }
+
+pub whole-read : (b : List ℕ) → Headed b (getD b 5 0) (getD b 6 0) → sized b ≡ true → Whole b (getD b 5 0) (getD b 6 0)
+unfolding shapeOf
+whole-read b f h = record { head = f; size = eqb-true (length b) _ (and-right (eqb (numberAt b 1 4) (countOf (shapeOf b))) _ h) }
+
+-- L is right, and the true length is left; L is wrong
+size-read : (b : List ℕ) (n p : ℕ) → Headed b n p → sizeOf (shapeOf b) ≡ 7 + 2 * (n * (n + p))
+unfolding shapeOf
+size-read b n p f = let e : shapeOf b .n ≡ n = sym (f .subjects) in let q : shapeOf b .p ≡ p = sym (f .plain) in λ i. 7 + 2 * (e i * (e i + q i))
+
+pub count-right : (b : List ℕ) (n p l : ℕ) → Headed b n p → l ≡ numberAt b 1 4 → l ≡ 7 + 2 * (n * (n + p)) - 5
+    → eqb (length b) (7 + 2 * (n * (n + p))) ≡ sized b
+count-right b n p l f e q =
+    let z : sizeOf (shapeOf b) ≡ 7 + 2 * (n * (n + p)) = size-read b n p f in
+    let c : eqb (numberAt b 1 4) (countOf (shapeOf b)) ≡ true = eq-eqb _ _ (sym e ∙ q ∙ ap (λ (x : ℕ). x - 5) (sym z)) in
+    ap (λ (x : ℕ). eqb (length b) x) (sym z) ∙ rw c refl
+
+pub count-wrong : (b : List ℕ) (n p l : ℕ) → Headed b n p → l ≡ numberAt b 1 4 → (l ≡ 7 + 2 * (n * (n + p)) - 5 → ⊥) → false ≡ sized b
+count-wrong b n p l f e ne =
+    let z : sizeOf (shapeOf b) ≡ 7 + 2 * (n * (n + p)) = size-read b n p f in
+    let c : eqb (numberAt b 1 4) (countOf (shapeOf b)) ≡ false = ne-eqb _ _ (λ h. ne (e ∙ h ∙ ap (λ (x : ℕ). x - 5) z)) in
+    rw c refl
