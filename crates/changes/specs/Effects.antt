@@ -18,9 +18,9 @@ use Rattle.matrix.specs.Names.{nameOf, columnOf}
 use Rattle.matrix.specs.State.{put, clear}
 use Rattle.matrix.specs.Reading.{stateOf}
 use Rattle.matrix.specs.Changes.{admit, inherit, inColumn, inCross, change}
-use Rattle.codec.specs.Columns.{nameOf-columnOf}
+use Rattle.codec.specs.Columns.{nameOf-columnOf, named-below}
 use Rattle.cells.specs.Station.{Station}
-use Rattle.states.specs.Reads.{top-is, named-column}
+use Rattle.states.specs.Reads.{top-is}
 use Rattle.rules.specs.Needs.{basicOfAct, CommandIn}
 use Rattle.changes.specs.Became.{Became}
 use Rattle.changes.specs.Passed.{inRow}
@@ -76,7 +76,7 @@ basic-of h e = subst (λ (a : Act). basicOfAct a < 7) e (h .basic)
 
 -- the object has a column of the record
 pub object-column : {b : List ℕ} {n p d : ℕ} {c : Command} → CommandIn b n p c → d ≡ columnOf (c .o) → d < n + p
-object-column {n = n} {p = p} {c = c} h e = rw e (named-column n p (c .o) (h .object))
+object-column {n = n} {p = p} {c = c} h e = rw e (named-below n p (c .o) (h .object))
 
 -- the change that the act of a command makes is the command's
 pub acted : {b b′ : List ℕ} (c : Command) {a : Act} → c .act ≡ a → Became b b′ (change (stateOf b) c a)

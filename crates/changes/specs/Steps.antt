@@ -13,11 +13,11 @@ use Rattle.matrix.specs.Shape.{Shape, shapeOf, bitsOf, columns, sizeOf}
 use Rattle.matrix.specs.Reading.{cellAt, setCell, stateOf}
 use Rattle.codec.specs.Bits.{withBit}
 use Rattle.codec.specs.Cells.{shape-set, shaped-set, octets-set}
-use Rattle.codec.specs.Columns.{nameOf-columnOf}
+use Rattle.codec.specs.Columns.{nameOf-columnOf, named-below}
 use Rattle.codec.specs.Update.{state-put, state-clear}
 use Rattle.cells.specs.Station.{Station, Cell}
 use Rattle.states.specs.Needs.{basicOf, BitIn}
-use Rattle.states.specs.Reads.{code-small, named-column}
+use Rattle.states.specs.Reads.{code-small}
 use Rattle.changes.specs.Became.{Became}
 
 -- nothing is changed
@@ -95,7 +95,7 @@ became-clear {b} {r = r} {c = c} h e =
 
 -- a bit of the record, by the name's column
 pub bit-cell : {b : List ℕ} {n p w c : ℕ} {y : Right} {x : Name} → BitIn b n p y w x → c ≡ columnOf x → Cell b n p w c
-bit-cell {n = n} {p = p} {x = x} h e = record { station = h .station; row = h .row; column = rw e (named-column n p x (h .column)) }
+bit-cell {n = n} {p = p} {x = x} h e = record { station = h .station; row = h .row; column = rw e (named-below n p x (h .column)) }
 
 pub became-named : {b b′ : List ℕ} {n p w c : ℕ} {y : Right} {x : Name} (on : Bool) → BitIn b n p y w x → c ≡ columnOf x
     → Became b b′ (put y w (nameOf n c) on (stateOf b)) → Became b b′ (put y w x on (stateOf b))

@@ -1,9 +1,9 @@
 -- A right and its code determine each other.
-use Prim.Native.Nat.{ℕ, zero, suc, _+_, _*_, _/_, _%_, _≤_}
+use Prim.Native.Nat.{ℕ, zero, suc, _+_, _-_, _*_, _/_, _%_, _≤_, _<_}
 use native.Mathlib.Omega.{arith}
-use mathlib.Core.Path.{_≡_, refl, sym, _∙_, ap}
+use mathlib.Core.Path.{_≡_, refl, sym, _∙_, ap, subst}
 use mathlib.Core.Logic.{⊎-elim}
-use mathlib.Core.Bool.{true, false, cond, _&&_, false≢true}
+use mathlib.Core.Bool.{true, false, cond, _&&_}
 use lib.Dec.{eqb}
 use borrow.Author.Tests.{eqb-true, eqb-false, eq-eqb, ne-eqb}
 use Rattle.matrix.specs.declared.Form.{Form}
@@ -11,7 +11,9 @@ use Rattle.matrix.specs.declared.Form.the-variants.{Plain, Starred}
 use Rattle.matrix.specs.declared.Right.{Right}
 use Rattle.matrix.specs.declared.Right.the-variants.{Own, Control, Basic}
 use Rattle.matrix.specs.Rights.{codeOf, rightOf, sameForm}
-use Rattle.laws.specs.Tests.{way, fails, same-test, and-left, and-right, and-both}
+use Rattle.matrix.specs.Touched.{sameRight}
+use Rattle.laws.specs.Tests.{way, same-test}
+use Rattle.laws.specs.Same.{sameRight-refl, sameRight-eq}
 
 pub codeOf-rightOf : (j : ℕ) → codeOf (rightOf j) ≡ j
 codeOf-rightOf zero = refl
@@ -49,17 +51,17 @@ pub codeOf-above : (k : ℕ) (f : Form) → 2 ≤ codeOf (Basic k f)
 codeOf-above k Plain = omega arith
 codeOf-above k Starred = omega arith
 
--- codes of basic rights are the same where the numbers and the forms are
-codes-same : (a j k : ℕ) → eqb (a + 2 * j) (a + 2 * k) ≡ (eqb j k && true)
-codes-same a j k =
-    same-test (eqb (a + 2 * j) (a + 2 * k)) (eqb j k && true) (λ h. and-both (eq-eqb j k (omega (arith, eqb-true (a + 2 * j) (a + 2 * k) h))) refl)
-    (λ h. eq-eqb (a + 2 * j) (a + 2 * k) (omega (arith, eqb-true j k (and-left (eqb j k) true h))))
+-- a cell of w bytes has room for the basic rights below 4 w - 1
+pub codeOf-room : (w k : ℕ) (f : Form) → k < 4 * w - 1 → codeOf (Basic k f) < 8 * w
+codeOf-room w k Plain h = omega arith
+codeOf-room w k Starred h = omega arith
 
-codes-differ : (a b j k : ℕ) → (a + 2 * j ≡ b + 2 * k → ⊥) → eqb (a + 2 * j) (b + 2 * k) ≡ (eqb j k && false)
-codes-differ a b j k h = ne-eqb (a + 2 * j) (b + 2 * k) h ∙ sym (fails (eqb j k && false) (λ e. false≢true (and-right (eqb j k) false e)))
+-- codes are the same where the rights are
+pub codeOf-test : (z y : Right) → eqb (codeOf z) (codeOf y) ≡ sameRight z y
+codeOf-test z y =
+    same-test (eqb (codeOf z) (codeOf y)) (sameRight z y)
+    (λ h. subst (λ (u : Right). sameRight z u ≡ true) (codeOf-same z y (eqb-true (codeOf z) (codeOf y) h)) (sameRight-refl z))
+    (λ h. eq-eqb (codeOf z) (codeOf y) (ap codeOf (sameRight-eq z y h)))
 
 pub codeOf-basic : (j : ℕ) (g : Form) (k : ℕ) (f : Form) → eqb (codeOf (Basic j g)) (codeOf (Basic k f)) ≡ (eqb j k && sameForm g f)
-codeOf-basic j Plain k Plain = codes-same 2 j k
-codeOf-basic j Plain k Starred = codes-differ 2 3 j k (λ h. omega arith)
-codeOf-basic j Starred k Plain = codes-differ 3 2 j k (λ h. omega arith)
-codeOf-basic j Starred k Starred = codes-same 3 j k
+codeOf-basic j g k f = codeOf-test (Basic j g) (Basic k f)

@@ -25,7 +25,7 @@ use Rattle.codec.specs.Codes.{codeOf-rightOf, rightOf-codeOf}
 use Rattle.codec.specs.Numbers.{bytes-numberAt}
 use Rattle.codec.specs.Cells.{cell-below, cell-inside}
 use Rattle.codec.specs.Columns.{nameOf-columnOf, named-below, same-state}
-use Rattle.codec.specs.Update.{has-state, bit-read}
+use Rattle.codec.specs.Update.{has-state, bit-named, bit-read}
 use Rattle.codec.specs.Blocks.{joined-same, joined-parts}
 use Rattle.codec.specs.Written.{shape-write, cell-write}
 
@@ -151,8 +151,7 @@ write-read f S g i =
     inside : (y : Right) (w : ℕ) (x : Name) → w < f .n → named (f .n) (f .p) x ≡ true → codeOf y < bitsOf f
         → has (stateOf (bytesOf f S)) y w x ≡ has S y w x
     inside y w x row column room =
-        ap (has (stateOf (bytesOf f S)) y w) (sym name) ∙ ap (λ (e : Shape). has (stateOf (bytesOf f S)) y w (nameOf (e .n) c)) (sym shape)
-        ∙ bit-read (bytesOf f S) w c (rw shape row) (rw shape below) y (rw shape room) ∙ ap (bit (codeOf y)) (cell-write f S w c g row below)
+        bit-named (bytesOf f S) y w x (rw shape row) (rw shape column) (rw shape room) ∙ ap (bit (codeOf y)) (cell-write f S w c g row below)
         ∙ bit-fromBits (bitsOf f) (λ j. has S (rightOf j) w (nameOf (f .n) c)) (codeOf y) room
         ∙ ap (λ (z : Right). has S z w (nameOf (f .n) c)) (rightOf-codeOf y) ∙ ap (has S y w) name
       where

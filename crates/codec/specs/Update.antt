@@ -1,7 +1,7 @@
 -- What a stored cell does to the state that is read: one bit of it set or cleared is that bit put in the state, and zero there clears the
 -- state's cell.
 use Prim.Native.Nat.{ℕ, _^_, _<_}
-use mathlib.Core.Path.{_≡_, refl, sym, _∙_, ap, subst}
+use mathlib.Core.Path.{_≡_, refl, sym, _∙_, ap}
 use mathlib.Core.Logic.{⊎-elim}
 use mathlib.Core.Bool.{Bool, true, false, cond, _&&_}
 use mathlib.Core.List.{List}
@@ -19,7 +19,7 @@ use Rattle.matrix.specs.Shape.{Shape, shapeOf, bitsOf, columns}
 use Rattle.matrix.specs.Reading.{cellAt, setCell, bitAt, stateOf}
 use Rattle.matrix.specs.Shaped.{Shaped, Octets}
 use Rattle.laws.specs.Tests.{way, clash}
-use Rattle.laws.specs.Same.{isCell-row, isCell-column, isCell-same}
+use Rattle.laws.specs.Same.{isCell-at, isCell-row, isCell-column}
 use Rattle.codec.specs.Bits.{bit-zero, bit-beyond, withBit, bit-withBit, withBit-below}
 use Rattle.codec.specs.Cells.{shape-set, cell-below, cell-set-same, cell-set-other}
 use Rattle.codec.specs.Columns.{columnOf-nameOf, named-nameOf, nameOf-columnOf, named-below, same-state, has-put, top-put, has-clear}
@@ -30,10 +30,6 @@ unfolding stateOf
 has-state b Own w x = refl
 has-state b Control w x = refl
 has-state b (Basic k f) w x = refl
-
--- the tests of a bit's row, column and number, apart from the bit
-within : (t u v a : Bool) → t ≡ true → u ≡ true → v ≡ true → (t && u && v && a) ≡ a
-within t u v a p q r = rw (p, q, r) refl
 
 -- where the tests before the bit pass, two bits are the same if they are the same at all
 same-within : (t u v a d : Bool) → (t ≡ true → u ≡ true → a ≡ d) → (t && u && v && a) ≡ (t && u && v && d)
@@ -51,14 +47,21 @@ none-beyond b j w x h = rw h (nothing (ltb w (shapeOf b .n)) (named (shapeOf b .
     nothing true false a = refl
     nothing false u a = refl
 
+-- a bit of a row and a name of the record
+pub bitAt-named : (b : List ℕ) (j w : ℕ) (x : Name) → w < shapeOf b .n → named (shapeOf b .n) (shapeOf b .p) x ≡ true
+    → j < bitsOf (shapeOf b) → bitAt b j w x ≡ bit j (cellAt b w (columnOf x))
+unfolding bitAt
+bitAt-named b j w x row column room = rw (lt-ltb w (shapeOf b .n) row, column, lt-ltb j (bitsOf (shapeOf b)) room) refl
+
+pub bit-named : (b : List ℕ) (y : Right) (w : ℕ) (x : Name) → w < shapeOf b .n → named (shapeOf b .n) (shapeOf b .p) x ≡ true
+    → codeOf y < bitsOf (shapeOf b) → has (stateOf b) y w x ≡ bit (codeOf y) (cellAt b w (columnOf x))
+bit-named b y w x row column room = has-state b y w x ∙ bitAt-named b (codeOf y) w x row column room
+
 module _ (b : List ℕ) (r c : ℕ) (row : r < shapeOf b .n) (column : c < columns (shapeOf b)) where
   -- a bit of a cell of the record
   pub bitAt-cell : (j : ℕ) → j < bitsOf (shapeOf b) → bitAt b j r (nameOf (shapeOf b .n) c) ≡ bit j (cellAt b r c)
-  unfolding bitAt
   bitAt-cell j h =
-      within (ltb r (shapeOf b .n)) (named (shapeOf b .n) (shapeOf b .p) (nameOf (shapeOf b .n) c)) (ltb j (bitsOf (shapeOf b)))
-      (bit j (cellAt b r (columnOf (nameOf (shapeOf b .n) c)))) (lt-ltb r (shapeOf b .n) row)
-      (named-nameOf (shapeOf b .n) (shapeOf b .p) c column) (lt-ltb j (bitsOf (shapeOf b)) h)
+      bitAt-named b j r (nameOf (shapeOf b .n) c) row (named-nameOf (shapeOf b .n) (shapeOf b .p) c column) h
       ∙ ap (λ (d : ℕ). bit j (cellAt b r d)) (columnOf-nameOf (shapeOf b .n) c)
 
   pub bit-read : (y : Right) → codeOf y < bitsOf (shapeOf b) → has (stateOf b) y r (nameOf (shapeOf b .n) c) ≡ bit (codeOf y) (cellAt b r c)
@@ -113,7 +116,7 @@ bitAt-set b r c v j w x s row column below = ⊎-elim here other (way (isCell r 
         apart : named n p x ≡ true → r ≡ w → c ≡ columnOf x → ⊥
         apart u h l =
             let q : nameOf n c ≡ x = ap (nameOf n) l ∙ nameOf-columnOf n p x u in
-            clash (subst (λ (y : Name). isCell r y w x ≡ true) (sym q) (subst (λ (i : ℕ). isCell i x w x ≡ true) (sym h) (isCell-same w x))) e
+            clash (isCell-at r (nameOf n c) w x (sym h) (sym q)) e
 
 -- ---- the state
 

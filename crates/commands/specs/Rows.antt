@@ -7,7 +7,7 @@ use lib.Dec.{eqb, ltb}
 use borrow.Author.Tests.{ltb-true}
 use Rattle.matrix.specs.declared.Rule.{Rule}
 use Rattle.matrix.specs.Commands.{kindOf, ruleOf}
-use Rattle.frame.specs.Passed.{every-rule}
+use Rattle.laws.specs.Rules.{every-rule}
 use Rattle.rules.specs.Needs.{basicOfAct}
 
 -- the kind that the row says is the act's

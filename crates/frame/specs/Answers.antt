@@ -15,8 +15,8 @@ use Rattle.matrix.specs.Commands.{Raw, known, ruleOf, rules, fieldsFit, decode}
 use Rattle.matrix.specs.Tests.{test, commandTests}
 use Rattle.matrix.specs.Step.{refusalOf, refusal, links, walkLinks, answer, numberOf}
 use Rattle.laws.specs.Tests.{way}
-use Rattle.frame.specs.Conditions.{Every}
-use Rattle.frame.specs.Passed.{first-number, every-rule}
+use Rattle.laws.specs.Rules.{Every, every-rule}
+use Rattle.laws.specs.Passed.{first-number}
 
 -- a number is 0 or one of 6 to 14
 abbrev InRange : ℕ → Type 0

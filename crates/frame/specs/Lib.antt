@@ -1,6 +1,4 @@
 pub mod Conditions
-pub mod Bits
-pub mod Passed
 pub mod Untouched
 pub mod Stays
 pub mod Top

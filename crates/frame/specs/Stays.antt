@@ -1,7 +1,7 @@
 -- A command on a record stays within the record: its names, its rights and its `top`.
 use Prim.Native.Nat.{ℕ, suc, _+_, _≤_, _<_, max}
 use native.Mathlib.Omega.{arith}
-use mathlib.Core.Path.{_≡_, refl, sym, _∙_}
+use mathlib.Core.Path.{_≡_, sym, _∙_}
 use mathlib.Core.Logic.{⊎-elim}
 use mathlib.Core.Bool.{Bool, true, false, cond, _&&_, _||_}
 use mathlib.Core.List.{List, [], _∷_}
@@ -23,15 +23,17 @@ use Rattle.matrix.specs.Rights.{codeOf}
 use Rattle.matrix.specs.State.{State, has, put, clear}
 use Rattle.matrix.specs.Commands.{ruleOf, rules, decode}
 use Rattle.matrix.specs.Changes.{change, admit, inherit, inColumn, inCross}
-use Rattle.matrix.specs.Touched.{sameRight, isBit}
 use Rattle.matrix.specs.Step.{refusal, next}
 use Rattle.matrix.specs.Shape.{Shape, shapeOf, bitsOf, basicsOf, columns}
 use Rattle.matrix.specs.Shaped.{Within}
 use Rattle.matrix.specs.Calls.{rawOf, namesFit, refusalOn, nextOn, runFrom}
-use Rattle.laws.specs.Tests.{way, and-left, and-right, or-cases}
-use Rattle.frame.specs.Bits.{chosen, kept, sameRight-eq, isBit-right, isBit-row, isBit-column, has-put, has-clear, has-inherit, has-admit}
-use Rattle.frame.specs.Conditions.{Allowed, Every, Inside, NamesIn, RightFits}
-use Rattle.frame.specs.Passed.{allowed, every-rule}
+use Rattle.laws.specs.Tests.{way, and-left, and-right}
+use Rattle.laws.specs.Rules.{Every, every-rule}
+use Rattle.laws.specs.Passed.{Taken, taken}
+use Rattle.laws.specs.Changed.{top-put, put-bit, clear-bit, inherit-bit, has-admit}
+use Rattle.codec.specs.Codes.{codeOf-room}
+use Rattle.codec.specs.Columns.{named-nameOf}
+use Rattle.frame.specs.Conditions.{Inside, NamesIn, RightFits}
 
 -- a state is within the record where its `top` is n and every set bit is one of the record's
 within-made : {f : Shape} {S : State} → S .top ≡ f .n → ((z : Right) (w : ℕ) (x : Name) → has S z w x ≡ true → Inside f z w x) → Within f S
@@ -41,41 +43,22 @@ within-inside : {f : Shape} {S : State} → Within f S → (z : Right) (w : ℕ)
 within-inside v z w x h = record { row = v .row z w x h; column = v .column z w x h; right = v .right z w x h }
 
 -- setting and clearing one of the record's bits
-put-top : (y : Right) (r : ℕ) (c : Name) (v : Bool) (S : State) → put y r c v S .top ≡ S .top
-put-top Own r c v S = refl
-put-top Control r c v S = refl
-put-top (Basic k f) r c v S = refl
-
 pub within-put : (f : Shape) (y : Right) (r : ℕ) (c : Name) (v : Bool) (S : State) → Within f S → Inside f y r c → Within f (put y r c v S)
-within-put f y r c v S k p = within-made (put-top y r c v S ∙ k .top) each
-  where
-    named-bit : (z : Right) (w : ℕ) (x : Name) → isBit y r c z w x ≡ true → Inside f z w x
-    named-bit z w x e = rw (isBit-right y r c z w x e, isBit-row y r c z w x e, isBit-column y r c z w x e) p
-
-    each : (z : Right) (w : ℕ) (x : Name) → has (put y r c v S) z w x ≡ true → Inside f z w x
-    each z w x h =
-        ⊎-elim (λ e. named-bit z w x e) (λ e. within-inside k z w x e)
-        (chosen (isBit y r c z w x) v (has S z w x) (sym (has-put y r c v S z w x) ∙ h))
+within-put f y r c v S k p =
+    within-made (top-put y r c v S ∙ k .top)
+    (λ z w x h. ⊎-elim (λ e. within-inside k z w x e) (λ e. rw (e .0, e .1, e .2) p) (put-bit y r c v S z w x h))
 
 pub within-clear : (f : Shape) (gone : ℕ → Name → Bool) (S : State) → Within f S → Within f (clear gone S)
-within-clear f gone S k =
-    within-made (k .top) (λ z w x h. within-inside k z w x (kept (gone w x) (has S z w x) (sym (has-clear gone S z w x) ∙ h)))
+within-clear f gone S k = within-made (k .top) (λ z w x h. within-inside k z w x (clear-bit gone S z w x h .1))
 
 pub within-inherit : (f : Shape) (i s : ℕ) (S : State) → Within f S → i < f .n → Within f (inherit i s S)
-within-inherit f i s S k l = within-made (k .top) each
+within-inherit f i s S k l =
+    within-made (k .top) (λ z w x h. ⊎-elim (λ e. within-inside k z w x e) (λ e. gained z w x (e .0) (e .1) (e .2)) (inherit-bit i s S z w x h))
   where
-    gained : (z : Right) (w : ℕ) (x : Name) → (sameRight z Own && eqb w i && S .owns s x) ≡ true → Inside f z w x
-    gained z w x e =
-        let both = and-left (sameRight z Own && eqb w i) (S .owns s x) e in
-        let from = within-inside k Own s x (and-right (sameRight z Own && eqb w i) (S .owns s x) e) in
-        let own : z ≡ Own = sameRight-eq z Own (and-left (sameRight z Own) (eqb w i) both) in
-        let heir : w ≡ i = eqb-true w i (and-right (sameRight z Own) (eqb w i) both) in
+    gained : (z : Right) (w : ℕ) (x : Name) → z ≡ Own → w ≡ i → S .owns s x ≡ true → Inside f z w x
+    gained z w x own heir e =
+        let from = within-inside k Own s x e in
         record { row = rw heir l; column = from .column; right = rw own (from .right) }
-
-    each : (z : Right) (w : ℕ) (x : Name) → has (inherit i s S) z w x ≡ true → Inside f z w x
-    each z w x h =
-        ⊎-elim (λ e. within-inside k z w x e) (λ e. gained z w x e)
-        (or-cases (has S z w x) (sameRight z Own && eqb w i && S .owns s x) (sym (has-inherit i s S z w x) ∙ h))
 
 pub within-admit : (f : Shape) (s : ℕ) (S : State) → Within f S → s < f .n → Within f (admit s S)
 within-admit f s S k l = within-made room (λ z w x h. within-inside k z w x (sym (has-admit s S z w x) ∙ h))
@@ -99,10 +82,7 @@ within-change f S c CreateSubject b k m r =
     within-put f Control (c .s) (Subject (c .s)) true (put Own (c .i) (Subject (c .s)) true (admit (c .s) S)) owned (record { row = m .s; column = self; right = omega arith })
 within-change f S c DestroySubject b k m r = within-clear f (inCross (c .s)) (inherit (c .i) (c .s) S) (within-inherit f (c .i) (c .s) S k (m .i))
 
--- a column of the record is one of its names
-pub column-named : (n p o : ℕ) → ltb o (n + p) ≡ true → named n p (nameOf n o) ≡ true
-column-named n p o h = ⊎-elim (λ e. rw e e) (λ e. rw e (rw e h)) (way (ltb o n))
-
+-- the names of a command that fit are the record's
 pub names-in : (f : Shape) (c : Fields) → namesFit f c ≡ true → NamesIn f (decode (rawOf f c))
 names-in f c h =
     let i = ltb (c .i) (f .n) in
@@ -112,7 +92,7 @@ names-in f c h =
     record {
       i = ltb-true (c .i) (f .n) (and-left i s rows);
       s = ltb-true (c .s) (f .n) (and-right i s rows);
-      o = column-named (f .n) (f .p) (c .o) (and-right (i && s) o h);
+      o = named-nameOf (f .n) (f .p) (c .o) (ltb-true (c .o) (columns f) (and-right (i && s) o h));
     }
 
 -- the right of a command whose k is below the number of basic rights has its bit in the record's cells
@@ -123,8 +103,7 @@ right-fits f code k b = every-rule fits code k table (λ j e. tt)
     fits j r = cond (r .k) (ltb k (basicsOf f)) (eqb k 0) ≡ true → RightFits (bitsOf f) (r .act)
 
     basic : (g : Form) → ltb k (basicsOf f) ≡ true → codeOf (Basic k g) < bitsOf f
-    basic Plain e = let l = ltb-true k (basicsOf f) e in omega (arith, l)
-    basic Starred e = let l = ltb-true k (basicsOf f) e in omega (arith, l)
+    basic g e = codeOf-room (f .width) k g (ltb-true k (basicsOf f) e)
 
     table : Every fits (rules k)
     table =
@@ -139,10 +118,10 @@ width-room b = omega arith
 pub within-next : (f : Shape) (S : State) (c : Fields) → 1 ≤ f .width → Within f S → Within f (nextOn f S c)
 unfolding nextOn next
 within-next f S c b k =
-    ⊎-elim (λ e. rw e (made (allowed (basicsOf f) (namesFit f c) S (rawOf f c) (eqb-true (refusal (basicsOf f) (namesFit f c) S (rawOf f c)) 0 e)))) (λ e. rw e k)
+    ⊎-elim (λ e. rw e (made (taken (basicsOf f) (namesFit f c) S (rawOf f c) (eqb-true (refusal (basicsOf f) (namesFit f c) S (rawOf f c)) 0 e)))) (λ e. rw e k)
     (way (eqb (refusal (basicsOf f) (namesFit f c) S (rawOf f c)) 0))
   where
-    made : Allowed (basicsOf f) (namesFit f c) S (rawOf f c) → Within f (change S (decode (rawOf f c)) (ruleOf (c .code) (c .k) .act))
+    made : Taken (basicsOf f) (namesFit f c) S (rawOf f c) → Within f (change S (decode (rawOf f c)) (ruleOf (c .code) (c .k) .act))
     made t =
         let r = ruleOf (c .code) (c .k) in
         let used = cond (r .k) (ltb (c .k) (basicsOf f)) (eqb (c .k) 0) in

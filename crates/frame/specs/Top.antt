@@ -16,7 +16,8 @@ use Rattle.matrix.specs.Valid.{Valid}
 use Rattle.matrix.specs.Tests.{otherController}
 use Rattle.laws.specs.Tests.{clash, fails, and-left, and-right, and-both}
 use Rattle.laws.specs.Same.{sameName-refl, sameName-ne}
-use Rattle.laws.specs.Bounded.{any-hit, any-found, least-first}
+use Rattle.laws.specs.Bounded.{any-hit, any-found}
+use Rattle.owners.specs.Framed.{valid-framed, owner-same}
 
 -- a row with a set bit is below `top`
 pub row-below : {S : State} → Valid S → (y : Right) (w : ℕ) (x : Name) → has S y w x ≡ true → w < S .top
@@ -34,10 +35,7 @@ object-exists {S} v o = (found, there)
 
 -- the owner that the walk follows is the owner
 pub owner-found : {S : State} → Valid S → (w s : ℕ) → S .owns w (Subject s) ≡ true → ownerOf (S .top) (S .owns) s ≡ w
-owner-found {S} v w s h =
-    let owned = any-hit (S .top) (λ r. S .owns r (Subject s)) w (row-below v Own w (Subject s) h) h in
-    let first = least-first (S .top) (λ r. S .owns r (Subject s)) owned in
-    v .one-owner s (ownerOf (S .top) (S .owns) s) w (first .passes) h
+owner-found v w s h = sym (owner-same (valid-framed v) w s h)
 
 -- and a search that ends at `top` says that there is none
 pub owner-none : {S : State} → Valid S → (s : ℕ) → ownerOf (S .top) (S .owns) s ≡ S .top → (w : ℕ) → S .owns w (Subject s) ≡ false

@@ -2,7 +2,7 @@
 use Prim.Native.Nat.{ℕ}
 use mathlib.Core.Path.{_≡_, refl, _∙_}
 use mathlib.Core.Logic.{_≢_, ⊎-elim}
-use mathlib.Core.Bool.{Bool, true, false, _&&_}
+use mathlib.Core.Bool.{Bool, true, false, _&&_, or-false}
 use lib.Dec.{eqb}
 use borrow.Author.Tests.{ne-eqb}
 use Rattle.matrix.specs.declared.Name.{Name}
@@ -18,7 +18,7 @@ use Rattle.matrix.specs.Changes.{change, admit, inherit, inColumn, inCross}
 use Rattle.matrix.specs.Touched.{touched, sameRight, isBit}
 use Rattle.matrix.specs.Step.{refusal, next}
 use Rattle.laws.specs.Tests.{way, or-none-left, or-none-right}
-use Rattle.frame.specs.Bits.{has-put-other, has-clear, has-inherit, has-admit, or-nothing}
+use Rattle.laws.specs.Changed.{has-put-other, has-clear, has-inherit, has-admit}
 
 -- a bit that is neither of two in a column is as it was after both were set or cleared
 pub has-put-two : (y y′ : Right) (r r′ : ℕ) (c : Name) (v v′ : Bool) (S : State) (z : Right) (w : ℕ) (x : Name) → isBit y r c z w x ≡ false → isBit y′ r′ c z w x ≡ false → has (put y r c v (put y′ r′ c v′ S)) z w x ≡ has S z w x
@@ -47,7 +47,7 @@ untouched-by S c DestroySubject z w x h =
     let gained = sameRight z Own && eqb w (c .i) && S .owns (c .s) x in
     let stays : gone ≡ false = or-none-left gone gained h in
     let nothing : gained ≡ false = or-none-right gone gained h in
-    rw (has-clear (inCross (c .s)) (inherit (c .i) (c .s) S) z w x, stays, has-inherit (c .i) (c .s) S z w x, nothing) (or-nothing (has S z w x))
+    rw (has-clear (inCross (c .s)) (inherit (c .i) (c .s) S) z w x, stays, has-inherit (c .i) (c .s) S z w x, nothing) (or-false (has S z w x))
 
 -- for a decoded command
 pub untouched : (S : State) (c : Command) (z : Right) (w : ℕ) (x : Name) → touched S c (c .act) z w x ≡ false → has (change S c (c .act)) z w x ≡ has S z w x

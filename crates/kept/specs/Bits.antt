@@ -18,12 +18,22 @@ use Rattle.matrix.specs.Valid.{Valid}
 use Rattle.laws.specs.Tests.{clash, and-left, and-right, and-both}
 use Rattle.laws.specs.Same.{sameName-ne}
 use Rattle.laws.specs.Bounded.{any-hit, any-found, any-none}
-use Rattle.kept.specs.Cells.{put-found, put-new, put-keeps, put-bit, clear-found, clear-other, clear-bit}
+use Rattle.laws.specs.Changed.{put-bit, clear-bit}
+use Rattle.kept.specs.Cells.{put-found, put-new, put-keeps, clear-found, clear-other}
 use Rattle.kept.specs.Parts.{Lives, AllLive, join, controllers-of, tree-of, grown, lives-at, controllers-fewer, controllers-put, tree-fewer}
 
 -- where one row owns a plain object, it exists
 pub object-owned : (S : State) (w o : ℕ) → w < S .top → S .owns w (Plain o) ≡ true → existsName S (Plain o) ≡ true
 object-owned S w o l h = any-hit (S .top) (λ v. S .owns v (Plain o)) w l h
+
+-- and where each row that owned it left it an owner, it still exists
+pub object-kept : (S S' : State) (o : ℕ)
+    → ((w : ℕ) → w < S .top → S .owns w (Plain o) ≡ true → (v : ℕ) × (v < S' .top) × (S' .owns v (Plain o) ≡ true))
+    → existsName S (Plain o) ≡ true → existsName S' (Plain o) ≡ true
+object-kept S S' o heir e =
+    let w = any-found (S .top) (λ v. S .owns v (Plain o)) e in
+    let v = heir (w .0) (w .1) (w .2) in
+    object-owned S' (v .0) o (v .1) (v .2)
 
 -- the set bits after one bit over existing names is put
 put-live : (y : Right) (r : ℕ) (c : Name) (v : Bool) (S : State) → Valid S
@@ -32,7 +42,7 @@ put-live : (y : Right) (r : ℕ) (c : Name) (v : Bool) (S : State) → Valid S
     → AllLive (put y r c v S)
 put-live y r c v S h rows names l =
     grown S (put y r c v S) h rows names
-    (λ z w x b. ⊎-elim (λ old. inl old) (λ p. inr (lives-at (put y r c v S) r c (l .0) (l .1) w x p)) (put-bit y r c v S z w x b))
+    (λ z w x b. ⊎-elim (λ old. inl old) (λ p. inr (lives-at (put y r c v S) r c (l .0) (l .1) w x (p .1, p .2))) (put-bit y r c v S z w x b))
 
 pub basic-keeps : (k : ℕ) (f : Form) (r : ℕ) (c : Name) (v : Bool) (S : State) → Valid S
     → (exists S r && existsName S c) ≡ true → Valid (put (Basic k f) r c v S)
@@ -65,9 +75,7 @@ object-keeps r (Plain a) S fit h er =
 
     names : (x : Name) → existsName S x ≡ true → existsName S' x ≡ true
     names (Subject c) e = e
-    names (Plain c) e =
-        let w = any-found (S .top) (λ v. S .owns v (Plain c)) e in
-        object-owned S' (w .0) c (w .1) (put-keeps r (Plain a) (S .owns) (w .0) (Plain c) (w .2))
+    names (Plain c) e = object-kept S S' c (λ w l o. (w, l, put-keeps r (Plain a) (S .owns) w (Plain c) o)) e
 
 -- r gains control over a subject that is not U and that no other controls
 pub control-keeps : (r : ℕ) (o : Name) (S : State) → kindFits SubjectName o ≡ true → Valid S
@@ -122,6 +130,4 @@ object-destroyed (Plain a) S fit h =
 
     names : (x : Name) → sameName x (Plain a) ≡ false → existsName S x ≡ true → existsName S' x ≡ true
     names (Subject c) d e = e
-    names (Plain c) d e =
-        let w = any-found (S .top) (λ v. S .owns v (Plain c)) e in
-        object-owned S' (w .0) c (w .1) (clear-other (inColumn (Plain a)) (S .owns) (w .0) (Plain c) d (w .2))
+    names (Plain c) d e = object-kept S S' c (λ w l o. (w, l, clear-other (inColumn (Plain a)) (S .owns) w (Plain c) d o)) e

@@ -1,29 +1,27 @@
 -- A valid state stays valid: under every command, and through a list of commands.
 use Prim.Native.Nat.{ℕ, _+_}
-use mathlib.Core.Path.{_≡_, refl, subst}
-use mathlib.Core.Logic.{_≢_, ⊎-elim}
-use mathlib.Core.Bool.{Bool, true, false, cond, _&&_, false≢true}
+use mathlib.Core.Path.{_≡_}
+use mathlib.Core.Logic.{⊎-elim}
+use mathlib.Core.Bool.{Bool, true, false, false≢true}
 use mathlib.Core.List.{List, [], _∷_}
 use lib.Dec.{eqb}
-use borrow.Author.Tests.{eqb-true, eqb-false, not-true}
-use Rattle.matrix.specs.declared.Name.{Name}
-use Rattle.matrix.specs.declared.Name.the-variants.{Subject}
+use borrow.Author.Tests.{eqb-true, not-true}
 use Rattle.matrix.specs.declared.Right.the-variants.{Own, Control, Basic}
 use Rattle.matrix.specs.declared.Act.{Act}
 use Rattle.matrix.specs.declared.Act.the-variants.{Transfer, Grant, Delete, CreateObject, DestroyObject, CreateSubject, DestroySubject}
 use Rattle.matrix.specs.declared.Command.{Command}
 use Rattle.matrix.specs.declared.Fields.{Fields}
-use Rattle.matrix.specs.Names.{U, columnOf}
 use Rattle.matrix.specs.State.{State, exists, existsName}
-use Rattle.matrix.specs.Commands.{Raw, known, ruleOf, fieldsFit, decode}
-use Rattle.matrix.specs.Tests.{firstFailed}
+use Rattle.matrix.specs.Commands.{Raw, decode}
 use Rattle.matrix.specs.Changes.{change}
 use Rattle.matrix.specs.Step.{refusalOf, refusal, next}
 use Rattle.matrix.specs.Shape.{Shape, basicsOf}
 use Rattle.matrix.specs.Calls.{rawOf, namesFit, refusalOn, nextOn, runFrom}
 use Rattle.matrix.specs.Valid.{Valid}
-use Rattle.laws.specs.Tests.{way, clash, and-left}
-use Rattle.kept.specs.Allowed.{Allowed, allowed, first-passed}
+use Rattle.laws.specs.Tests.{way, and-left}
+use Rattle.laws.specs.Passed.{taken}
+use Rattle.owners.specs.Framed.{valid-framed, owned-not-root}
+use Rattle.kept.specs.Allowed.{Allowed, allowed}
 use Rattle.kept.specs.Bits.{basic-keeps, object-keeps, control-keeps, object-destroyed}
 use Rattle.kept.specs.Subjects.{transfer-keeps, created-keeps, destroyed-keeps}
 
@@ -37,10 +35,7 @@ act-keeps S c (Transfer (Basic k f)) h p =
     basic-keeps k f (c .s) (c .o) true S h (p .there)
 act-keeps S c (Grant Own) h p = object-keeps (c .s) (c .o) S (p .kind) h (and-left (exists S (c .s)) (existsName S (c .o)) (p .there))
 act-keeps S c (Grant Control) h p =
-    control-keeps (c .s) (c .o) S (p .kind) h (p .there) not-root (not-true _ (p .alone))
-  where
-    not-root : c .o ≢ Subject U
-    not-root e = clash (subst (λ (x : Name). S .owns (c .i) x ≡ true) e (p .entitled)) (h .root-owner (c .i))
+    control-keeps (c .s) (c .o) S (p .kind) h (p .there) (owned-not-root (valid-framed h) (c .i) (c .o) (p .entitled)) (not-true _ (p .alone))
 act-keeps S c (Grant (Basic k f)) h p =
     basic-keeps k f (c .s) (c .o) true S h (p .there)
 act-keeps S c (Delete Own) h p = absurd (false≢true (p .entitled))
@@ -56,21 +51,11 @@ act-keeps S c DestroySubject h p = destroyed-keeps S (c .i) (c .s) h (p .initiat
 pub change-keeps : (S : State) (c : Command) → Valid S → refusalOf S c ≡ 0 → Valid (change S c (c .act))
 change-keeps S c h accepted = act-keeps S c (c .act) h (allowed S c accepted)
 
--- A command as given that is not refused is one that is not refused when decoded.
-pub decoded-accepted : (basics : ℕ) (names : Bool) (S : State) (c : Raw) → refusal basics names S c ≡ 0 → refusalOf S (decode c) ≡ 0
-unfolding refusal firstFailed
-decoded-accepted basics names S c h =
-    let r = refusalOf S (decode c) in
-    let a = first-passed (known (c .code)) _ 6 (eqb-false 6 0 refl) h in
-    let b = first-passed (names && fieldsFit basics (ruleOf (c .code) (c .k)) (c .s) (columnOf (c .o)) (c .k)) _ 7
-    (eqb-false 7 0 refl) (a .1) in
-    ⊎-elim (λ e. eqb-true r 0 e) (λ e. let q : cond false 0 r ≡ 0 = rw e at (b .1) in q) (way (eqb r 0))
-
 -- Every command keeps validity: where it is accepted by its change, elsewhere because it changes nothing.
 pub keeps : (basics : ℕ) (names : Bool) (S : State) (c : Raw) → Valid S → Valid (next basics names S c)
 unfolding next
 keeps basics names S c h =
-    ⊎-elim (λ e. rw e (change-keeps S (decode c) h (decoded-accepted basics names S c (eqb-true (refusal basics names S c) 0 e))))
+    ⊎-elim (λ e. rw e (change-keeps S (decode c) h (taken basics names S c (eqb-true (refusal basics names S c) 0 e) .decoded)))
     (λ e. rw e h) (way (eqb (refusal basics names S c) 0))
 
 -- So does a command on a state of a record's shape, and a run over a list of commands.

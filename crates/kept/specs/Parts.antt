@@ -14,6 +14,7 @@ use Rattle.matrix.specs.State.{State, has, exists, existsName, putMatrix}
 use Rattle.matrix.specs.Owners.{Above, owner, higher}
 use Rattle.matrix.specs.Valid.{Valid}
 use Rattle.laws.specs.Tests.{way, clash, fails}
+use Rattle.owners.specs.Rooted.{above-trans}
 use Rattle.kept.specs.Cells.{Matrix, put-found, put-keeps}
 
 -- the four cases of two alternatives
@@ -117,10 +118,6 @@ pub above-map : (m m' : Matrix) → ((w c : ℕ) → m' w (Subject c) ≡ true �
 above-map m m' f a v (owner h) = owner (f v a h)
 above-map m m' f a v (higher {w = w} h up) = higher (f w a h) (above-map m m' f w v up)
 
-pub above-trans : (m : Matrix) (x : Name) (b v : ℕ) → Above m x b → Above m (Subject b) v → Above m x v
-above-trans m x b v (owner h) g = higher h g
-above-trans m x b v (higher {w = w} h up) g = higher h (above-trans m (Subject w) b v up g)
-
 -- whoever is above a name owns some name
 pub above-owns : (m : Matrix) (x : Name) (v : ℕ) → Above m x v → (y : Name) × (m v y ≡ true)
 above-owns m x v (owner h) = (x, h)
@@ -145,7 +142,7 @@ up-link m a w v h u = ⊎-elim (λ e. owner (subst (λ (n : ℕ). m n (Subject a
 pub up-trans : (m : Matrix) (a b v : ℕ) → Up m a b → Up m b v → Up m a v
 up-trans m a b v p q =
     ⊎-elim (λ e. subst (λ (n : ℕ). Up m n v) (sym e) q)
-    (λ up. ⊎-elim (λ e. inr (subst (λ (n : ℕ). Above m (Subject a) n) e up)) (λ more. inr (above-trans m (Subject a) b v up more)) q) p
+    (λ up. ⊎-elim (λ e. inr (subst (λ (n : ℕ). Above m (Subject a) n) e up)) (λ more. inr (above-trans up more)) q) p
 
 -- Subject o has s as its only owner now, and every other subject the owners that it had.
 pub record Reowned (m m' : Matrix) (s o : ℕ) : Type 0 where

@@ -9,7 +9,7 @@ use borrow.Author.Tests.{eqb-true, eqb-false}
 use Rattle.matrix.specs.declared.Name.{Name}
 use Rattle.matrix.specs.declared.Name.the-variants.{Subject, Plain}
 use Rattle.matrix.specs.declared.Right.{Right}
-use Rattle.matrix.specs.declared.Right.the-variants.{Own, Control, Basic}
+use Rattle.matrix.specs.declared.Right.the-variants.{Own, Control}
 use Rattle.matrix.specs.declared.Kind.the-variants.{SubjectName}
 use Rattle.matrix.specs.Names.{U, sameName, columnOf}
 use Rattle.matrix.specs.State.{State, has, exists, existsName, isCell, put, clear}
@@ -17,17 +17,18 @@ use Rattle.matrix.specs.Owners.{owner, walk, meets}
 use Rattle.matrix.specs.Changes.{admit, inherit, inCross}
 use Rattle.matrix.specs.Tests.{kindFits}
 use Rattle.matrix.specs.Valid.{Valid}
-use Rattle.laws.specs.Tests.{way, clash, fails, and-left, and-right, and-both, or-cases, or-left, or-right, or-none-left, or-none-right}
-use Rattle.laws.specs.Same.{eqb-same, sameName-eq, isCell-row, isCell-column}
-use Rattle.laws.specs.Bounded.{any-found}
+use Rattle.laws.specs.Tests.{way, clash, fails, and-both, or-cases, or-left, or-right, or-none-left, or-none-right}
+use Rattle.laws.specs.Same.{eqb-same, sameName-eq, isCell-at, isCell-row, isCell-column, isCell-apart}
+use Rattle.laws.specs.Changed.{put-bit, clear-bit, inherit-bit, has-admit}
+use Rattle.owners.specs.Framed.{valid-framed, owned-not-root}
 use Rattle.owners.specs.Walk.{walk-self, walk-finds}
-use Rattle.kept.specs.Cells.{isCell-at, isCell-apart, put-cases, put-found, put-new, put-other, put-keeps, put-bit, clear-found, clear-other, clear-bit}
+use Rattle.kept.specs.Cells.{put-cases, put-found, put-new, put-other, put-keeps, clear-found, clear-other}
 use Rattle.kept.specs.Parts.{four-cases, Lives, AllLive, Reowned, Up, join, controllers-of, tree-of, grown, lives-at, controllers-fewer, controllers-put, tree-reowned, reowned-owned, above-owns, above-heir}
-use Rattle.kept.specs.Bits.{object-owned}
+use Rattle.kept.specs.Bits.{object-kept}
 
 -- whoever has an owner is not U
 not-root : (S : State) → Valid S → (w c : ℕ) → S .owns w (Subject c) ≡ true → c ≢ U
-not-root S h w c own e = clash (subst (λ (n : ℕ). S .owns w (Subject n) ≡ true) e own) (h .root-owner w)
+not-root S h w c own e = owned-not-root (valid-framed h) w (Subject c) own (ap (λ (n : ℕ). Subject n) e)
 
 -- The three changes: i hands its ownership of o to s; i creates s; i destroys c.
 abbrev handed : State → ℕ → ℕ → Name → State
@@ -66,8 +67,8 @@ transfer-keeps S i s (Subject a) fit h es own unmet =
     bits : (y : Right) (w : ℕ) (x : Name) → has S' y w x ≡ true → (has S y w x ≡ true) ⊎ Lives S' w x
     bits y w x b =
         ⊎-elim (λ b₁. ⊎-elim (λ old. inl old) (λ p. inr (lives-at S' i (Subject a) (h .row Own i (Subject a) own)
-        (h .column Own i (Subject a) own) w x p)) (put-bit Own i (Subject a) false S y w x b₁))
-        (λ p. inr (lives-at S' s (Subject a) es (h .column Own i (Subject a) own) w x p)) (put-bit Own s (Subject a) true without y w x b)
+        (h .column Own i (Subject a) own) w x (p .1, p .2))) (put-bit Own i (Subject a) false S y w x b₁))
+        (λ p. inr (lives-at S' s (Subject a) es (h .column Own i (Subject a) own) w x (p .1, p .2))) (put-bit Own s (Subject a) true without y w x b)
 
     -- the only owner before was i
     old-link : (w c : ℕ) → without .owns w (Subject c) ≡ true → (S .owns w (Subject c) ≡ true) × (c ≢ a)
@@ -125,24 +126,16 @@ created-keeps S i s h ei absent =
 
     names : (x : Name) → existsName S x ≡ true → existsName S' x ≡ true
     names (Subject c) e = rows c e
-    names (Plain c) e =
-        let w = any-found (S .top) (λ v. S .owns v (Plain c)) e in
-        let l : w .0 < S .top = w .1 in
-        object-owned S' (w .0) c (omega arith) (w .2)
+    names (Plain c) e = object-kept S S' c (λ w l o. (w, omega arith, o)) e
 
     here : exists S' s ≡ true
     here = put-new s (Subject s) (S .controls)
 
-    admitted : (y : Right) (w : ℕ) (x : Name) → has (admit s S) y w x ≡ true → has S y w x ≡ true
-    admitted Own w x e = e
-    admitted Control w x e = e
-    admitted (Basic k f) w x e = e
-
     bits : (y : Right) (w : ℕ) (x : Name) → has S' y w x ≡ true → (has S y w x ≡ true) ⊎ Lives S' w x
     bits y w x b =
-        ⊎-elim (λ b₁. ⊎-elim (λ old. inl (admitted y w x old)) (λ p. inr (lives-at S' i (Subject s) (rows i ei) here w x p))
+        ⊎-elim (λ b₁. ⊎-elim (λ old. inl (sym (has-admit s S y w x) ∙ old)) (λ p. inr (lives-at S' i (Subject s) (rows i ei) here w x (p .1, p .2)))
         (put-bit Own i (Subject s) true (admit s S) y w x b₁))
-        (λ p. inr (lives-at S' s (Subject s) here here w x p)) (put-bit Control s (Subject s) true owning y w x b)
+        (λ p. inr (lives-at S' s (Subject s) here here w x (p .1, p .2))) (put-bit Control s (Subject s) true owning y w x b)
 
     before : (c : ℕ) → exists S' c ≡ true → (exists S c ≡ true) ⊎ (c ≡ s)
     before c e = ⊎-elim (λ old. inl old) (λ p. inr (p .0)) (put-found s (Subject s) true (S .controls) c (Subject c) e)
@@ -225,17 +218,7 @@ destroyed-keeps S i c h ei own =
 
     names : (x : Name) → x ≢ Subject c → existsName S x ≡ true → existsName S' x ≡ true
     names (Subject d) q e = rows d (λ a. q (ap (λ (n : ℕ). Subject n) a)) e
-    names (Plain d) q e =
-        let w = any-found (S .top) (λ v. S .owns v (Plain d)) e in
-        let v = heir (Plain d) q (w .0) (w .2) in
-        object-owned S' (v .0) d (h .bound (v .0) (v .2)) (v .1)
-
-    inherited : (y : Right) (w : ℕ) (x : Name) → has (inherit i c S) y w x ≡ true → (has S y w x ≡ true) ⊎ ((w ≡ i) × (S .owns c x ≡ true))
-    inherited Own w x e =
-        ⊎-elim (λ old. inl old) (λ b. inr (eqb-true w i (and-left (eqb w i) (S .owns c x) b), and-right (eqb w i) (S .owns c x) b))
-        (or-cases (S .owns w x) (eqb w i && S .owns c x) e)
-    inherited Control w x e = inl e
-    inherited (Basic k f) w x e = inl e
+    names (Plain d) q e = object-kept S S' d (λ w l o. let v = heir (Plain d) q w o in (v .0, h .bound (v .0) (v .2), v .1)) e
 
     live : AllLive S'
     live y w x b =
@@ -243,11 +226,14 @@ destroyed-keeps S i c h ei own =
         let r = off-row w x (p .0) in
         let q = off-column w x (p .0) in
         ⊎-elim (λ old. (rows w r (h .row y w x old), names x q (h .column y w x old)))
-        (λ k. (rows w r (subst (λ (n : ℕ). exists S n ≡ true) (sym (k .0)) ei), names x q (h .column Own c x (k .1))))
-        (inherited y w x (p .1))
+        (λ k. (rows w r (subst (λ (n : ℕ). exists S n ≡ true) (sym (k .1)) ei), names x q (h .column Own c x (k .2))))
+        (inherit-bit i c S y w x (p .1))
 
     links : (w : ℕ) (x : Name) → S' .owns w x ≡ true → (w ≢ c) × ((S .owns w x ≡ true) ⊎ ((w ≡ i) × (S .owns c x ≡ true)))
-    links w x e = let p = clear-found (inCross c) (inherit i c S .owns) w x e in (off-row w x (p .0), inherited Own w x (p .1))
+    links w x e = let p = clear-found (inCross c) (inherit i c S .owns) w x e in (
+      off-row w x (p .0),
+      ⊎-elim (λ old. inl old) (λ k. inr (k .1, k .2)) (inherit-bit i c S Own w x (p .1)),
+    )
 
     owned-before : (d : ℕ) → (w : ℕ) × (S' .owns w (Subject d) ≡ true) → (v : ℕ) × (S .owns v (Subject d) ≡ true)
     owned-before d e = ⊎-elim (λ old. (e .0, old)) (λ k. (c, k .1)) (links (e .0) (Subject d) (e .1) .1)

@@ -1,9 +1,7 @@
 -- Tests that hold and tests that fail, taken apart and put together.
-use Prim.Native.Nat.{ℕ, _≤_, _<_}
 use mathlib.Core.Path.{_≡_, refl, sym, _∙_, ap}
 use mathlib.Core.Logic.{_⊎_, inl, inr}
 use mathlib.Core.Bool.{Bool, true, false, cond, not, _&&_, _||_, true≢false, false≢true}
-use lib.Dec.{eqb, ltb, leb}
 
 -- a test holds or fails
 pub way : (t : Bool) → (t ≡ true) ⊎ (t ≡ false)
@@ -22,6 +20,10 @@ fails false h = refl
 pub holds : (t : Bool) → (t ≡ false → ⊥) → t ≡ true
 holds true h = refl
 holds false h = absurd (h refl)
+
+-- a test that fails, negated
+pub fails-not : {t : Bool} → t ≡ false → not t ≡ true
+fails-not {t} h = rw h refl
 
 -- tests that hold where the other does are equal
 pub same-test : (t u : Bool) → (t ≡ true → u ≡ true) → (u ≡ true → t ≡ true) → t ≡ u
@@ -58,6 +60,20 @@ or-none-left false u h = refl
 pub or-none-right : (t u : Bool) → (t || u) ≡ false → u ≡ false
 or-none-right true u h = absurd (clash refl h)
 or-none-right false u h = h
+
+-- an alternative that fails leaves the other
+pub or-other : {t u : Bool} → (t || u) ≡ true → t ≡ false → u ≡ true
+or-other {t} {u} h e = let r : (false || u) ≡ true = rw e at h in r
+
+-- a choice between two tests holds where the one that is chosen does
+pub cond-cases : (t a b : Bool) → cond t a b ≡ true → ((t ≡ true) × (a ≡ true)) ⊎ ((t ≡ false) × (b ≡ true))
+cond-cases true a b h = inl (refl, h)
+cond-cases false a b h = inr (refl, h)
+
+-- two choices in turn are one choice by both conditions
+pub cond-both : (t u v m : Bool) → cond t (cond u v m) m ≡ cond (t && u) v m
+cond-both true u v m = refl
+cond-both false u v m = refl
 
 -- A conjunction or a disjunction that is worked out from the left: t is the answer for its left side e, r for its right side x.
 pub and-then : {t e r x : Bool} → t ≡ true → t ≡ e → r ≡ x → r ≡ (e && x)

@@ -13,9 +13,8 @@ use Rattle.matrix.specs.State.{State, exists}
 use Rattle.matrix.specs.Owners.{Above, owner, higher}
 use Rattle.matrix.specs.Record.{climb}
 use Rattle.laws.specs.Tests.{way, fails, holds}
-use Rattle.laws.specs.Bounded.{least-passes}
 use Rattle.owners.specs.Pigeonhole.{pigeonhole}
-use Rattle.owners.specs.Framed.{Framed, ownerIn, owner-exists, owner-below, root-unowned, owner-owns}
+use Rattle.owners.specs.Framed.{Framed, ownerIn, found-owns, owner-exists, owner-below, root-unowned, owner-owns}
 
 -- the subject that is come to by following `links` owners upward from s in a state
 abbrev pub climbIn : State → ℕ → ℕ → ℕ
@@ -51,7 +50,7 @@ module _ {S : State} (F : Framed S) where
   pub climb-root : (j : ℕ) → climbIn S j U ≡ U
   unfolding climb
   climb-root zero = refl
-  climb-root (suc j) = climb-stays S j U (λ l. root-unowned F (ownerIn S U) (least-passes (S .top) (λ w. S .owns w (Subject U)) l)) ∙ climb-root j
+  climb-root (suc j) = climb-stays S j U (λ l. root-unowned F (ownerIn S U) (found-owns S U l)) ∙ climb-root j
 
   -- any other existing subject goes up one link
   pub climb-up : (j s : ℕ) → s ≢ U → exists S s ≡ true → climbIn S (suc j) s ≡ climbIn S j (ownerIn S s)

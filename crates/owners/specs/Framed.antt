@@ -1,6 +1,6 @@
 -- Every condition of Valid but "no subject is met again by following owners upward", and what the others say of a subject's owner.
 use Prim.Native.Nat.{ℕ, _<_}
-use mathlib.Core.Path.{_≡_}
+use mathlib.Core.Path.{_≡_, subst}
 use mathlib.Core.Logic.{_≢_}
 use mathlib.Core.Bool.{true, false}
 use Rattle.matrix.specs.declared.Name.{Name}
@@ -17,6 +17,10 @@ use Rattle.laws.specs.Bounded.{least-found, least-passes}
 -- the owner of subject s in a state
 abbrev pub ownerIn : State → ℕ → ℕ
 ownerIn S s = ownerOf (S .top) (S .owns) s
+
+-- what the search for an owner finds below `top` is an owner
+pub found-owns : (S : State) (s : ℕ) → ownerIn S s < S .top → S .owns (ownerIn S s) (Subject s) ≡ true
+found-owns S s l = least-passes (S .top) (λ w. S .owns w (Subject s)) l
 
 pub record Framed (S : State) : Type 0 where
   pub row : (y : Right) (w : ℕ) (x : Name) → has S y w x ≡ true → exists S w ≡ true
@@ -73,6 +77,9 @@ module _ {S : State} (F : Framed S) where
   pub root-unowned : (w : ℕ) → S .owns w (Subject U) ≡ true → ⊥
   root-unowned w h = clash h (F .root-owner w)
 
+  pub owned-not-root : (w : ℕ) (x : Name) → S .owns w x ≡ true → x ≢ Subject U
+  owned-not-root w x h e = root-unowned w (subst (λ (y : Name). S .owns w y ≡ true) e h)
+
   -- an owned subject exists
   pub owned-exists : (w s : ℕ) → S .owns w (Subject s) ≡ true → exists S s ≡ true
   owned-exists w s h = F .column Own w (Subject s) h
@@ -82,7 +89,7 @@ module _ {S : State} (F : Framed S) where
   owner-found w s h = least-found (S .top) (λ v. S .owns v (Subject s)) w (owner-below w (Subject s) h) h
 
   pub owner-owns : (w s : ℕ) → S .owns w (Subject s) ≡ true → S .owns (ownerIn S s) (Subject s) ≡ true
-  owner-owns w s h = least-passes (S .top) (λ v. S .owns v (Subject s)) (owner-found w s h)
+  owner-owns w s h = found-owns S s (owner-found w s h)
 
   pub owner-same : (w s : ℕ) → S .owns w (Subject s) ≡ true → w ≡ ownerIn S s
   owner-same w s h = F .one-owner s w (ownerIn S s) h (owner-owns w s h)

@@ -3,6 +3,5 @@ pub mod Framed
 pub mod Climb
 pub mod Walk
 pub mod Rooted
-pub mod Counting
 pub mod Test
 pub mod Read

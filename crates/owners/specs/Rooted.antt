@@ -22,17 +22,17 @@ pub data Rooted (owns : ℕ → Name → Bool) : ℕ → Type 0 where
   root : Rooted owns U
   under : {s w : ℕ} → owns w (Subject s) ≡ true → Rooted owns w → Rooted owns s
 
--- the owner of one above is above
-pub above-owner-of : {owns : ℕ → Name → Bool} {x : Name} {v : ℕ} (w : ℕ) → Above owns x v → owns w (Subject v) ≡ true → Above owns x w
-above-owner-of w (owner h) e = higher h (owner e)
-above-owner-of w (higher h a) e = higher h (above-owner-of w a e)
+-- who is above one above is above
+pub above-trans : {owns : ℕ → Name → Bool} {x : Name} {b v : ℕ} → Above owns x b → Above owns (Subject b) v → Above owns x v
+above-trans (owner h) g = higher h g
+above-trans (higher h up) g = higher h (above-trans up g)
 
 module _ {S : State} (F : Framed S) where
   -- a subject that is met again has an owner that is met again, and so on up to U, which has no owner
   owner-again : (s w : ℕ) → S .owns w (Subject s) ≡ true → Above (S .owns) (Subject s) s → Above (S .owns) (Subject w) w
   owner-again s w e (owner h) = subst (λ (v : ℕ). Above (S .owns) (Subject v) v) (F .one-owner s s w h e) (owner h)
   owner-again s w e (higher {w = v} h a) =
-      above-owner-of w (subst (λ (u : ℕ). Above (S .owns) (Subject u) s) (F .one-owner s v w h e) a) e
+      above-trans (subst (λ (u : ℕ). Above (S .owns) (Subject u) s) (F .one-owner s v w h e) a) (owner e)
 
   rooted-once : {s : ℕ} → Rooted (S .owns) s → Above (S .owns) (Subject s) s → ⊥
   rooted-once root a = root-top F U a

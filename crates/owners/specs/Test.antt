@@ -21,20 +21,12 @@ use Rattle.matrix.specs.Shaped.{Within}
 use Rattle.matrix.specs.Record.{emptyCell, absentZero, plainUncontrolled, rootRight, oneOwnerEach, climb, allRooted, validMatrix}
 use Rattle.codec.specs.Codes.{rightOf-codeOf}
 use Rattle.codec.specs.Columns.{nameOf-columnOf, named-below}
-use Rattle.laws.specs.Tests.{way, clash, fails, and-left, and-right, and-both, or-cases, or-left, or-right}
+use Rattle.laws.specs.Tests.{way, clash, fails, fails-not, and-left, and-right, and-both, or-cases, or-left, or-right, or-other}
 use Rattle.laws.specs.Bounded.{any-hit, any-found, all-each, each-all}
-use Rattle.owners.specs.Counting.{count-some, some-count, count-one, one-count}
+use Rattle.laws.specs.Counting.{count-some, some-count, count-one, one-count}
 use Rattle.owners.specs.Framed.{Framed, valid-framed, framed-valid}
 use Rattle.owners.specs.Climb.{climbIn, climb-add, climb-root, climb-ends}
 use Rattle.owners.specs.Rooted.{rooted-no-cycle, climb-rooted}
-
--- a test that fails, negated
-fails-not : {t : Bool} → t ≡ false → not t ≡ true
-fails-not {t} h = rw h refl
-
--- an alternative that fails leaves the other
-or-other : {t u : Bool} → (t || u) ≡ true → t ≡ false → u ≡ true
-or-other {t} {u} h e = let r : (false || u) ≡ true = rw e at h in r
 
 -- a test of every cell
 cells-each : (n m : ℕ) (g : ℕ → ℕ → Bool) → all n (λ w. all m (g w)) ≡ true → (w c : ℕ) → w < n → c < m → g w c ≡ true

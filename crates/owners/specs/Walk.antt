@@ -5,7 +5,7 @@ use native.Mathlib.Nat.{not-suc-le-zero}
 use native.Mathlib.Omega.{arith}
 use mathlib.Core.Path.{_≡_, refl, sym, _∙_, ap, subst}
 use mathlib.Core.Logic.{_⊎_, inl, inr, ⊎-elim, _≢_}
-use mathlib.Core.Bool.{true, false}
+use mathlib.Core.Bool.{Bool, true, false}
 use lib.Dec.{eqb, ltb}
 use borrow.Author.Tests.{eqb-true, eqb-false, eq-eqb, lt-ltb, ltb-true}
 use Rattle.matrix.specs.declared.Name.{Name}
@@ -19,32 +19,13 @@ use Rattle.matrix.specs.Valid.{Valid}
 use Rattle.matrix.specs.Record.{climb}
 use Rattle.laws.specs.Tests.{way, fails, clash}
 use Rattle.laws.specs.Same.{sameName-refl, sameName-eq}
-use Rattle.laws.specs.Bounded.{least-passes}
-use Rattle.owners.specs.Framed.{Framed, ownerIn, valid-framed, owned-exists, root-unowned, owner-same}
+use Rattle.laws.specs.Walks.{walk-met, walk-root, walk-up, walk-lost}
+use Rattle.owners.specs.Framed.{Framed, ownerIn, found-owns, valid-framed, owned-exists, root-unowned, owner-same}
 use Rattle.owners.specs.Climb.{climbIn, climb-up, climb-ends, owner-of-below, owner-of-exists}
 
 -- a walk in a state that may visit `left` more subjects
 abbrev pub walkIn : State → ℕ → ℕ → Name → ℕ → Walked
 walkIn S left s o links = walkFrom (S .top) (S .owns) left s o links
-
--- A walk's four ways at one subject.
-module _ (S : State) (left s : ℕ) (o : Name) (links : ℕ) where
-  pub walk-met : sameName (Subject s) o ≡ true → walkIn S (suc left) s o links ≡ Meets links
-  unfolding walkFrom
-  walk-met h = rw h refl
-
-  pub walk-root : sameName (Subject s) o ≡ false → eqb s U ≡ true → walkIn S (suc left) s o links ≡ Root links
-  unfolding walkFrom
-  walk-root h u = rw (h, u) refl
-
-  pub walk-up : sameName (Subject s) o ≡ false → eqb s U ≡ false → ltb (ownerIn S s) (S .top) ≡ true →
-      walkIn S (suc left) s o links ≡ walkIn S left (ownerIn S s) o (links + 1)
-  unfolding walkFrom
-  walk-up h u l = rw (h, u, l) refl
-
-  pub walk-lost : sameName (Subject s) o ≡ false → eqb s U ≡ false → ltb (ownerIn S s) (S .top) ≡ false → walkIn S (suc left) s o links ≡ Lost
-  unfolding walkFrom
-  walk-lost h u l = rw (h, u, l) refl
 
 -- subject s or one above it has the name o
 abbrev pub AtOrAbove : State → ℕ → Name → Type 0
@@ -56,15 +37,15 @@ unfolding walkFrom
 found-from S zero s o links h = absurd (clash h refl)
 found-from S (suc left) s o links h =
     ⊎-elim (λ m. inl (sym (sameName-eq (Subject s) o m)))
-    (λ m. ⊎-elim (λ u. absurd (clash h (ap meets (walk-root S left s o links m u))))
-    (λ u. ⊎-elim (λ l. inr (above l (found-from S left (ownerIn S s) o (links + 1) (sym (ap meets (walk-up S left s o links m u l)) ∙ h))))
-    (λ l. absurd (clash h (ap meets (walk-lost S left s o links m u l))))
+    (λ m. ⊎-elim (λ u. absurd (clash h (ap meets (walk-root (S .top) (S .owns) left s o links m u))))
+    (λ u. ⊎-elim (λ l. inr (above l (found-from S left (ownerIn S s) o (links + 1) (sym (ap meets (walk-up (S .top) (S .owns) left s o links m u l)) ∙ h))))
+    (λ l. absurd (clash h (ap meets (walk-lost (S .top) (S .owns) left s o links m u l))))
     (way (ltb (ownerIn S s) (S .top))))
     (way (eqb s U)))
     (way (sameName (Subject s) o))
   where
     owns-it : ltb (ownerIn S s) (S .top) ≡ true → S .owns (ownerIn S s) (Subject s) ≡ true
-    owns-it l = least-passes (S .top) (λ w. S .owns w (Subject s)) (ltb-true (ownerIn S s) (S .top) l)
+    owns-it l = found-owns S s (ltb-true (ownerIn S s) (S .top) l)
 
     above : ltb (ownerIn S s) (S .top) ≡ true → AtOrAbove S (ownerIn S s) o → (v : ℕ) × (o ≡ Subject v) × Above (S .owns) (Subject s) v
     above l (inl q) = (ownerIn S s, q, owner (owns-it l))
@@ -80,28 +61,30 @@ record Ends (walked : Walked) (most : ℕ) : Type 0 where
   ends : walked ≡ Lost → ⊥
   links : linksOf walked ≤ most
 
-ends-met : (links most : ℕ) → links ≤ most → Ends (Meets links) most
-ends-met links most l = record { ends = λ q. let z : _≡_ {A = ℕ} 0 1 = cc in omega arith; links = l }
+abbrev lost : Walked → Bool
+lost (Meets links) = false
+lost (Root links) = false
+lost Lost = true
 
-ends-root : (links most : ℕ) → links ≤ most → Ends (Root links) most
-ends-root links most l = record { ends = λ q. let z : _≡_ {A = ℕ} 0 1 = cc in omega arith; links = l }
+ends-here : (walked : Walked) (most : ℕ) → lost walked ≡ false → linksOf walked ≤ most → Ends walked most
+ends-here walked most n l = record { ends = λ q. clash (ap lost q) n; links = l }
 
 module _ {S : State} (F : Framed S) where
   -- the walk goes up from an existing subject that is neither U nor wanted
   goes-up : (left s : ℕ) (o : Name) (links : ℕ) → exists S s ≡ true → sameName (Subject s) o ≡ false → eqb s U ≡ false →
       walkIn S (suc left) s o links ≡ walkIn S left (ownerIn S s) o (links + 1)
-  goes-up left s o links e m u = walk-up S left s o links m u (lt-ltb (ownerIn S s) (S .top) (owner-of-below F s (eqb-false s U u) e))
+  goes-up left s o links e m u = walk-up (S .top) (S .owns) left s o links m u (lt-ltb (ownerIn S s) (S .top) (owner-of-below F s (eqb-false s U u) e))
 
   -- A walk that may visit more subjects than there are links up to U ends, and follows no more links than those.
   ends-from : (left k s : ℕ) (o : Name) (links : ℕ) → exists S s ≡ true → climbIn S k s ≡ U → k < left → Ends (walkIn S left s o links) (links + k)
   unfolding climb
   ends-from zero k s o links e c l = absurd (not-suc-le-zero l)
   ends-from (suc left) zero s o links e c l =
-      ⊎-elim (λ m. rw (walk-met S left s o links m) (ends-met links (links + 0) (omega arith)))
-      (λ m. rw (walk-root S left s o links m (eq-eqb s U c)) (ends-root links (links + 0) (omega arith))) (way (sameName (Subject s) o))
+      ⊎-elim (λ m. rw (walk-met (S .top) (S .owns) left s o links m) (ends-here (Meets links) (links + 0) refl (omega arith)))
+      (λ m. rw (walk-root (S .top) (S .owns) left s o links m (eq-eqb s U c)) (ends-here (Root links) (links + 0) refl (omega arith))) (way (sameName (Subject s) o))
   ends-from (suc left) (suc k) s o links e c l =
-      ⊎-elim (λ m. rw (walk-met S left s o links m) (ends-met links (links + suc k) (omega arith)))
-      (λ m. ⊎-elim (λ u. rw (walk-root S left s o links m u) (ends-root links (links + suc k) (omega arith)))
+      ⊎-elim (λ m. rw (walk-met (S .top) (S .owns) left s o links m) (ends-here (Meets links) (links + suc k) refl (omega arith)))
+      (λ m. ⊎-elim (λ u. rw (walk-root (S .top) (S .owns) left s o links m u) (ends-here (Root links) (links + suc k) refl (omega arith)))
       (λ u. let n : s ≢ U = eqb-false s U u in
       let d : links + suc k ≡ links + 1 + k = omega arith in
       rw (goes-up left s o links e m u, d)
@@ -127,10 +110,10 @@ module _ {S : State} (F : Framed S) where
       meets (walkIn S left s (Subject v) links) ≡ true
   unfolding climb
   finds-from zero k s v links e c l a = absurd (not-suc-le-zero l)
-  finds-from (suc left) k s v links e c l (inl q) = ap meets (walk-met S left s (Subject v) links (eq-eqb s v q))
+  finds-from (suc left) k s v links e c l (inl q) = ap meets (walk-met (S .top) (S .owns) left s (Subject v) links (eq-eqb s v q))
   finds-from (suc left) zero s v links e c l (inr a) = absurd (root-not-below s v c a)
   finds-from (suc left) (suc k) s v links e c l (inr a) =
-      ⊎-elim (λ m. ap meets (walk-met S left s (Subject v) links m))
+      ⊎-elim (λ m. ap meets (walk-met (S .top) (S .owns) left s (Subject v) links m))
       (λ m. ⊎-elim (λ u. absurd (root-not-below s v (eqb-true s U u) a))
       (λ u. let n : s ≢ U = eqb-false s U u in
       ap meets (goes-up left s (Subject v) links e m u) ∙
@@ -142,14 +125,14 @@ module _ {S : State} (F : Framed S) where
   unowned : (s : ℕ) → exists S s ≡ false → ltb (ownerIn S s) (S .top) ≡ false
   unowned s e =
       fails (ltb (ownerIn S s) (S .top))
-      (λ l. clash (owned-exists F (ownerIn S s) s (least-passes (S .top) (λ w. S .owns w (Subject s)) (ltb-true (ownerIn S s) (S .top) l))) e)
+      (λ l. clash (owned-exists F (ownerIn S s) s (found-owns S s (ltb-true (ownerIn S s) (S .top) l))) e)
 
   absent-from : (left s : ℕ) (o : Name) → exists S s ≡ false → linksOf (walkIn S left s o 0) ≡ 0
   unfolding walkFrom
   absent-from zero s o e = refl
   absent-from (suc left) s o e =
-      ⊎-elim (λ m. ap linksOf (walk-met S left s o 0 m))
-      (λ m. ⊎-elim (λ u. ap linksOf (walk-root S left s o 0 m u)) (λ u. ap linksOf (walk-lost S left s o 0 m u (unowned s e))) (way (eqb s U)))
+      ⊎-elim (λ m. ap linksOf (walk-met (S .top) (S .owns) left s o 0 m))
+      (λ m. ⊎-elim (λ u. ap linksOf (walk-root (S .top) (S .owns) left s o 0 m u)) (λ u. ap linksOf (walk-lost (S .top) (S .owns) left s o 0 m u (unowned s e))) (way (eqb s U)))
       (way (sameName (Subject s) o))
 
 -- The walk is never lost.
@@ -164,7 +147,7 @@ walk-self S h s = at (S .top) (h .bound U (h .root))
   where
     at : (left : ℕ) → U < left → walkIn S left s (Subject s) 0 ≡ Meets 0
     at zero l = absurd (not-suc-le-zero l)
-    at (suc left) l = walk-met S left s (Subject s) 0 (sameName-refl (Subject s))
+    at (suc left) l = walk-met (S .top) (S .owns) left s (Subject s) 0 (sameName-refl (Subject s))
 
 -- Each subject above is met.
 pub walk-finds : (S : State) → Valid S → (s v : ℕ) → exists S s ≡ true → Above (S .owns) (Subject s) v → meets (walk S s (Subject v)) ≡ true

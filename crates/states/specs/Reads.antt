@@ -1,29 +1,29 @@
 -- The state of a record's bytes, read from the cells.
-use Prim.Native.Nat.{ℕ, _+_, _*_, _<_, _≤_}
+use Prim.Native.Nat.{ℕ, _+_, _<_}
 use native.Mathlib.Omega.{arith}
-use mathlib.Core.Path.{_≡_, refl, sym, _∙_, ap, ap₂, subst}
-use mathlib.Core.Logic.{⊎-elim}
-use mathlib.Core.Bool.{Bool, true, false, not, cond, _&&_}
+use mathlib.Core.Path.{_≡_, sym, _∙_, ap, ap₂, subst}
+use mathlib.Core.Bool.{Bool, true, not, _&&_, and-comm}
 use mathlib.Core.List.{List}
 use lib.Dec.{eqb, ltb}
-use borrow.Author.Tests.{lt-ltb, ltb-true, ne-eqb, le-ltb}
+use borrow.Author.Tests.{lt-ltb, ltb-true, ne-eqb}
 use Rattle.matrix.specs.declared.Name.{Name}
 use Rattle.matrix.specs.declared.Name.the-variants.{Subject, Plain}
-use Rattle.matrix.specs.declared.Form.the-variants.{Starred}
 use Rattle.matrix.specs.declared.Form.{Form}
 use Rattle.matrix.specs.declared.Right.{Right}
 use Rattle.matrix.specs.declared.Right.the-variants.{Own, Control, Basic}
-use Rattle.matrix.specs.Bounded.{any, least}
-use Rattle.matrix.specs.Names.{named, columnOf, sameName}
+use Rattle.matrix.specs.Bounded.{least}
+use Rattle.matrix.specs.Names.{named, columnOf}
 use Rattle.matrix.specs.Rights.{codeOf}
-use Rattle.matrix.specs.State.{State, has, existsName}
+use Rattle.matrix.specs.State.{has, existsName}
 use Rattle.matrix.specs.Owners.{ownerOf}
 use Rattle.matrix.specs.Tests.{otherController}
 use Rattle.matrix.specs.Bytes.{bit}
 use Rattle.matrix.specs.Shape.{shapeOf}
-use Rattle.matrix.specs.Reading.{cellAt, bitAt, stateOf}
-use Rattle.laws.specs.Tests.{and-left, and-right, way}
-use Rattle.laws.specs.Bounded.{least-same, any-same, least-first, least-none}
+use Rattle.matrix.specs.Reading.{cellAt, stateOf}
+use Rattle.laws.specs.Bounded.{least-same, any-least}
+use Rattle.codec.specs.Codes.{codeOf-room}
+use Rattle.codec.specs.Columns.{named-below}
+use Rattle.codec.specs.Update.{bit-named}
 use Rattle.cells.specs.Station.{Station}
 use Rattle.cells.specs.Rows.{rowHas}
 use Rattle.states.specs.Needs.{basicOf, NameIn}
@@ -32,8 +32,7 @@ use Rattle.states.specs.Needs.{basicOf, NameIn}
 pub code-small : (y : Right) → basicOf y < 7 → codeOf y < 16
 code-small Own h = omega arith
 code-small Control h = omega arith
-code-small (Basic k Rattle.matrix.specs.declared.Form.the-variants.Plain) h = omega arith
-code-small (Basic k Starred) h = omega arith
+code-small (Basic k f) h = codeOf-room 2 k f h
 
 -- a basic right, taken apart
 pub basic-code : {y : Right} {k : ℕ} {f : Form} (g : Form) → y ≡ Basic k f → f ≡ g → codeOf (Basic k g) ≡ codeOf y
@@ -42,37 +41,11 @@ basic-code {k = k} g e h = sym (ap codeOf e ∙ ap (λ (f : Form). codeOf (Basic
 pub basic-small : {y : Right} {k : ℕ} {f : Form} → y ≡ Basic k f → basicOf y < 7 → k < 7
 basic-small e h = subst (λ (y : Right). basicOf y < 7) e h
 
--- a name of the record has a column of the record
-pub named-column : (n p : ℕ) (x : Name) → named n p x ≡ true → columnOf x < n + p
-named-column n p (Subject c) h = let l : c < n = ltb-true c n h in omega arith
-named-column n p (Plain c) h = ltb-true c (n + p) (and-right (not (ltb c n)) (ltb c (n + p)) h)
-
-and-swap : (t u : Bool) → (t && u) ≡ (u && t)
-and-swap true true = refl
-and-swap true false = refl
-and-swap false true = refl
-and-swap false false = refl
-
--- something passes exactly where the search finds a number below the bound
-pub any-least : (n : ℕ) (f : ℕ → Bool) → any n f ≡ ltb (least n f) n
-any-least n f =
-    ⊎-elim (λ a. a ∙ sym (lt-ltb (least n f) n (least-first n f a .below)))
-    (λ a. let e : least n f ≡ n = least-none n f a in a ∙ sym (le-ltb (least n f) n (omega arith))) (way (any n f))
-
 module _ (b : List ℕ) (n p : ℕ) (h : Station b n p) where
-  bit-in : (j w : ℕ) (x : Name) → j < 16 → w < n → named n p x ≡ true → bitAt b j w x ≡ bit j (cellAt b w (columnOf x))
-  unfolding bitAt shapeOf
-  bit-in j w x hj hw hx =
-      let e : ltb w (shapeOf b .n) ≡ true = subst (λ (m : ℕ). ltb w m ≡ true) (h .subjects) (lt-ltb w n hw) in
-      let g : named (shapeOf b .n) (shapeOf b .p) x ≡ true = rw (← h .subjects, ← h .plains) hx in
-      rw (e, g, lt-ltb j 16 hj) refl
-
   -- a bit of the state is the bit of the right's code in the cell
   pub read-bit : (y : Right) (w : ℕ) (x : Name) → basicOf y < 7 → w < n → named n p x ≡ true → has (stateOf b) y w x ≡ bit (codeOf y) (cellAt b w (columnOf x))
-  unfolding stateOf
-  read-bit Own w x hy hw hx = bit-in 0 w x (omega arith) hw hx
-  read-bit Control w x hy hw hx = bit-in 1 w x (omega arith) hw hx
-  read-bit (Basic k f) w x hy hw hx = bit-in (codeOf (Basic k f)) w x (code-small (Basic k f) hy) hw hx
+  unfolding shapeOf
+  read-bit y w x hy hw hx = bit-named b y w x (rw (← h .subjects) hw) (rw (← h .subjects, ← h .plains) hx) (code-small y hy)
 
   -- the state's bound is n
   pub top-is : stateOf b .top ≡ n
@@ -92,7 +65,7 @@ module _ (b : List ℕ) (n p : ℕ) (h : Station b n p) where
   unfolding rowHas
   search-other o ho =
       least-same n (rowHas b o 1 o) (λ w. stateOf b .controls w (Subject o) && not (eqb w o))
-      (λ w l. ap (λ (t : Bool). not (eqb w o) && t) (sym (read-bit Control w (Subject o) (omega arith) l (lt-ltb o n ho))) ∙ and-swap (not (eqb w o)) (stateOf b .controls w (Subject o)))
+      (λ w l. ap (λ (t : Bool). not (eqb w o) && t) (sym (read-bit Control w (Subject o) (omega arith) l (lt-ltb o n ho))) ∙ and-comm (not (eqb w o)) (stateOf b .controls w (Subject o)))
       ∙ ap (λ (m : ℕ). least m (λ w. stateOf b .controls w (Subject o) && not (eqb w o))) (sym top-is)
 
 -- a name of the record, by its kind
@@ -100,7 +73,7 @@ pub named-subject : {b : List ℕ} {n p s : ℕ} {x : Name} → NameIn b n p x �
 named-subject {n = n} {p = p} {s = s} h e = ltb-true s n (subst (λ (x : Name). named n p x ≡ true) e (h .column))
 
 pub named-plain : {b : List ℕ} {n p o : ℕ} {x : Name} → NameIn b n p x → x ≡ Plain o → o < n + p
-named-plain {n = n} {p = p} {x = x} h e = subst (λ (x : Name). columnOf x < n + p) e (named-column n p x (h .column))
+named-plain {n = n} {p = p} {x = x} h e = subst (λ (x : Name). columnOf x < n + p) e (named-below n p x (h .column))
 
 -- an object exists where the search of its column for an owner finds a row r
 pub object-found : {b : List ℕ} {n p o r : ℕ} {x : Name} → NameIn b n p x → x ≡ Plain o → r ≡ least n (rowHas b o 0 n) → ltb r n ≡ existsName (stateOf b) x

@@ -1,7 +1,5 @@
 -- `states::code_of` meets its contract: each arm is a case of the definition.
-use Prim.Native.Nat.{ℕ, _+_, _*_, _<_}
 use native.Mathlib.Omega.{arith}
-use mathlib.Core.Path.{_≡_, sym, _∙_, ap, subst}
 use Rattle.states.specs.Reads.{basic-code, basic-small}
 use Rattle.matrix.specs.declared.Form.the-variants.{Plain, Starred}
 use borrow.Author.Needs.{needs}

@@ -1,10 +1,11 @@
 -- `states::has_bit` meets its contract: the bit of the right's code in the cell is the state's bit.
 use Prim.Native.Nat.{ℕ, _<_, _+_}
 use native.Mathlib.Omega.{arith}
-use mathlib.Core.Path.{_≡_, sym, _∙_, ap, ap₂, subst}
+use mathlib.Core.Path.{sym, _∙_, ap, ap₂, subst}
 use Rattle.matrix.specs.Bytes.{bit}
 use Rattle.matrix.specs.Reading.{cellAt}
-use Rattle.states.specs.Reads.{code-small, named-column, read-bit}
+use Rattle.codec.specs.Columns.{named-below}
+use Rattle.states.specs.Reads.{code-small, read-bit}
 use borrow.Author.Needs.{needs}
 use Rattle.states.proofs.has_bit.Statement.{statement}
 use Rattle.states.proofs.has_bit.Tie as tie
@@ -25,7 +26,7 @@ cell-requires : tie.Need-cell-requires
 cell-requires c κs =
     let a = c .before .before .before .args in
     let q = c .before .before .before .pre in
-    record { station = q .station; row = q .row; column = subst (λ (m : ℕ). m < a .n + a .p) (sym (c .before .column-of .ensures)) (named-column (a .n) (a .p) (a .x) (q .column)) }
+    record { station = q .station; row = q .row; column = subst (λ (m : ℕ). m < a .n + a .p) (sym (c .before .column-of .ensures)) (named-below (a .n) (a .p) (a .x) (q .column)) }
 
 bit-of-requires : tie.Need-bit-of-requires
 bit-of-requires c κs = omega (arith, code-small (c .before .before .before .before .args .y) (c .before .before .before .before .pre .right), c .before .code-of .ensures)

@@ -1,8 +1,8 @@
 -- `states::owner_walk` meets its contract. The loop's invariant: what is left of the walk is the whole walk's answer.
 use borrow.Author.Needs.{needs}
-use Prim.Native.Nat.{ℕ, _+_, _-_, _≤_, _<_}
+use Prim.Native.Nat.{ℕ, _+_, _<_}
 use native.Mathlib.Omega.{arith}
-use mathlib.Core.Path.{_≡_, refl, sym, _∙_, ap, subst}
+use mathlib.Core.Path.{_≡_, sym, _∙_, ap}
 use Rattle.matrix.specs.declared.Name.the-variants.{Subject}
 use Rattle.matrix.specs.Owners.{walk, walkFrom}
 use Rattle.matrix.specs.Reading.{stateOf}
