@@ -1,0 +1,77 @@
+-- `station::run` meets its contract.
+use native.Mathlib.Omega.{arith}
+use mathlib.Core.Path.{_≡_, sym, _∙_}
+use Rattle.matrix.specs.Record.{recordRefusal}
+use Rattle.matrix.specs.Shaped.{Octets}
+use Rattle.matrix.specs.CommandList.{wellFormed}
+use mathlib.Core.Bool.{true}
+use borrow.Author.Tests.{not-true, not-false}
+use Rattle.station.specs.Done.{station-of, long-enough, run-turned-down, run-kept, list-turned-down, list-kept, run-outcome, run-done}
+use borrow.Author.Needs.{needs}
+use Rattle.station.proofs.run.Statement.{statement}
+use Rattle.station.proofs.run.Tie as tie
+
+refusal-requires : tie.Need-refusal-requires
+refusal-requires c κs = search needs
+
+same-length : tie.Need-same-length
+same-length c = search needs
+
+-- where the record is not turned down
+right : (c : tie.Else1) → recordRefusal (c .before .before .before .before .before .args .b .now) ≡ 0
+right c = sym (c .before .refusal .ensures) ∙ c .if1 .left
+
+octets : (c : tie.Else1) → Octets (c .before .before .before .before .before .args .b .now)
+octets c = record { octet = λ j. c .before .before .before .before .slice-known .given j .fits }
+
+-- where the list is of the right form
+formed : (c : tie.Else2) → wellFormed (c .before .before .before .before .before .before .before .args .l .now) ≡ true
+formed c = sym (c .before .well-formed .ensures) ∙ not-false _ (c .if2 .left)
+
+returns : tie.Need-returns
+returns c =
+    (run-turned-down _ (c .before .refusal .ensures) (c .if1 .taken) _, run-kept _ (c .before .refusal .ensures) (c .if1 .taken) _)
+
+well-formed-requires : tie.Need-well-formed-requires
+well-formed-requires c κs = search needs
+
+same-length-2 : tie.Need-same-length-2
+same-length-2 c = search needs
+
+returns-2 : tie.Need-returns-2
+returns-2 c =
+    let f = sym (c .before .well-formed .ensures) ∙ not-true _ (c .if2 .taken) in
+    (list-turned-down _ _ (right (c .before .before)) f, list-kept _ _ (right (c .before .before)) f)
+
+byte-requires : tie.Need-byte-requires
+byte-requires c κs = omega (arith, long-enough _ (right (c .before .before .before)))
+
+byte-requires-2 : tie.Need-byte-requires-2
+byte-requires-2 c κs = omega (arith, long-enough _ (right (c .before .before .before .before .before)))
+
+run-on-requires : tie.Need-run-on-requires
+run-on-requires c κs =
+    (station-of (octets (c .before .before .before .before .before .before .before)) (right (c .before .before .before .before .before .before .before)) (c .before .before .before .byte .ensures) (c .before .byte2 .ensures), formed (c .before .before .before .before .before))
+
+same-length-3 : tie.Need-same-length-3
+same-length-3 c = search needs
+
+returns-3 : tie.Need-returns-3
+returns-3 c =
+    (run-outcome _ _ (right (c .before .before .before .before .before .before .before .before .before .before)) (formed (c .before .before .before .before .before .before .before .before)) (c .before .before .run-on .ensures), run-done _ _ (right (c .before .before .before .before .before .before .before .before .before .before)) (formed (c .before .before .before .before .before .before .before .before)) (c .before .before .run-on .ensures))
+
+pub run-spec : {M : Type 1} → statement M
+run-spec =
+    tie.close
+    (tie.spec
+    refusal-requires
+    same-length
+    returns
+    well-formed-requires
+    same-length-2
+    returns-2
+    byte-requires
+    byte-requires-2
+    run-on-requires
+    same-length-3
+    returns-3)

@@ -1,0 +1,119 @@
+-- The definitions of the public calls, from what the crates below answer.
+use Prim.Native.Nat.{ℕ, _+_, _*_, _<_}
+use native.Mathlib.Omega.{arith}
+use mathlib.Core.Path.{_≡_, refl, sym, _∙_, ap, ap₂}
+use mathlib.Core.Logic.{⊎-elim}
+use mathlib.Core.Bool.{Bool, true, false, cond, _&&_}
+use mathlib.Core.List.{List, [], _∷_}
+use lib.Dec.{eqb}
+use lib.ListN.{length, getD}
+use borrow.Author.Tests.{eq-eqb, ne-eqb}
+use Rattle.matrix.specs.declared.Fields.{Fields}
+use Rattle.matrix.specs.declared.Answer.{Answer}
+use Rattle.matrix.specs.declared.Answer.the-variants.{Refused}
+use Rattle.matrix.specs.declared.Outcome.{Outcome}
+use Rattle.matrix.specs.State.{State}
+use Rattle.matrix.specs.Tests.{test, firstFailed}
+use Rattle.matrix.specs.Step.{refusal, next}
+use Rattle.matrix.specs.Shape.{Shape, shapeOf}
+use Rattle.matrix.specs.Reading.{stateOf, bytesOf}
+use Rattle.matrix.specs.Record.{recordRefusal}
+use Rattle.matrix.specs.Shaped.{Octets}
+use Rattle.matrix.specs.CommandList.{wellFormed}
+use Rattle.matrix.specs.Calls.{validAnswer, refusalOn, nextOn, commandAnswer, commandBytes, runRefusal, ranOn, runAnswer, runBytes}
+use Rattle.laws.specs.Tests.{way}
+use Rattle.codec.specs.RoundTrip.{read-write}
+use Rattle.owners.specs.Read.{record-shaped}
+use Rattle.cells.specs.Station.{Station}
+use Rattle.changes.specs.Became.{Became}
+use Rattle.commands.specs.Answered.{Answered}
+use Rattle.runs.specs.Reached.{RunOn}
+
+-- a record that is not turned down is of the right form
+pub station-of : {b : List ℕ} {n p : ℕ} → Octets b → recordRefusal b ≡ 0 → n ≡ getD b 5 0 → p ≡ getD b 6 0 → Station b n p
+unfolding shapeOf
+station-of {b} o h e f = record { shaped = record-shaped b h; octets = o; subjects = e; plains = f }
+
+pub long-enough : (b : List ℕ) → recordRefusal b ≡ 0 → 6 < length b
+unfolding shapeOf
+long-enough b h = let e : length b ≡ 7 + 2 * (getD b 5 0 * (getD b 5 0 + getD b 6 0)) = record-shaped b h .size in omega arith
+
+-- bytes that became a state are that state written in the same shape
+pub written : {b b′ : List ℕ} {S : State} → Became b b′ S → b′ ≡ bytesOf (shapeOf b) S
+written {b′ = b′} w = sym (read-write b′ (w .shaped) (w .octets)) ∙ (λ i. bytesOf (w .shape i) (w .state i))
+
+-- a refused command's state is written as the same bytes
+unchanged : {b b′ : List ℕ} {n p : ℕ} → Station b n p → Became b b′ (stateOf b) → b′ ≡ b
+unchanged {b} h w = written w ∙ read-write b (h .shaped) (h .octets)
+
+refused-next : (f : Shape) (S : State) (c : Fields) → eqb (refusalOn f S c) 0 ≡ false → nextOn f S c ≡ S
+unfolding nextOn next refusalOn
+refused-next f S c h = rw h refl
+
+module _ {b b′ : List ℕ} {n p : ℕ} {c : Fields} {r : Answer} (valid : recordRefusal b ≡ 0) (h : Station b n p) (w : Answered b b′ c r) where
+  pub command-reply : r ≡ commandAnswer b c
+  unfolding commandAnswer
+  command-reply = rw valid (w .reply)
+
+  pub command-done : b′ ≡ commandBytes b c
+  unfolding commandBytes
+  command-done = rw valid (⊎-elim accepted refused (way (eqb (refusalOn (shapeOf b) (stateOf b) c) 0)))
+    where
+      accepted : eqb (refusalOn (shapeOf b) (stateOf b) c) 0 ≡ true → b′ ≡ cond (eqb (refusalOn (shapeOf b) (stateOf b) c) 0) (bytesOf (shapeOf b) (nextOn (shapeOf b) (stateOf b) c)) b
+      accepted t = written (w .became) ∙ sym (ap (λ (u : Bool). cond u (bytesOf (shapeOf b) (nextOn (shapeOf b) (stateOf b) c)) b) t)
+
+      refused : eqb (refusalOn (shapeOf b) (stateOf b) c) 0 ≡ false → b′ ≡ cond (eqb (refusalOn (shapeOf b) (stateOf b) c) 0) (bytesOf (shapeOf b) (nextOn (shapeOf b) (stateOf b) c)) b
+      refused t =
+          let z = w .became in
+          unchanged h (record { shaped = z .shaped; octets = z .octets; shape = z .shape; state = z .state ∙ refused-next (shapeOf b) (stateOf b) c t })
+          ∙ sym (ap (λ (u : Bool). cond u (bytesOf (shapeOf b) (nextOn (shapeOf b) (stateOf b) c)) b) t)
+
+module _ (b : List ℕ) {m : ℕ} (number : m ≡ recordRefusal b) (turned : m ≡ 0 → ⊥) where
+  not-zero : eqb (recordRefusal b) 0 ≡ false
+  not-zero = ne-eqb (recordRefusal b) 0 (λ e. turned (number ∙ e))
+
+  pub command-turned-down : (c : Fields) → Refused m 0 ≡ commandAnswer b c
+  unfolding commandAnswer
+  command-turned-down c = rw not-zero (ap (λ (m : ℕ). Refused m 0) number)
+
+  pub command-kept : (c : Fields) → b ≡ commandBytes b c
+  unfolding commandBytes
+  command-kept c = rw not-zero refl
+
+  run-refusal : (l : List ℕ) → runRefusal b l ≡ recordRefusal b
+  unfolding runRefusal firstFailed
+  run-refusal l = rw not-zero refl
+
+  pub run-turned-down : (l : List ℕ) → _≡_ {A = Outcome} (record { accepted = 0; refusal = m }) (runAnswer b l)
+  unfolding runAnswer
+  run-turned-down l = rw (run-refusal l, not-zero) (ap (λ (m : ℕ). record { accepted = 0; refusal = m }) number)
+
+  pub run-kept : (l : List ℕ) → b ≡ runBytes b l
+  unfolding runBytes
+  run-kept l = rw (run-refusal l, not-zero) refl
+
+module _ (b l : List ℕ) (valid : recordRefusal b ≡ 0) where
+  list-refusal : {t : Bool} → wellFormed l ≡ t → runRefusal b l ≡ cond t 0 16
+  unfolding runRefusal firstFailed
+  list-refusal h = rw (valid, h) refl
+
+  pub list-turned-down : wellFormed l ≡ false → _≡_ {A = Outcome} (record { accepted = 0; refusal = 16 }) (runAnswer b l)
+  unfolding runAnswer
+  list-turned-down h = let e : runRefusal b l ≡ 16 = list-refusal h in rw e refl
+
+  pub list-kept : wellFormed l ≡ false → b ≡ runBytes b l
+  unfolding runBytes
+  list-kept h = let e : runRefusal b l ≡ 16 = list-refusal h in rw e refl
+
+  module _ {b′ : List ℕ} {r : Outcome} (right : wellFormed l ≡ true) (w : RunOn b b′ l r) where
+    pub run-outcome : r ≡ runAnswer b l
+    unfolding runAnswer
+    run-outcome = let e : runRefusal b l ≡ 0 = list-refusal right in rw e (w .outcome)
+
+    pub run-done : b′ ≡ runBytes b l
+    unfolding runBytes
+    run-done = let e : runRefusal b l ≡ 0 = list-refusal right in rw e (written (w .became))
+
+pub valid-test : (b : List ℕ) {m : ℕ} → m ≡ recordRefusal b → eqb m 0 ≡ validAnswer b
+unfolding validAnswer
+valid-test b e = ap (λ (m : ℕ). eqb m 0) e

@@ -1,0 +1,69 @@
+// The public calls. Each takes any bytes and any numbers, and its answer, with the bytes after it, is the definition's.
+
+use matrix::Answer;
+use matrix::Fields;
+use matrix::Outcome;
+ghost use mathlib.Core.Path.{_≡_};
+ghost use Prim.Native.Nat.{_<_};
+ghost use lib.ListN.{length, getD};
+ghost use Rattle.matrix.specs.Calls.{validAnswer, commandAnswer, commandBytes, runAnswer, runBytes};
+ghost use Rattle.station.specs.Given.{fieldsOf};
+
+// The byte at a place, as a number.
+fn byte(b: &[u8], j: usize) -> usize
+    requires { ⌜ j < length (now b) ⌝ }
+    ensures { λ r. ⌜ r ≡ getD (now (b .entry)) j 0 ⌝ }
+{
+    b[j] as usize
+}
+
+// Whether a record is valid.
+pub fn valid(b: &[u8]) -> bool
+    ensures { λ t. ⌜ t ≡ validAnswer (now (b .entry)) ⌝ }
+{
+    validity::refusal(b) == 0
+}
+
+// One command on a record: accepted with the links of the owner walk, or refused by a number with the links.
+pub fn command(b: &mut [u8], code: u64, i: u64, s: u64, o: u64, k: u64) -> Answer
+    ensures answer { λ r. ⌜ r ≡ commandAnswer (now (b .entry)) (fieldsOf code i s o k) ⌝ }
+    ensures bytes { λ r. ⌜ now (b .exit) ≡ commandBytes (now (b .entry)) (fieldsOf code i s o k) ⌝ }
+{
+    let turned = validity::refusal(b);
+    if turned != 0 {
+        return Answer::Refused(turned, 0);
+    }
+    let n = byte(b, 5);
+    let p = byte(b, 6);
+    let c = Fields {
+        code: code as usize,
+        i: i as usize,
+        s: s as usize,
+        o: o as usize,
+        k: k as usize,
+    };
+    commands::command_on(b, n, p, c)
+}
+
+// The commands of a list in turn, up to the first that is refused: how many were accepted, and the refusal, 0 if none.
+pub fn run(b: &mut [u8], l: &[u8]) -> Outcome
+    ensures answer { λ r. ⌜ r ≡ runAnswer (now (b .entry)) (now (l .entry)) ⌝ }
+    ensures bytes { λ r. ⌜ now (b .exit) ≡ runBytes (now (b .entry)) (now (l .entry)) ⌝ }
+{
+    let turned = validity::refusal(b);
+    if turned != 0 {
+        return Outcome {
+            accepted: 0,
+            refusal: turned,
+        };
+    }
+    if !lists::well_formed(l) {
+        return Outcome {
+            accepted: 0,
+            refusal: 16,
+        };
+    }
+    let n = byte(b, 5);
+    let p = byte(b, 6);
+    runs::run_on(b, n, p, l)
+}
