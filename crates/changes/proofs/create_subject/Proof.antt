@@ -1,7 +1,7 @@
 -- `changes::create_subject` meets its contract: own and control are given in turn.
 use native.Mathlib.Omega.{arith}
 use borrow.Author.Tests.{lt-ltb}
-use Rattle.changes.specs.Steps.{bit-after}
+use Rattle.changes.specs.Steps.{bit-after, length-after}
 use Rattle.changes.specs.Effects.{created}
 use borrow.Author.Needs.{needs}
 use Rattle.changes.proofs.create_subject.Statement.{statement}
@@ -16,11 +16,11 @@ put-right-requires c κs = record { station = c .before .before .pre .station; r
 put-right-requires-2 : tie.Need-put-right-requires-2
 put-right-requires-2 c κs = bit-after (c .before .before .before .before .before .before .pre .station) (c .before .before .before .put-right .ensures) (omega arith) (c .before .before .before .before .before .before .pre .subject) (lt-ltb _ _ (c .before .before .before .before .before .before .pre .subject))
 
-same-length : tie.Need-same-length
-same-length c = search needs
-
 returns : tie.Need-returns
 returns c = created (c .before .before .before .before .before .before .before .before .before .args .c .i) (c .before .before .before .before .before .before .before .before .before .args .c .s) (c .before .before .before .before .before .before .before .before .before .pre .station) (c .before .before .before .before .before .before .before .before .before .pre .subject) (c .before .before .before .before .before .before .put-right .ensures) (c .before .before .put-right2 .ensures)
+
+same-length : tie.Need-same-length
+same-length c = length-after (c .before .before .before .before .before .before .before .before .before .pre .station) (returns c)
 
 pub create-subject-spec : {M : Type 1} → statement M
 create-subject-spec =

@@ -1,6 +1,6 @@
 -- `changes::destroy_subject` meets its contract: what s owns is inherited before its column and its row are cleared.
 use native.Mathlib.Omega.{arith}
-use Rattle.changes.specs.Steps.{station-after}
+use Rattle.changes.specs.Steps.{station-after, length-after}
 use Rattle.changes.specs.Effects.{destroyed}
 use borrow.Author.Needs.{needs}
 use Rattle.changes.proofs.destroy_subject.Statement.{statement}
@@ -20,11 +20,11 @@ clear-column-requires c κs = (station-after (c .before .before .before .before 
 clear-row-requires : tie.Need-clear-row-requires
 clear-row-requires c κs = (station-after (station-after (c .before .before .before .before .before .before .before .before .before .before .pre .station) (c .before .before .before .before .before .before .before .inherit-own .ensures)) (c .before .before .before .clear-column .ensures), c .before .before .before .before .before .before .before .before .before .before .pre .subject)
 
-same-length : tie.Need-same-length
-same-length c = search needs
-
 returns : tie.Need-returns
 returns c = destroyed (c .before .before .before .before .before .before .before .before .before .before .before .before .before .args .n) (c .before .before .before .before .before .before .before .before .before .before .before .before .before .args .c .i) (c .before .before .before .before .before .before .before .before .before .before .before .before .before .args .c .s) (c .before .before .before .before .before .before .before .before .before .before .before .before .before .pre .subject) (c .before .before .before .before .before .before .before .before .before .before .inherit-own .ensures) (c .before .before .before .before .before .before .clear-column .ensures) (c .before .before .clear-row .ensures)
+
+same-length : tie.Need-same-length
+same-length c = length-after (c .before .before .before .before .before .before .before .before .before .before .before .before .before .pre .station) (returns c)
 
 pub destroy-subject-spec : {M : Type 1} → statement M
 destroy-subject-spec =

@@ -1,7 +1,7 @@
 -- `changes::put_in_column` meets its contract: the cell is stored with the bit of the right set or cleared.
 use Rattle.states.specs.Reads.{code-small}
 use Rattle.changes.specs.OneBit.{cell-small}
-use Rattle.changes.specs.Steps.{became-put}
+use Rattle.changes.specs.Steps.{became-put, length-after}
 use borrow.Author.Needs.{needs}
 use Rattle.changes.proofs.put_in_column.Statement.{statement}
 use Rattle.changes.proofs.put_in_column.Tie as tie
@@ -24,11 +24,11 @@ with-bit-requires c κs = (cell-small (c .before .before .before .before .pre .0
 store-requires : tie.Need-store-requires
 store-requires c κs = search needs
 
-same-length : tie.Need-same-length
-same-length c = search needs
-
 returns : tie.Need-returns
 returns c = became-put (c .before .before .before .before .before .before .before .before .before .args .y) (c .before .before .before .before .before .before .before .before .before .args .on) (c .before .before .before .before .before .before .before .before .before .pre .0) (c .before .before .before .before .before .before .before .before .before .pre .1) (c .before .before .before .before .before .before .before .code-of .ensures) (c .before .before .before .before .before .cell .ensures) (c .before .before .before .before .with-bit .ensures) (c .before .before .store .ensures)
+
+same-length : tie.Need-same-length
+same-length c = length-after (c .before .before .before .before .before .before .before .before .before .pre .0 .station) (returns c)
 
 pub put-in-column-spec : {M : Type 1} → statement M
 put-in-column-spec =

@@ -1,6 +1,6 @@
 -- `changes::transfer` meets its contract: each arm is a case of the definition.
 use native.Mathlib.Omega.{arith}
-use Rattle.changes.specs.Steps.{bit-after}
+use Rattle.changes.specs.Steps.{bit-after, length-after}
 use Rattle.changes.specs.Effects.{own-transferred, control-transferred, basic-transferred}
 use borrow.Author.Needs.{needs}
 use Rattle.changes.proofs.transfer.Statement.{statement}
@@ -27,20 +27,20 @@ enum-told-3 c = search needs
 put-right-requires-3 : tie.Need-put-right-requires-3
 put-right-requires-3 c κs = search needs
 
-same-length : tie.Need-same-length
-same-length c = search needs
-
 returns : tie.Need-returns
 returns c = own-transferred (c .before .before .before .before .before .before .before .before .before .before .before .args .c) (c .before .before .before .before .before .before .before .before .enum-told .given .1) (c .before .before .before .before .before .before .put-right .ensures) (c .before .before .put-right2 .ensures)
+
+same-length : tie.Need-same-length
+same-length c = length-after (c .before .before .before .before .before .before .before .before .before .before .before .pre .0 .station) (returns c)
 
 returns-2 : tie.Need-returns-2
 returns-2 c = control-transferred (c .before .before .before .args .c) (c .enum-told2 .given .1) (c .before .before .before .pre .0 .station)
 
-same-length-2 : tie.Need-same-length-2
-same-length-2 c = search needs
-
 returns-3 : tie.Need-returns-3
 returns-3 c = basic-transferred (c .before .before .before .before .before .before .before .args .c) (c .before .before .before .before .enum-told3 .given .1) (c .before .before .put-right3 .ensures)
+
+same-length-2 : tie.Need-same-length-2
+same-length-2 c = length-after (c .before .before .before .before .before .before .before .pre .0 .station) (returns-3 c)
 
 pub transfer-spec : {M : Type 1} → statement M
 transfer-spec =
