@@ -53,8 +53,8 @@ fn clear_column(b: &mut [u8], n: usize, p: usize, c: usize)
     requires { ⌜ Station (now b) n p × (c < n + p) ⌝ }
     ensures { λ _. ⌜ Became (now (b .entry)) (now (b .exit)) (clear (inColumn (nameOf n c)) (stateOf (now (b .entry)))) ⌝ }
 {
-    for r in 0..n {
-        cells::store(b, n, p, r, c, 0);
+    for w in 0..n {
+        cells::store(b, n, p, w, c, 0);
     }
 }
 

@@ -1,6 +1,7 @@
 -- `changes::apply` meets its contract: each arm makes the change of its act.
 use Rattle.changes.specs.Effects.{basic-of, object-column, acted, object-cleared}
 use borrow.Author.Needs.{needs}
+use native.Mathlib.Omega.{arith}
 use Rattle.changes.specs.Steps.{length-after}
 use Rattle.changes.proofs.apply.Statement.{statement}
 use Rattle.changes.proofs.apply.Tie as tie
@@ -23,13 +24,17 @@ enum-known-act-2 : tie.Need-enum-known-act-2
 enum-known-act-2 c = search needs
 
 put-right-requires : tie.Need-put-right-requires
-put-right-requires c κs = record { station = c .before .before .before .before .before .pre .station; right = basic-of (c .before .before .before .before .before .pre) (c .before .before .act2 .given .1); row = c .before .before .before .before .before .pre .subject; column = c .before .before .before .before .before .pre .object }
+put-right-requires c κs =
+    let q = c .before .before .before .before .before .pre in
+    record { station = q .station; right = basic-of q (c .before .before .act2 .given .1); row = omega arith; column = q .object }
 
 enum-known-act-3 : tie.Need-enum-known-act-3
 enum-known-act-3 c = search needs
 
 put-right-requires-2 : tie.Need-put-right-requires-2
-put-right-requires-2 c κs = record { station = c .before .before .before .before .before .pre .station; right = basic-of (c .before .before .before .before .before .pre) (c .before .before .act3 .given .1); row = c .before .before .before .before .before .pre .subject; column = c .before .before .before .before .before .pre .object }
+put-right-requires-2 c κs =
+    let q = c .before .before .before .before .before .pre in
+    record { station = q .station; right = basic-of q (c .before .before .act3 .given .1); row = omega arith; column = q .object }
 
 enum-told : tie.Need-enum-told
 enum-told c = search needs
@@ -83,7 +88,9 @@ same-length-4 : tie.Need-same-length-4
 same-length-4 c = length-after (c .before .before .before .before .before .before .before .pre .station) (returns-4 c)
 
 returns-5 : tie.Need-returns-5
-returns-5 c = object-cleared (c .before .before .before .before .before .before .before .before .args .c) (c .before .before .before .before .before .before .before .before .pre) (c .before .before .before .before .before .enum-told2 .given .1) (c .before .before .before .column-of .ensures) (c .before .before .clear-column .ensures)
+returns-5 c =
+    object-cleared (c .before .before .before .before .before .before .before .before .args .c) (c .before .before .before .before .before .before .before .before .pre) (c .before .before .before .before .before .enum-told2 .given .1)
+    (c .before .before .before .column-of .ensures) (c .before .before .clear-column .ensures)
 
 same-length-5 : tie.Need-same-length-5
 same-length-5 c = length-after (c .before .before .before .before .before .before .before .before .pre .station) (returns-5 c)

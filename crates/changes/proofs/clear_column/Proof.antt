@@ -15,25 +15,31 @@ use Rattle.changes.proofs.clear_column.Lts as lts
 use Rattle.cells.proofs.store.Reads as store-reads
 
 abbrev Inv-loop : tie.InvT-loop
-Inv-loop b₀ n p c r₀ b r = (r ≤ n) × Became b₀ b (clear (columnPart n c r) (stateOf b₀))
+Inv-loop b₀ n p c w₀ b w = (w ≤ n) × Became b₀ b (clear (columnPart n c w) (stateOf b₀))
 
 abbrev μ-loop : tie.MeasureT-loop
-μ-loop b₀ n p c r₀ b r = n - r
+μ-loop b₀ n p c w₀ b w = n - w
 
 loop-holds : tie.Need-loop-holds Inv-loop μ-loop
 loop-holds c = (search needs, column-none (c .before .args .c) (c .before .pre .0))
 
 store-requires : tie.Need-store-requires Inv-loop μ-loop
-store-requires c κs = cell-after (c .before .before .before .before .pre .0) (c .before .before .loop .inv .1) (c .before .loop-test .taken) (c .before .before .before .before .pre .1)
+store-requires c κs =
+    let q = c .before .before .before .before .pre in
+    cell-after (q .0) (c .before .before .loop .inv .1) (c .before .loop-test .taken) (q .1)
 
-add-r : tie.Need-add-r Inv-loop μ-loop
-add-r c = search needs
+add-w : tie.Need-add-w Inv-loop μ-loop
+add-w c = search needs
 
 loop-less : tie.Need-loop-less Inv-loop μ-loop
 loop-less c = search needs
 
 loop-again : tie.Need-loop-again Inv-loop μ-loop
-loop-again c = (search needs, column-next (c .before .before .before .before .before .before .before .args .c) (c .before .before .before .before .before .loop .inv .1) (cell-after (c .before .before .before .before .before .before .before .pre .0) (c .before .before .before .before .before .loop .inv .1) (c .before .before .before .before .loop-test .taken) (c .before .before .before .before .before .before .before .pre .1)) (c .before .before .store .ensures))
+loop-again c =
+    let q = c .before .before .before .before .before .before .before .pre in
+    let l = c .before .before .before .before .before .loop in
+    let h = cell-after (q .0) (l .inv .1) (c .before .before .before .before .loop-test .taken) (q .1) in
+    (search needs, column-next (c .before .before .before .before .before .before .before .args .c) (l .inv .1) h (c .before .before .store .ensures))
 
 same-length : tie.Need-same-length Inv-loop μ-loop
 same-length c = length-after (c .before .before .before .pre .0) (c .before .loop .inv .1)
@@ -49,7 +55,7 @@ clear-column-spec =
     μ-loop
     loop-holds
     store-requires
-    add-r
+    add-w
     loop-less
     loop-again
     same-length

@@ -28,7 +28,9 @@ loop-holds : tie.Need-loop-holds Inv-loop μ-loop
 loop-holds c = (search needs, row-none (c .before .args .r) (c .before .pre .0))
 
 store-requires : tie.Need-store-requires Inv-loop μ-loop
-store-requires c κs = cell-after (c .before .before .before .before .pre .0) (c .before .before .loop .inv .1) (c .before .before .before .before .pre .1) (c .before .loop-test .taken)
+store-requires c κs =
+    let q = c .before .before .before .before .pre in
+    cell-after (q .0) (c .before .before .loop .inv .1) (q .1) (c .before .loop-test .taken)
 
 add-c : tie.Need-add-c Inv-loop μ-loop
 add-c c = search needs
@@ -37,7 +39,11 @@ loop-less : tie.Need-loop-less Inv-loop μ-loop
 loop-less c = search needs
 
 loop-again : tie.Need-loop-again Inv-loop μ-loop
-loop-again c = (search needs, row-next (c .before .before .before .before .before .before .before .args .r) (c .before .before .before .before .before .loop .inv .1) (cell-after (c .before .before .before .before .before .before .before .pre .0) (c .before .before .before .before .before .loop .inv .1) (c .before .before .before .before .before .before .before .pre .1) (c .before .before .before .before .loop-test .taken)) (c .before .before .store .ensures))
+loop-again c =
+    let q = c .before .before .before .before .before .before .before .pre in
+    let l = c .before .before .before .before .before .loop in
+    let h = cell-after (q .0) (l .inv .1) (q .1) (c .before .before .before .before .loop-test .taken) in
+    (search needs, row-next (c .before .before .before .before .before .before .before .args .r) (l .inv .1) h (c .before .before .store .ensures))
 
 same-length : tie.Need-same-length Inv-loop μ-loop
 same-length c = length-after (c .before .before .before .pre .0) (c .before .loop .inv .1)

@@ -15,13 +15,19 @@ inherit-own-requires : tie.Need-inherit-own-requires
 inherit-own-requires c κs = search needs
 
 clear-column-requires : tie.Need-clear-column-requires
-clear-column-requires c κs = (station-after (c .before .before .before .before .before .before .pre .station) (c .before .before .before .inherit-own .ensures), omega (arith, c .before .before .before .before .before .before .pre .subject))
+clear-column-requires c κs =
+    (station-after (c .before .before .before .before .before .before .pre .station) (c .before .before .before .inherit-own .ensures), omega (arith, c .before .before .before .before .before .before .pre .subject))
 
 clear-row-requires : tie.Need-clear-row-requires
-clear-row-requires c κs = (station-after (station-after (c .before .before .before .before .before .before .before .before .before .before .pre .station) (c .before .before .before .before .before .before .before .inherit-own .ensures)) (c .before .before .before .clear-column .ensures), c .before .before .before .before .before .before .before .before .before .before .pre .subject)
+clear-row-requires c κs =
+    let q = c .before .before .before .before .before .before .before .before .before .before .pre in
+    (station-after (station-after (q .station) (c .before .before .before .before .before .before .before .inherit-own .ensures)) (c .before .before .before .clear-column .ensures), omega arith)
 
 returns : tie.Need-returns
-returns c = destroyed (c .before .before .before .before .before .before .before .before .before .before .before .before .before .args .n) (c .before .before .before .before .before .before .before .before .before .before .before .before .before .args .c .i) (c .before .before .before .before .before .before .before .before .before .before .before .before .before .args .c .s) (c .before .before .before .before .before .before .before .before .before .before .before .before .before .pre .subject) (c .before .before .before .before .before .before .before .before .before .before .inherit-own .ensures) (c .before .before .before .before .before .before .clear-column .ensures) (c .before .before .clear-row .ensures)
+returns c =
+    let a = c .before .before .before .before .before .before .before .before .before .before .before .before .before .args in
+    destroyed (a .n) (a .c .i) (a .c .s) (c .before .before .before .before .before .before .before .before .before .before .before .before .before .pre .subject)
+    (c .before .before .before .before .before .before .before .before .before .before .inherit-own .ensures) (c .before .before .before .before .before .before .clear-column .ensures) (c .before .before .clear-row .ensures)
 
 same-length : tie.Need-same-length
 same-length c = length-after (c .before .before .before .before .before .before .before .before .before .before .before .before .before .pre .station) (returns c)

@@ -19,13 +19,19 @@ cell-requires : tie.Need-cell-requires
 cell-requires c κs = search needs
 
 with-bit-requires : tie.Need-with-bit-requires
-with-bit-requires c κs = (cell-small (c .before .before .before .before .pre .0) (c .cell .ensures), rw (c .before .before .code-of .ensures) (code-small (c .before .before .before .before .args .y) (c .before .before .before .before .pre .1)))
+with-bit-requires c κs =
+    let q = c .before .before .before .before .pre in
+    (cell-small (q .0) (c .cell .ensures), rw (c .before .before .code-of .ensures) (code-small (c .before .before .before .before .args .y) (q .1)))
 
 store-requires : tie.Need-store-requires
 store-requires c κs = search needs
 
 returns : tie.Need-returns
-returns c = became-put (c .before .before .before .before .before .before .before .before .before .args .y) (c .before .before .before .before .before .before .before .before .before .args .on) (c .before .before .before .before .before .before .before .before .before .pre .0) (c .before .before .before .before .before .before .before .before .before .pre .1) (c .before .before .before .before .before .before .before .code-of .ensures) (c .before .before .before .before .before .cell .ensures) (c .before .before .before .before .with-bit .ensures) (c .before .before .store .ensures)
+returns c =
+    let a = c .before .before .before .before .before .before .before .before .before .args in
+    let q = c .before .before .before .before .before .before .before .before .before .pre in
+    became-put (a .y) (a .on) (q .0) (q .1) (c .before .before .before .before .before .before .before .code-of .ensures)
+    (c .before .before .before .before .before .cell .ensures) (c .before .before .before .before .with-bit .ensures) (c .before .before .store .ensures)
 
 same-length : tie.Need-same-length
 same-length c = length-after (c .before .before .before .before .before .before .before .before .before .pre .0 .station) (returns c)

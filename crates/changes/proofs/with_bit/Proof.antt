@@ -17,25 +17,39 @@ shl-result : tie.Need-shl-result
 shl-result c = search needs
 
 sub-result : tie.Need-sub-result
-sub-result c = omega (arith, one-shifted (c .before .before .before .args .j) (c .before .before .before .pre .1), bit-within (c .before .before .before .args .j) (c .before .before .before .args .v) (c .before .before .bit-of .ensures) (c .before .if1 .taken))
+sub-result c =
+    let a = c .before .before .before .args in
+    omega (arith, one-shifted (a .j) (c .before .before .before .pre .1), bit-within (a .j) (a .v) (c .before .before .bit-of .ensures) (c .before .if1 .taken))
 
 shl-result-2 : tie.Need-shl-result-2
 shl-result-2 c = search needs
 
 add-result : tie.Need-add-result
-add-result c = omega (arith, one-shifted (c .before .before .before .args .j) (c .before .before .before .pre .1), power-small (c .before .before .before .args .j) (c .before .before .before .pre .1))
+add-result c =
+    let a = c .before .before .before .args in
+    omega (arith, one-shifted (a .j) (c .before .before .before .pre .1), power-small (a .j) (c .before .before .before .pre .1))
 
 returns : tie.Need-returns
-returns c = sym (with-bit-is (c .before .before .before .args .j) (c .before .before .before .args .v) (c .before .before .bit-of .ensures) (c .before .if1 .taken) (c .if2 .taken))
+returns c =
+    let a = c .before .before .before .args in
+    sym (with-bit-is (a .j) (a .v) (c .before .before .bit-of .ensures) (c .before .if1 .taken) (c .if2 .taken))
 
 returns-2 : tie.Need-returns-2
-returns-2 c = ap (λ (m : ℕ). c .before .before .before .args .v - m) (one-shifted (c .before .before .before .args .j) (c .before .before .before .pre .1)) ∙ sym (with-bit-is (c .before .before .before .args .j) (c .before .before .before .args .v) (c .before .before .bit-of .ensures) (c .before .if1 .taken) (c .if2 .left))
+returns-2 c =
+    let a = c .before .before .before .args in
+    ap (λ (m : ℕ). a .v - m) (one-shifted (a .j) (c .before .before .before .pre .1))
+    ∙ sym (with-bit-is (a .j) (a .v) (c .before .before .bit-of .ensures) (c .before .if1 .taken) (c .if2 .left))
 
 returns-3 : tie.Need-returns-3
-returns-3 c = ap (λ (m : ℕ). c .before .before .before .args .v + m) (one-shifted (c .before .before .before .args .j) (c .before .before .before .pre .1)) ∙ sym (with-bit-is (c .before .before .before .args .j) (c .before .before .before .args .v) (c .before .before .bit-of .ensures) (c .before .if1 .left) (c .if3 .taken))
+returns-3 c =
+    let a = c .before .before .before .args in
+    ap (λ (m : ℕ). a .v + m) (one-shifted (a .j) (c .before .before .before .pre .1))
+    ∙ sym (with-bit-is (a .j) (a .v) (c .before .before .bit-of .ensures) (c .before .if1 .left) (c .if3 .taken))
 
 returns-4 : tie.Need-returns-4
-returns-4 c = sym (with-bit-is (c .before .before .before .args .j) (c .before .before .before .args .v) (c .before .before .bit-of .ensures) (c .before .if1 .left) (c .if3 .left))
+returns-4 c =
+    let a = c .before .before .before .args in
+    sym (with-bit-is (a .j) (a .v) (c .before .before .bit-of .ensures) (c .before .if1 .left) (c .if3 .left))
 
 pub with-bit-spec : {M : Type 1} → statement M
 with-bit-spec =
