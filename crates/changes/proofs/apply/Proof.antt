@@ -2,17 +2,9 @@
 use Rattle.changes.specs.Effects.{basic-of, object-column, acted, object-cleared}
 use borrow.Author.Needs.{needs}
 use native.Mathlib.Omega.{arith}
-use Rattle.changes.specs.Steps.{length-after}
+use Rattle.bits.specs.Steps.{length-after}
 use Rattle.changes.proofs.apply.Statement.{statement}
 use Rattle.changes.proofs.apply.Tie as tie
-use Rattle.changes.proofs.apply.Reads as reads
-use Rattle.changes.proofs.apply.Lts as lts
-use Rattle.changes.proofs.clear_column.Reads as clear-column-reads
-use Rattle.changes.proofs.create_subject.Reads as create-subject-reads
-use Rattle.changes.proofs.destroy_subject.Reads as destroy-subject-reads
-use Rattle.changes.proofs.put_right.Reads as put-right-reads
-use Rattle.changes.proofs.transfer.Reads as transfer-reads
-use Rattle.states.proofs.column_of.Reads as column-of-reads
 
 enum-known-act : tie.Need-enum-known-act
 enum-known-act c = search needs

@@ -1,14 +1,10 @@
 -- `changes::create_subject` meets its contract: own and control are given in turn.
 use native.Mathlib.Omega.{arith}
 use borrow.Author.Tests.{lt-ltb}
-use Rattle.changes.specs.Steps.{bit-after, length-after}
+use Rattle.bits.specs.Steps.{bit-after, length-after}
 use Rattle.changes.specs.Effects.{created}
-use borrow.Author.Needs.{needs}
 use Rattle.changes.proofs.create_subject.Statement.{statement}
 use Rattle.changes.proofs.create_subject.Tie as tie
-use Rattle.changes.proofs.create_subject.Reads as reads
-use Rattle.changes.proofs.create_subject.Lts as lts
-use Rattle.changes.proofs.put_right.Reads as put-right-reads
 
 put-right-requires : tie.Need-put-right-requires
 put-right-requires c κs =

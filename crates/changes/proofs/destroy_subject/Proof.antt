@@ -1,15 +1,10 @@
 -- `changes::destroy_subject` meets its contract: what s owns is inherited before its column and its row are cleared.
 use native.Mathlib.Omega.{arith}
-use Rattle.changes.specs.Steps.{station-after, length-after}
+use Rattle.bits.specs.Steps.{station-after, length-after}
 use Rattle.changes.specs.Effects.{destroyed}
 use borrow.Author.Needs.{needs}
 use Rattle.changes.proofs.destroy_subject.Statement.{statement}
 use Rattle.changes.proofs.destroy_subject.Tie as tie
-use Rattle.changes.proofs.destroy_subject.Reads as reads
-use Rattle.changes.proofs.destroy_subject.Lts as lts
-use Rattle.changes.proofs.clear_column.Reads as clear-column-reads
-use Rattle.changes.proofs.clear_row.Reads as clear-row-reads
-use Rattle.changes.proofs.inherit_own.Reads as inherit-own-reads
 
 inherit-own-requires : tie.Need-inherit-own-requires
 inherit-own-requires c κs = search needs

@@ -1,13 +1,10 @@
 -- `changes::transfer` meets its contract: each arm is a case of the definition.
 use native.Mathlib.Omega.{arith}
-use Rattle.changes.specs.Steps.{bit-after, length-after}
+use Rattle.bits.specs.Steps.{bit-after, length-after}
 use Rattle.changes.specs.Effects.{own-transferred, control-transferred, basic-transferred}
 use borrow.Author.Needs.{needs}
 use Rattle.changes.proofs.transfer.Statement.{statement}
 use Rattle.changes.proofs.transfer.Tie as tie
-use Rattle.changes.proofs.transfer.Reads as reads
-use Rattle.changes.proofs.transfer.Lts as lts
-use Rattle.changes.proofs.put_right.Reads as put-right-reads
 
 enum-told : tie.Need-enum-told
 enum-told c = search needs

@@ -1,21 +1,16 @@
--- `changes::inherit_own` meets its contract. The loop's invariant: own is gained in the columns passed so far.
+-- `bits::inherit_own` meets its contract. The loop's invariant: own is gained in the columns passed so far.
 use borrow.Author.Needs.{needs}
 use Prim.Native.Nat.{_+_, _-_, _≤_}
 use native.Mathlib.Omega.{arith}
 use mathlib.Core.Logic.{⊎-elim}
 use Rattle.matrix.specs.Reading.{stateOf}
 use Rattle.cells.specs.Places.{subjects-few, plains-few}
-use Rattle.changes.specs.Became.{Became}
-use Rattle.changes.specs.Passed.{inheritPart}
-use Rattle.changes.specs.Steps.{became-at, cell-after, length-after}
-use Rattle.changes.specs.Inherits.{inherit-none, inherit-hit, inherit-miss, inherit-all}
-use Rattle.changes.proofs.inherit_own.Statement.{statement}
-use Rattle.changes.proofs.inherit_own.Tie as tie
-use Rattle.changes.proofs.inherit_own.Reads as reads
-use Rattle.changes.proofs.inherit_own.Lts as lts
-use Rattle.cells.proofs.bit_of.Reads as bit-of-reads
-use Rattle.cells.proofs.cell.Reads as cell-reads
-use Rattle.changes.proofs.put_in_column.Reads as put-in-column-reads
+use Rattle.bits.specs.Became.{Became}
+use Rattle.bits.specs.Passed.{inheritPart}
+use Rattle.bits.specs.Steps.{became-at, cell-after, length-after}
+use Rattle.bits.specs.Inherits.{inherit-none, inherit-hit, inherit-miss, inherit-all}
+use Rattle.bits.proofs.inherit_own.Statement.{statement}
+use Rattle.bits.proofs.inherit_own.Tie as tie
 
 abbrev Inv-loop : tie.InvT-loop
 Inv-loop b₀ n p i s c₀ c-end b c = (c ≤ n + p) × Became b₀ b (inheritPart n i s c (stateOf b₀))

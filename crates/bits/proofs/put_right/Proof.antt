@@ -1,12 +1,8 @@
--- `changes::put_right` meets its contract: the name has its column.
-use Rattle.changes.specs.Steps.{bit-cell, became-named, length-after}
+-- `bits::put_right` meets its contract: the name has its column.
+use Rattle.bits.specs.Steps.{bit-cell, became-named, length-after}
 use borrow.Author.Needs.{needs}
-use Rattle.changes.proofs.put_right.Statement.{statement}
-use Rattle.changes.proofs.put_right.Tie as tie
-use Rattle.changes.proofs.put_right.Reads as reads
-use Rattle.changes.proofs.put_right.Lts as lts
-use Rattle.changes.proofs.put_in_column.Reads as put-in-column-reads
-use Rattle.states.proofs.column_of.Reads as column-of-reads
+use Rattle.bits.proofs.put_right.Statement.{statement}
+use Rattle.bits.proofs.put_right.Tie as tie
 
 column-of-requires : tie.Need-column-of-requires
 column-of-requires c κs = search needs

@@ -1,14 +1,11 @@
--- `changes::with_bit` meets its contract: each arm is a case of the definition.
+-- `bits::with_bit` meets its contract: each arm is a case of the definition.
 use Prim.Native.Nat.{ℕ, _+_, _-_}
 use native.Mathlib.Omega.{arith}
 use mathlib.Core.Path.{sym, _∙_, ap}
-use Rattle.changes.specs.OneBit.{power-small, one-shifted, bit-within, with-bit-is}
+use Rattle.bits.specs.OneBit.{power-small, one-shifted, bit-within, with-bit-is}
 use borrow.Author.Needs.{needs}
-use Rattle.changes.proofs.with_bit.Statement.{statement}
-use Rattle.changes.proofs.with_bit.Tie as tie
-use Rattle.changes.proofs.with_bit.Reads as reads
-use Rattle.changes.proofs.with_bit.Lts as lts
-use Rattle.cells.proofs.bit_of.Reads as bit-of-reads
+use Rattle.bits.proofs.with_bit.Statement.{statement}
+use Rattle.bits.proofs.with_bit.Tie as tie
 
 bit-of-requires : tie.Need-bit-of-requires
 bit-of-requires c κs = search needs

@@ -1,19 +1,16 @@
--- `changes::clear_row` meets its contract. The loop's invariant: the cells of the columns passed so far are cleared.
+-- `bits::clear_row` meets its contract. The loop's invariant: the cells of the columns passed so far are cleared.
 use borrow.Author.Needs.{needs}
 use Prim.Native.Nat.{_+_, _-_, _≤_}
 use native.Mathlib.Omega.{arith}
 use Rattle.matrix.specs.State.{clear}
 use Rattle.matrix.specs.Reading.{stateOf}
 use Rattle.cells.specs.Places.{subjects-few, plains-few}
-use Rattle.changes.specs.Became.{Became}
-use Rattle.changes.specs.Passed.{rowPart}
-use Rattle.changes.specs.Steps.{cell-after, length-after}
-use Rattle.changes.specs.Loops.{row-none, row-next, row-all}
-use Rattle.changes.proofs.clear_row.Statement.{statement}
-use Rattle.changes.proofs.clear_row.Tie as tie
-use Rattle.changes.proofs.clear_row.Reads as reads
-use Rattle.changes.proofs.clear_row.Lts as lts
-use Rattle.cells.proofs.store.Reads as store-reads
+use Rattle.bits.specs.Became.{Became}
+use Rattle.bits.specs.Passed.{rowPart}
+use Rattle.bits.specs.Steps.{cell-after, length-after}
+use Rattle.bits.specs.Loops.{row-none, row-next, row-all}
+use Rattle.bits.proofs.clear_row.Statement.{statement}
+use Rattle.bits.proofs.clear_row.Tie as tie
 
 abbrev Inv-loop : tie.InvT-loop
 Inv-loop b₀ n p r c₀ c-end b c = (c ≤ n + p) × Became b₀ b (clear (rowPart n r c) (stateOf b₀))

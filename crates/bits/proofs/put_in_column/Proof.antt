@@ -1,16 +1,10 @@
--- `changes::put_in_column` meets its contract: the cell is stored with the bit of the right set or cleared.
+-- `bits::put_in_column` meets its contract: the cell is stored with the bit of the right set or cleared.
 use Rattle.states.specs.Reads.{code-small}
-use Rattle.changes.specs.OneBit.{cell-small}
-use Rattle.changes.specs.Steps.{became-put, length-after}
+use Rattle.bits.specs.OneBit.{cell-small}
+use Rattle.bits.specs.Steps.{became-put, length-after}
 use borrow.Author.Needs.{needs}
-use Rattle.changes.proofs.put_in_column.Statement.{statement}
-use Rattle.changes.proofs.put_in_column.Tie as tie
-use Rattle.changes.proofs.put_in_column.Reads as reads
-use Rattle.changes.proofs.put_in_column.Lts as lts
-use Rattle.cells.proofs.cell.Reads as cell-reads
-use Rattle.cells.proofs.store.Reads as store-reads
-use Rattle.changes.proofs.with_bit.Reads as with-bit-reads
-use Rattle.states.proofs.code_of.Reads as code-of-reads
+use Rattle.bits.proofs.put_in_column.Statement.{statement}
+use Rattle.bits.proofs.put_in_column.Tie as tie
 
 code-of-requires : tie.Need-code-of-requires
 code-of-requires c κs = search needs

@@ -1,18 +1,15 @@
--- `changes::clear_column` meets its contract. The loop's invariant: the cells of the rows passed so far are cleared.
+-- `bits::clear_column` meets its contract. The loop's invariant: the cells of the rows passed so far are cleared.
 use borrow.Author.Needs.{needs}
 use Prim.Native.Nat.{_-_, _≤_}
 use native.Mathlib.Omega.{arith}
 use Rattle.matrix.specs.State.{clear}
 use Rattle.matrix.specs.Reading.{stateOf}
-use Rattle.changes.specs.Became.{Became}
-use Rattle.changes.specs.Passed.{columnPart}
-use Rattle.changes.specs.Steps.{cell-after, length-after}
-use Rattle.changes.specs.Loops.{column-none, column-next, column-all}
-use Rattle.changes.proofs.clear_column.Statement.{statement}
-use Rattle.changes.proofs.clear_column.Tie as tie
-use Rattle.changes.proofs.clear_column.Reads as reads
-use Rattle.changes.proofs.clear_column.Lts as lts
-use Rattle.cells.proofs.store.Reads as store-reads
+use Rattle.bits.specs.Became.{Became}
+use Rattle.bits.specs.Passed.{columnPart}
+use Rattle.bits.specs.Steps.{cell-after, length-after}
+use Rattle.bits.specs.Loops.{column-none, column-next, column-all}
+use Rattle.bits.proofs.clear_column.Statement.{statement}
+use Rattle.bits.proofs.clear_column.Tie as tie
 
 abbrev Inv-loop : tie.InvT-loop
 Inv-loop b₀ n p c w₀ b w = (w ≤ n) × Became b₀ b (clear (columnPart n c w) (stateOf b₀))
