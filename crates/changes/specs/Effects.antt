@@ -22,10 +22,10 @@ use Rattle.codec.specs.Columns.{nameOf-columnOf, named-below}
 use Rattle.cells.specs.Station.{Station}
 use Rattle.states.specs.Reads.{top-is}
 use Rattle.rules.specs.Needs.{basicOfAct, CommandIn}
-use Rattle.changes.specs.Became.{Became}
-use Rattle.changes.specs.Passed.{inRow}
-use Rattle.changes.specs.Steps.{became-same, became-then, became-as}
-use Rattle.changes.specs.Loops.{clear-clear}
+use Rattle.bits.specs.Became.{Became}
+use Rattle.bits.specs.Passed.{inRow}
+use Rattle.bits.specs.Steps.{became-same, became-then, became-as}
+use Rattle.bits.specs.Loops.{clear-clear}
 
 -- a right is transferred, by its kind
 module _ {b : List ℕ} (c : Command) {y : Right} where

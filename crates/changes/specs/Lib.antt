@@ -1,7 +1,1 @@
-pub mod Became
-pub mod Passed
-pub mod OneBit
-pub mod Steps
-pub mod Loops
-pub mod Inherits
 pub mod Effects

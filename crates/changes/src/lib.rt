@@ -4,81 +4,12 @@ use matrix::Act;
 use matrix::Command;
 use matrix::Name;
 use matrix::Right;
-ghost use mathlib.Core.Path.{_≡_};
-ghost use Prim.Native.Nat.{_+_, _<_};
-ghost use Rattle.matrix.specs.Names.{nameOf};
-ghost use Rattle.matrix.specs.State.{put, clear};
+ghost use Prim.Native.Nat.{_<_};
 ghost use Rattle.matrix.specs.Reading.{stateOf};
-ghost use Rattle.matrix.specs.Changes.{inherit, inColumn, change};
-ghost use Rattle.codec.specs.Bits.{withBit};
-ghost use Rattle.cells.specs.Station.{Station, Cell};
-ghost use Rattle.states.specs.Needs.{basicOf, BitIn};
+ghost use Rattle.matrix.specs.Changes.{change};
+ghost use Rattle.states.specs.Needs.{basicOf};
 ghost use Rattle.rules.specs.Needs.{CommandIn};
-ghost use Rattle.changes.specs.Became.{Became};
-ghost use Rattle.changes.specs.Passed.{inRow};
-
-// v with bit j set or cleared.
-fn with_bit(v: usize, j: usize, on: bool) -> usize
-    requires { ⌜ (v < 65536) × (j < 16) ⌝ }
-    ensures { λ r. ⌜ r ≡ withBit j on v ⌝ }
-{
-    if cells::bit_of(v, j) {
-        if on { v } else { v - (1 << j) }
-    } else {
-        if on { v + (1 << j) } else { v }
-    }
-}
-
-// Right y is given to row w in column c, or taken from it.
-fn put_in_column(b: &mut [u8], n: usize, p: usize, y: Right, w: usize, c: usize, on: bool)
-    requires { ⌜ Cell (now b) n p w c × (basicOf y < 7) ⌝ }
-    ensures { λ _. ⌜ Became (now (b .entry)) (now (b .exit)) (put y w (nameOf n c) on (stateOf (now (b .entry)))) ⌝ }
-{
-    let j = states::code_of(y);
-    let v = with_bit(cells::cell(b, n, p, w, c), j, on);
-    cells::store(b, n, p, w, c, v);
-}
-
-// Right y over x is given to row w, or taken from it.
-fn put_right(b: &mut [u8], n: usize, p: usize, y: Right, w: usize, x: Name, on: bool)
-    requires { ⌜ BitIn (now b) n p y w x ⌝ }
-    ensures { λ _. ⌜ Became (now (b .entry)) (now (b .exit)) (put y w x on (stateOf (now (b .entry)))) ⌝ }
-{
-    let c = states::column_of(x);
-    put_in_column(b, n, p, y, w, c, on);
-}
-
-// Every cell of column c is cleared.
-fn clear_column(b: &mut [u8], n: usize, p: usize, c: usize)
-    requires { ⌜ Station (now b) n p × (c < n + p) ⌝ }
-    ensures { λ _. ⌜ Became (now (b .entry)) (now (b .exit)) (clear (inColumn (nameOf n c)) (stateOf (now (b .entry)))) ⌝ }
-{
-    for r in 0..n {
-        cells::store(b, n, p, r, c, 0);
-    }
-}
-
-// Every cell of row r is cleared.
-fn clear_row(b: &mut [u8], n: usize, p: usize, r: usize)
-    requires { ⌜ Station (now b) n p × (r < n) ⌝ }
-    ensures { λ _. ⌜ Became (now (b .entry)) (now (b .exit)) (clear (inRow r) (stateOf (now (b .entry)))) ⌝ }
-{
-    for c in 0..n + p {
-        cells::store(b, n, p, r, c, 0);
-    }
-}
-
-// Row i gains own over all that row s owns.
-fn inherit_own(b: &mut [u8], n: usize, p: usize, i: usize, s: usize)
-    requires { ⌜ Station (now b) n p × (i < n) × (s < n) ⌝ }
-    ensures { λ _. ⌜ Became (now (b .entry)) (now (b .exit)) (inherit i s (stateOf (now (b .entry)))) ⌝ }
-{
-    for c in 0..n + p {
-        if cells::bit_of(cells::cell(b, n, p, s, c), 0) {
-            put_in_column(b, n, p, Right::Own, i, c, true);
-        }
-    }
-}
+ghost use Rattle.bits.specs.Became.{Became};
 
 // Right y is transferred: own leaves i, any other right stays with it.
 fn transfer(b: &mut [u8], n: usize, p: usize, c: Command, y: Right)
@@ -88,11 +19,11 @@ fn transfer(b: &mut [u8], n: usize, p: usize, c: Command, y: Right)
     let o = c.o;
     match y {
         Right::Own => {
-            put_right(b, n, p, Right::Own, c.i, o, false);
-            put_right(b, n, p, Right::Own, c.s, o, true);
+            bits::put_right(b, n, p, Right::Own, c.i, o, false);
+            bits::put_right(b, n, p, Right::Own, c.s, o, true);
         }
         Right::Control => {}
-        Right::Basic(_, _) => put_right(b, n, p, y, c.s, o, true),
+        Right::Basic(_, _) => bits::put_right(b, n, p, y, c.s, o, true),
     }
 }
 
@@ -101,8 +32,8 @@ fn create_subject(b: &mut [u8], n: usize, p: usize, c: Command)
     requires { ⌜ CommandIn (now b) n p c ⌝ }
     ensures { λ _. ⌜ Became (now (b .entry)) (now (b .exit)) (change (stateOf (now (b .entry))) c Act.CreateSubject) ⌝ }
 {
-    put_right(b, n, p, Right::Own, c.i, Name::Subject(c.s), true);
-    put_right(b, n, p, Right::Control, c.s, Name::Subject(c.s), true);
+    bits::put_right(b, n, p, Right::Own, c.i, Name::Subject(c.s), true);
+    bits::put_right(b, n, p, Right::Control, c.s, Name::Subject(c.s), true);
 }
 
 // Subject s is destroyed by i, which inherits what s owns.
@@ -110,9 +41,9 @@ fn destroy_subject(b: &mut [u8], n: usize, p: usize, c: Command)
     requires { ⌜ CommandIn (now b) n p c ⌝ }
     ensures { λ _. ⌜ Became (now (b .entry)) (now (b .exit)) (change (stateOf (now (b .entry))) c Act.DestroySubject) ⌝ }
 {
-    inherit_own(b, n, p, c.i, c.s);
-    clear_column(b, n, p, c.s);
-    clear_row(b, n, p, c.s);
+    bits::inherit_own(b, n, p, c.i, c.s);
+    bits::clear_column(b, n, p, c.s);
+    bits::clear_row(b, n, p, c.s);
 }
 
 // The change that an accepted command makes.
@@ -124,10 +55,10 @@ pub fn apply(b: &mut [u8], n: usize, p: usize, c: Command)
     let o = c.o;
     match act {
         Act::Transfer(y) => transfer(b, n, p, c, y),
-        Act::Grant(y) => put_right(b, n, p, y, c.s, o, true),
-        Act::Delete(y) => put_right(b, n, p, y, c.s, o, false),
-        Act::CreateObject => put_right(b, n, p, Right::Own, c.i, o, true),
-        Act::DestroyObject => clear_column(b, n, p, states::column_of(o)),
+        Act::Grant(y) => bits::put_right(b, n, p, y, c.s, o, true),
+        Act::Delete(y) => bits::put_right(b, n, p, y, c.s, o, false),
+        Act::CreateObject => bits::put_right(b, n, p, Right::Own, c.i, o, true),
+        Act::DestroyObject => bits::clear_column(b, n, p, states::column_of(o)),
         Act::CreateSubject => create_subject(b, n, p, c),
         Act::DestroySubject => destroy_subject(b, n, p, c),
     }

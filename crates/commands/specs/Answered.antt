@@ -12,7 +12,7 @@ use Rattle.matrix.specs.Step.{answer, refusalOf, linksWith}
 use Rattle.matrix.specs.Shape.{shapeOf}
 use Rattle.matrix.specs.Reading.{stateOf}
 use Rattle.matrix.specs.Calls.{refusalOn, linksOn, nextOn}
-use Rattle.changes.specs.Became.{Became}
+use Rattle.bits.specs.Became.{Became}
 
 -- the answer r is the definition's, and the bytes b′ are read as the definition's next state
 pub record Answered (b b′ : List ℕ) (c : Fields) (r : Answer) : Type 0 where

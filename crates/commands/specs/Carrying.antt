@@ -16,7 +16,7 @@ use Rattle.cells.specs.Station.{Station}
 use Rattle.rules.specs.Needs.{CommandIn}
 use Rattle.verdict.specs.declared.Verdict.{Verdict}
 use Rattle.verdict.specs.Judged.{Judged}
-use Rattle.changes.specs.Became.{Became}
+use Rattle.bits.specs.Became.{Became}
 use Rattle.commands.specs.Answered.{Carried}
 
 -- the answer that a verdict v makes, where its refusal is zero (t) or not

@@ -9,7 +9,7 @@ use Rattle.matrix.specs.Reading.{stateOf}
 use Rattle.matrix.specs.CommandList.{commandsFrom}
 use Rattle.matrix.specs.Calls.{runFrom, ranOn}
 use Rattle.cells.specs.Station.{Station}
-use Rattle.changes.specs.Became.{Became}
+use Rattle.bits.specs.Became.{Became}
 
 -- the run's outcome and bytes b′ are the definition's
 pub record RunOn (b b′ l : List ℕ) (r : Outcome) : Type 0 where

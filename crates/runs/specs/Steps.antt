@@ -22,7 +22,7 @@ use Rattle.matrix.specs.Calls.{refusalOn, linksOn, nextOn, Ran, runFrom, ranOn}
 use Rattle.laws.specs.Tests.{way}
 use Rattle.cells.specs.Station.{Station}
 use Rattle.commands.specs.Answered.{Answered}
-use Rattle.changes.specs.Became.{Became}
+use Rattle.bits.specs.Became.{Became}
 use Rattle.runs.specs.Reached.{RunOn, Reached}
 
 -- the number of an answer is the refusal's

@@ -25,7 +25,7 @@ use Rattle.laws.specs.Tests.{way}
 use Rattle.codec.specs.RoundTrip.{read-write}
 use Rattle.owners.specs.Read.{record-shaped}
 use Rattle.cells.specs.Station.{Station}
-use Rattle.changes.specs.Became.{Became}
+use Rattle.bits.specs.Became.{Became}
 use Rattle.commands.specs.Answered.{Answered}
 use Rattle.runs.specs.Reached.{RunOn}
 

@@ -1,26 +1,29 @@
 -- `changes::create_subject` meets its contract: own and control are given in turn.
 use native.Mathlib.Omega.{arith}
 use borrow.Author.Tests.{lt-ltb}
-use Rattle.changes.specs.Steps.{bit-after}
+use Rattle.bits.specs.Steps.{bit-after, length-after}
 use Rattle.changes.specs.Effects.{created}
-use borrow.Author.Needs.{needs}
 use Rattle.changes.proofs.create_subject.Statement.{statement}
 use Rattle.changes.proofs.create_subject.Tie as tie
-use Rattle.changes.proofs.create_subject.Reads as reads
-use Rattle.changes.proofs.create_subject.Lts as lts
-use Rattle.changes.proofs.put_right.Reads as put-right-reads
 
 put-right-requires : tie.Need-put-right-requires
-put-right-requires c κs = record { station = c .before .before .pre .station; right = omega arith; row = c .before .before .pre .initiator; column = lt-ltb _ _ (c .before .before .pre .subject) }
+put-right-requires c κs =
+    let q = c .before .before .pre in
+    record { station = q .station; right = omega arith; row = q .initiator; column = lt-ltb _ _ (q .subject) }
 
 put-right-requires-2 : tie.Need-put-right-requires-2
-put-right-requires-2 c κs = bit-after (c .before .before .before .before .before .before .pre .station) (c .before .before .before .put-right .ensures) (omega arith) (c .before .before .before .before .before .before .pre .subject) (lt-ltb _ _ (c .before .before .before .before .before .before .pre .subject))
-
-same-length : tie.Need-same-length
-same-length c = search needs
+put-right-requires-2 c κs =
+    let q = c .before .before .before .before .before .before .pre in
+    bit-after (q .station) (c .before .before .before .put-right .ensures) (omega arith) (omega arith) (lt-ltb _ _ (q .subject))
 
 returns : tie.Need-returns
-returns c = created (c .before .before .before .before .before .before .before .before .before .args .c .i) (c .before .before .before .before .before .before .before .before .before .args .c .s) (c .before .before .before .before .before .before .before .before .before .pre .station) (c .before .before .before .before .before .before .before .before .before .pre .subject) (c .before .before .before .before .before .before .put-right .ensures) (c .before .before .put-right2 .ensures)
+returns c =
+    let a = c .before .before .before .before .before .before .before .before .before .args in
+    let q = c .before .before .before .before .before .before .before .before .before .pre in
+    created (a .c .i) (a .c .s) (q .station) (q .subject) (c .before .before .before .before .before .before .put-right .ensures) (c .before .before .put-right2 .ensures)
+
+same-length : tie.Need-same-length
+same-length c = length-after (c .before .before .before .before .before .before .before .before .before .pre .station) (returns c)
 
 pub create-subject-spec : {M : Type 1} → statement M
 create-subject-spec =

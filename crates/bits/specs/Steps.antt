@@ -18,7 +18,7 @@ use Rattle.codec.specs.Update.{state-put, state-clear}
 use Rattle.cells.specs.Station.{Station, Cell}
 use Rattle.states.specs.Needs.{basicOf, BitIn}
 use Rattle.states.specs.Reads.{code-small}
-use Rattle.changes.specs.Became.{Became}
+use Rattle.bits.specs.Became.{Became}
 
 -- nothing is changed
 pub became-same : {b : List ℕ} {n p : ℕ} → Station b n p → Became b b (stateOf b)

@@ -18,9 +18,9 @@ use Rattle.laws.specs.Bounded.{any-hit}
 use Rattle.codec.specs.Columns.{nameOf-columnOf, named-below, same-state, has-clear}
 use Rattle.codec.specs.RoundTrip.{within-read}
 use Rattle.cells.specs.Station.{Station, Cell}
-use Rattle.changes.specs.Became.{Became}
-use Rattle.changes.specs.Passed.{firstRows, firstColumns, columnPart, rowPart, inRow}
-use Rattle.changes.specs.Steps.{became-same, became-then, became-as, became-clear}
+use Rattle.bits.specs.Became.{Became}
+use Rattle.bits.specs.Passed.{firstRows, firstColumns, columnPart, rowPart, inRow}
+use Rattle.bits.specs.Steps.{became-same, became-then, became-as, became-clear}
 
 -- ---- rows and columns that are passed
 

@@ -1,7 +1,7 @@
 -- The steps of the loop by which i gains own over all that s owns.
 use Prim.Native.Nat.{ℕ, _+_, _<_}
 use native.Mathlib.Omega.{arith}
-use mathlib.Core.Path.{_≡_, refl, sym, _∙_, ap, subst}
+use mathlib.Core.Path.{_≡_, refl, sym, _∙_, ap}
 use mathlib.Core.Bool.{Bool, true, false, cond, _&&_, _||_}
 use mathlib.Core.List.{List}
 use lib.Dec.{eqb}
@@ -10,18 +10,17 @@ use Rattle.matrix.specs.declared.Right.the-variants.{Own}
 use Rattle.matrix.specs.Names.{sameName, nameOf, named}
 use Rattle.matrix.specs.State.{State, put}
 use Rattle.matrix.specs.Bytes.{bit}
-use Rattle.matrix.specs.Shape.{Shape, shapeOf, bitsOf}
+use Rattle.matrix.specs.Shape.{shapeOf, bitsOf}
 use Rattle.matrix.specs.Reading.{cellAt, stateOf}
-use Rattle.matrix.specs.Shaped.{Within}
 use Rattle.matrix.specs.Changes.{inherit}
 use Rattle.laws.specs.Same.{sameName-eq}
 use Rattle.codec.specs.Update.{bit-read}
 use Rattle.codec.specs.RoundTrip.{within-read}
 use Rattle.cells.specs.Station.{Station, Cell}
-use Rattle.changes.specs.Became.{Became}
-use Rattle.changes.specs.Passed.{firstColumns, inheritPart}
-use Rattle.changes.specs.Steps.{became-same, became-then, became-as, cell-row, cell-column}
-use Rattle.changes.specs.Loops.{columns-none, columns-next, columns-all}
+use Rattle.bits.specs.Became.{Became}
+use Rattle.bits.specs.Passed.{firstColumns, inheritPart}
+use Rattle.bits.specs.Steps.{became-same, became-then, became-as, cell-row, cell-column}
+use Rattle.bits.specs.Loops.{columns-none, columns-next, columns-all}
 
 -- a state with another matrix of owners
 abbrev withOwns : (ℕ → Name → Bool) → State → State

@@ -1,0 +1,6 @@
+pub mod Became
+pub mod Passed
+pub mod OneBit
+pub mod Steps
+pub mod Loops
+pub mod Inherits

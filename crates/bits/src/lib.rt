@@ -1,0 +1,78 @@
+// Bits and cells of a record that is of the right form changed: a right given or taken, a column or a row cleared, own inherited.
+
+use matrix::Name;
+use matrix::Right;
+ghost use mathlib.Core.Path.{_≡_};
+ghost use Prim.Native.Nat.{_+_, _<_};
+ghost use Rattle.matrix.specs.Names.{nameOf};
+ghost use Rattle.matrix.specs.State.{put, clear};
+ghost use Rattle.matrix.specs.Reading.{stateOf};
+ghost use Rattle.matrix.specs.Changes.{inherit, inColumn};
+ghost use Rattle.codec.specs.Bits.{withBit};
+ghost use Rattle.cells.specs.Station.{Station, Cell};
+ghost use Rattle.states.specs.Needs.{basicOf, BitIn};
+ghost use Rattle.bits.specs.Became.{Became};
+ghost use Rattle.bits.specs.Passed.{inRow};
+
+// v with bit j set or cleared.
+fn with_bit(v: usize, j: usize, on: bool) -> usize
+    requires { ⌜ (v < 65536) × (j < 16) ⌝ }
+    ensures { λ r. ⌜ r ≡ withBit j on v ⌝ }
+{
+    if cells::bit_of(v, j) {
+        if on { v } else { v - (1 << j) }
+    } else {
+        if on { v + (1 << j) } else { v }
+    }
+}
+
+// Right y is given to row w in column c, or taken from it.
+fn put_in_column(b: &mut [u8], n: usize, p: usize, y: Right, w: usize, c: usize, on: bool)
+    requires { ⌜ Cell (now b) n p w c × (basicOf y < 7) ⌝ }
+    ensures { λ _. ⌜ Became (now (b .entry)) (now (b .exit)) (put y w (nameOf n c) on (stateOf (now (b .entry)))) ⌝ }
+{
+    let j = states::code_of(y);
+    let v = with_bit(cells::cell(b, n, p, w, c), j, on);
+    cells::store(b, n, p, w, c, v);
+}
+
+// Right y over x is given to row w, or taken from it.
+pub fn put_right(b: &mut [u8], n: usize, p: usize, y: Right, w: usize, x: Name, on: bool)
+    requires { ⌜ BitIn (now b) n p y w x ⌝ }
+    ensures { λ _. ⌜ Became (now (b .entry)) (now (b .exit)) (put y w x on (stateOf (now (b .entry)))) ⌝ }
+{
+    let c = states::column_of(x);
+    put_in_column(b, n, p, y, w, c, on);
+}
+
+// Every cell of column c is cleared.
+pub fn clear_column(b: &mut [u8], n: usize, p: usize, c: usize)
+    requires { ⌜ Station (now b) n p × (c < n + p) ⌝ }
+    ensures { λ _. ⌜ Became (now (b .entry)) (now (b .exit)) (clear (inColumn (nameOf n c)) (stateOf (now (b .entry)))) ⌝ }
+{
+    for w in 0..n {
+        cells::store(b, n, p, w, c, 0);
+    }
+}
+
+// Every cell of row r is cleared.
+pub fn clear_row(b: &mut [u8], n: usize, p: usize, r: usize)
+    requires { ⌜ Station (now b) n p × (r < n) ⌝ }
+    ensures { λ _. ⌜ Became (now (b .entry)) (now (b .exit)) (clear (inRow r) (stateOf (now (b .entry)))) ⌝ }
+{
+    for c in 0..n + p {
+        cells::store(b, n, p, r, c, 0);
+    }
+}
+
+// Row i gains own over all that row s owns.
+pub fn inherit_own(b: &mut [u8], n: usize, p: usize, i: usize, s: usize)
+    requires { ⌜ Station (now b) n p × (i < n) × (s < n) ⌝ }
+    ensures { λ _. ⌜ Became (now (b .entry)) (now (b .exit)) (inherit i s (stateOf (now (b .entry)))) ⌝ }
+{
+    for c in 0..n + p {
+        if cells::bit_of(cells::cell(b, n, p, s, c), 0) {
+            put_in_column(b, n, p, Right::Own, i, c, true);
+        }
+    }
+}
