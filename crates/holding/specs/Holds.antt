@@ -33,9 +33,9 @@ rightOf-plain code h g e = rightOf-basic code Plain h g (ap (λ (t : Bool). cond
 pub rightOf-starred : (code : ℕ) → (code ≡ 0 → ⊥) → (code ≡ 1 → ⊥) → ((code - 2) % 2 ≡ 0 → ⊥) → Basic ((code - 2) / 2) Starred ≡ rightOf code
 rightOf-starred code h g e = rightOf-basic code Starred h g (ap (λ (t : Bool). cond t Plain Starred) (ne-eqb ((code - 2) % 2) 0 e))
 
--- a basic right in either form is a right of the record where it is in one
-pub basic-in : {b : List ℕ} {n p : ℕ} {y : Right} {w : ℕ} {x : Name} {k : ℕ} {f : Form} → BitIn b n p y w x → y ≡ Basic k f → (g : Form) → BitIn b n p (Basic k g) w x
-basic-in h e g = record { station = h .station; right = basic-small e (h .right); row = h .row; column = h .column }
+-- a basic right of either form is a right of the record where it is one in the other
+pub basic-in : {b : List ℕ} {n p : ℕ} {y : Right} {w : ℕ} {x : Name} {k : ℕ} {f g : Form} → BitIn b n p y w x → y ≡ Basic k f → BitIn b n p (Basic k g) w x
+basic-in h e = record { station = h .station; right = basic-small e (h .right); row = h .row; column = h .column }
 
 module _ (S : State) (w : ℕ) (x : Name) where
   same-held : {y z : Right} → y ≡ z → held S z w x ≡ held S y w x
