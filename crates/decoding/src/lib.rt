@@ -12,7 +12,6 @@ ghost use mathlib.Core.Path.{_≡_};
 ghost use mathlib.Core.Bool.{_||_, cond};
 ghost use Prim.Native.Nat.{_≤_};
 ghost use lib.Dec.{eqb};
-ghost use Rattle.matrix.specs.Names.{nameOf};
 ghost use Rattle.matrix.specs.Shape.{mostSubjects, mostPlain};
 ghost use Rattle.matrix.specs.Commands.{fieldsFit};
 ghost use Rattle.decoding.specs.Decoded.{formFrom, ruledOf, basicFits, withinNames, decodedOf};
@@ -181,16 +180,6 @@ fn fields_fit(r: Rule, c: Fields) -> bool
     basic_fits(r.k, c.k)
 }
 
-// The name of column o.
-fn name_of(n: usize, o: usize) -> Name
-    ensures { λ x. ⌜ x ≡ nameOf n o ⌝ }
-{
-    if o < n {
-        return Name::Subject(o);
-    }
-    Name::Plain(o)
-}
-
 // A command decoded for a record of n subject names and p plain names.
 pub fn decode(n: usize, p: usize, c: Fields) -> Decoded
     requires { ⌜ (n ≤ mostSubjects) × (p ≤ mostPlain) ⌝ }
@@ -208,7 +197,7 @@ pub fn decode(n: usize, p: usize, c: Fields) -> Decoded
     }
     let act = r.act;
     let kind = r.kind;
-    let o = name_of(n, c.o);
+    let o = states::name_of(n, c.o);
     Decoded::Ready(
         Command {
             i: c.i,

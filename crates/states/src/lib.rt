@@ -9,7 +9,7 @@ use matrix::Right;
 use matrix::Walked;
 ghost use mathlib.Core.Path.{_≡_};
 ghost use Prim.Native.Nat.{_<_};
-ghost use Rattle.matrix.specs.Names.{columnOf};
+ghost use Rattle.matrix.specs.Names.{columnOf, nameOf};
 ghost use Rattle.matrix.specs.Rights.{codeOf};
 ghost use Rattle.matrix.specs.State.{has, exists, existsName};
 ghost use Rattle.matrix.specs.Owners.{walk};
@@ -26,6 +26,16 @@ pub fn column_of(x: Name) -> usize
         Name::Subject(c) => c,
         Name::Plain(c) => c,
     }
+}
+
+// The name of column o.
+pub fn name_of(n: usize, o: usize) -> Name
+    ensures { λ x. ⌜ x ≡ nameOf n o ⌝ }
+{
+    if o < n {
+        return Name::Subject(o);
+    }
+    Name::Plain(o)
 }
 
 // The code of a right: its bit in a cell.

@@ -6,7 +6,7 @@ use matrix::Outcome;
 ghost use mathlib.Core.Path.{_≡_};
 ghost use Prim.Native.Nat.{_<_};
 ghost use lib.ListN.{length, getD};
-ghost use Rattle.matrix.specs.Calls.{validAnswer, commandAnswer, commandBytes, runAnswer, runBytes};
+ghost use Rattle.matrix.specs.Calls.{validAnswer, heldAnswer, commandAnswer, commandBytes, runAnswer, runBytes};
 ghost use Rattle.station.specs.Given.{fieldsOf};
 
 // The byte at a place, as a number.
@@ -22,6 +22,19 @@ pub fn valid(b: &[u8]) -> bool
     ensures { λ t. ⌜ t ≡ validAnswer (now (b .entry)) ⌝ }
 {
     validity::refusal(b) == 0
+}
+
+// Whether a right is held by subject s over column o, by the right's code.
+pub fn held(b: &[u8], s: u64, o: u64, right: u64) -> Holding
+    ensures { λ r. ⌜ r ≡ heldAnswer (now (b .entry)) s o right ⌝ }
+{
+    let turned = validity::refusal(b);
+    if turned != 0 {
+        return Holding::Refused(turned);
+    }
+    let n = byte(b, 5);
+    let p = byte(b, 6);
+    holding::held_on(b, n, p, s as usize, o as usize, right as usize)
 }
 
 // One command on a record: accepted with the links of the owner walk, or refused by a number with the links.

@@ -1,8 +1,8 @@
--- `decoding::name_of` meets its contract.
+-- `states::name_of` meets its contract.
 use mathlib.Core.Path.{refl}
 use borrow.Author.Tests.{lt-ltb, le-ltb}
-use Rattle.decoding.proofs.name_of.Statement.{statement}
-use Rattle.decoding.proofs.name_of.Tie as tie
+use Rattle.states.proofs.name_of.Statement.{statement}
+use Rattle.states.proofs.name_of.Tie as tie
 
 returns : tie.Need-returns
 returns c = rw (lt-ltb (c .before .args .o) (c .before .args .n) (c .if1 .taken)) refl

@@ -1,0 +1,91 @@
+-- A held question, step by step; and its answer on a whole record, where the tests 1 to 5 come first.
+use Prim.Native.Nat.{ℕ, zero, suc, _+_, _<_}
+use native.Mathlib.Omega.{arith}
+use mathlib.Core.Path.{_≡_, refl, sym, _∙_, ap, ap₂, subst}
+use mathlib.Core.Bool.{Bool, true, false, cond, _&&_}
+use mathlib.Core.List.{List}
+use lib.Dec.{eqb, ltb}
+use borrow.Author.Tests.{ltb-true, eq-eqb, ne-eqb}
+use Rattle.matrix.specs.declared.Name.{Name}
+use Rattle.matrix.specs.declared.Right.{Right}
+use Rattle.matrix.specs.declared.Holding.{Holding}
+use Rattle.matrix.specs.declared.Holding.the-variants.{Yes, No, Refused}
+use Rattle.matrix.specs.Names.{nameOf, named}
+use Rattle.matrix.specs.Rights.{rightOf}
+use Rattle.matrix.specs.State.{held}
+use Rattle.matrix.specs.Tests.{firstFailed}
+use Rattle.matrix.specs.Shape.{shapeOf}
+use Rattle.matrix.specs.Reading.{stateOf}
+use Rattle.matrix.specs.Record.{recordRefusal}
+use Rattle.matrix.specs.Calls.{questionFits, heldRefusal, heldAnswer}
+use Rattle.laws.specs.Tests.{and-left, and-right}
+use Rattle.codec.specs.Columns.{named-nameOf}
+use Rattle.cells.specs.Station.{Station}
+use Rattle.states.specs.Needs.{basicOf, BitIn}
+use Rattle.holding.specs.Held.{withinQuestion, heldOn}
+
+-- the number of the basic right of a code below 16
+right-small : (code : ℕ) → code < 16 → basicOf (rightOf code) < 7
+right-small zero h = omega arith
+right-small (suc zero) h = omega arith
+right-small (suc (suc j)) h = omega arith
+
+-- t is whether the numbers of the question fit, y and x are the right and the name that it asks for
+module _ (b : List ℕ) (n p s o right : ℕ) (station : Station b n p) where
+  fits-same : questionFits (shapeOf b) s o right ≡ withinQuestion n p s o right
+  unfolding shapeOf
+  fits-same = ap₂ (λ (m q : ℕ). withinQuestion m q s o right) (sym (station .subjects)) (sym (station .plains))
+
+  -- the numbers do not fit
+  pub held-unfit : {t : Bool} → t ≡ withinQuestion n p s o right → t ≡ false → Refused 7 ≡ heldOn b s o right
+  unfolding heldOn
+  held-unfit e h = let f : questionFits (shapeOf b) s o right ≡ false = fits-same ∙ sym e ∙ h in rw f refl
+
+  -- they do, and v is whether the right is held
+  pub held-fit : {t u : Bool} {y : Right} {x : Name} (v : Bool) → t ≡ withinQuestion n p s o right → t ≡ true → y ≡ rightOf right → x ≡ nameOf n o → u ≡ held (stateOf b) y s x → u ≡ v → cond v Yes No ≡ heldOn b s o right
+  unfolding heldOn
+  held-fit v e h f g d w =
+      let q : questionFits (shapeOf b) s o right ≡ true = fits-same ∙ sym e ∙ h in
+      let r : v ≡ held (stateOf b) (rightOf right) s (nameOf (shapeOf b .n) o) =
+      sym w ∙ d ∙ ap₂ (λ (y : Right) (x : Name). held (stateOf b) y s x) f (g ∙ ap (λ (m : ℕ). nameOf m o) (station .subjects)) in
+      rw q (ap (λ (v : Bool). cond v Yes No) r)
+
+  -- the bit that is asked for is one of the record
+  pub asked-in : {t : Bool} {y : Right} {x : Name} → t ≡ withinQuestion n p s o right → t ≡ true → y ≡ rightOf right → x ≡ nameOf n o → BitIn b n p y s x
+  asked-in {y = y} {x = x} e h f g =
+      let q : withinQuestion n p s o right ≡ true = sym e ∙ h in
+      let names : (ltb s n && ltb o (n + p)) ≡ true = and-left (ltb s n && ltb o (n + p)) (ltb right 16) q in
+      let l : right < 16 = ltb-true right 16 (and-right (ltb s n && ltb o (n + p)) (ltb right 16) q) in
+      record {
+        station = station;
+        right = subst (λ (y : Right). basicOf y < 7) (sym f) (right-small right l);
+        row = ltb-true s n (and-left (ltb s n) (ltb o (n + p)) names);
+        column = ap (λ (x : Name). named n p x) g ∙ named-nameOf n p o (ltb-true o (n + p) (and-right (ltb s n) (ltb o (n + p)) names));
+      }
+
+-- ---- the answer on a whole record
+
+-- the tests 1 to 5, then 7
+refusal-is : (b : List ℕ) (s o right : ℕ) → heldRefusal b s o right ≡ cond (eqb (recordRefusal b) 0) (cond (questionFits (shapeOf b) s o right) 0 7) (recordRefusal b)
+unfolding heldRefusal firstFailed
+refusal-is b s o right = refl
+
+refused-or : (t : Bool) (a : Holding) → cond t a (Refused 7) ≡ cond (eqb (cond t 0 7) 0) a (Refused (cond t 0 7))
+refused-or true a = refl
+refused-or false a = refl
+
+-- the tests 1 to 5 are passed: the question is answered, or refused by 7
+pub held-answer : (b : List ℕ) (s o right : ℕ) → recordRefusal b ≡ 0 → heldOn b s o right ≡ heldAnswer b s o right
+unfolding heldOn heldAnswer
+held-answer b s o right h =
+    let e : eqb (recordRefusal b) 0 ≡ true = eq-eqb (recordRefusal b) 0 h in
+    let r : heldRefusal b s o right ≡ cond (questionFits (shapeOf b) s o right) 0 7 = refusal-is b s o right ∙ rw e refl in
+    rw r (refused-or (questionFits (shapeOf b) s o right) (cond (held (stateOf b) (rightOf right) s (nameOf (shapeOf b .n) o)) Yes No))
+
+-- they are not: the question is refused by the first of them that is not passed
+pub held-refused : (b : List ℕ) (s o right : ℕ) → (recordRefusal b ≡ 0 → ⊥) → Refused (recordRefusal b) ≡ heldAnswer b s o right
+unfolding heldAnswer
+held-refused b s o right ne =
+    let e : eqb (recordRefusal b) 0 ≡ false = ne-eqb (recordRefusal b) 0 ne in
+    let r : heldRefusal b s o right ≡ recordRefusal b = refusal-is b s o right ∙ rw e refl in
+    rw (r, e) refl

@@ -1,0 +1,82 @@
+// Whether a right is held, on a record that is of the right form.
+
+use matrix::Form;
+use matrix::Holding;
+use matrix::Name;
+use matrix::Right;
+ghost use mathlib.Core.Path.{_≡_};
+ghost use Prim.Native.Nat.{_≤_};
+ghost use Rattle.matrix.specs.Rights.{rightOf};
+ghost use Rattle.matrix.specs.State.{held};
+ghost use Rattle.matrix.specs.Shape.{mostSubjects, mostPlain};
+ghost use Rattle.matrix.specs.Reading.{stateOf};
+ghost use Rattle.cells.specs.Station.{Station};
+ghost use Rattle.states.specs.Needs.{BitIn};
+ghost use Rattle.holding.specs.Held.{withinQuestion, heldOn};
+
+// Whether row w holds right y over x: its bit is set, or, for a plain basic right, the starred bit is.
+pub fn is_held(b: &[u8], n: usize, p: usize, y: Right, w: usize, x: Name) -> bool
+    requires { ⌜ BitIn (now b) n p y w x ⌝ }
+    ensures { λ t. ⌜ t ≡ held (stateOf (now (b .entry))) y w x ⌝ }
+{
+    match y {
+        Right::Own => states::has_bit(b, n, p, Right::Own, w, x),
+        Right::Control => states::has_bit(b, n, p, Right::Control, w, x),
+        Right::Basic(k, f) => match f {
+            Form::Plain => {
+                if states::has_bit(b, n, p, Right::Basic(k, Form::Plain), w, x) {
+                    return true;
+                }
+                states::has_bit(b, n, p, Right::Basic(k, Form::Starred), w, x)
+            }
+            Form::Starred => states::has_bit(b, n, p, Right::Basic(k, Form::Starred), w, x),
+        },
+    }
+}
+
+// The right of a code.
+pub fn right_of(code: usize) -> Right
+    ensures { λ y. ⌜ y ≡ rightOf code ⌝ }
+{
+    if code == 0 {
+        return Right::Own;
+    }
+    if code == 1 {
+        return Right::Control;
+    }
+    let j = code - 2;
+    if j % 2 == 0 {
+        return Right::Basic(j / 2, Form::Plain);
+    }
+    Right::Basic(j / 2, Form::Starred)
+}
+
+// Whether the numbers of a question are those of a row, a column and a right of the record.
+fn question_fits(n: usize, p: usize, s: usize, o: usize, right: usize) -> bool
+    requires { ⌜ (n ≤ mostSubjects) × (p ≤ mostPlain) ⌝ }
+    ensures { λ t. ⌜ t ≡ withinQuestion n p s o right ⌝ }
+{
+    if n <= s {
+        return false;
+    }
+    if n + p <= o {
+        return false;
+    }
+    right < 16
+}
+
+// Whether s holds a right over the name of column o, numbers as given: refusal 7, or yes or no.
+pub fn held_on(b: &[u8], n: usize, p: usize, s: usize, o: usize, right: usize) -> Holding
+    requires { ⌜ Station (now b) n p ⌝ }
+    ensures { λ r. ⌜ r ≡ heldOn (now (b .entry)) s o right ⌝ }
+{
+    if !question_fits(n, p, s, o, right) {
+        return Holding::Refused(7);
+    }
+    let y = right_of(right);
+    let x = states::name_of(n, o);
+    if is_held(b, n, p, y, s, x) {
+        return Holding::Yes;
+    }
+    Holding::No
+}
