@@ -20,7 +20,7 @@ use Rattle.matrix.specs.Reading.{stateOf, bytesOf}
 use Rattle.matrix.specs.Record.{recordRefusal}
 use Rattle.matrix.specs.Shaped.{Octets}
 use Rattle.matrix.specs.CommandList.{wellFormed}
-use Rattle.matrix.specs.Calls.{validAnswer, refusalOn, nextOn, commandAnswer, commandBytes, runRefusal, ranOn, runAnswer, runBytes}
+use Rattle.matrix.specs.Calls.{validAnswer, heldAnswer, refusalOn, nextOn, commandAnswer, commandBytes, runRefusal, ranOn, runAnswer, runBytes}
 use Rattle.laws.specs.Tests.{way}
 use Rattle.codec.specs.RoundTrip.{read-write}
 use Rattle.owners.specs.Read.{record-shaped}
@@ -28,6 +28,7 @@ use Rattle.cells.specs.Station.{Station}
 use Rattle.bits.specs.Became.{Became}
 use Rattle.commands.specs.Answered.{Answered}
 use Rattle.runs.specs.Reached.{RunOn}
+use Rattle.holding.specs.Asked.{held-refused}
 
 -- a record that is not turned down is of the right form
 pub station-of : {b : List ℕ} {n p : ℕ} → Octets b → recordRefusal b ≡ 0 → n ≡ getD b 5 0 → p ≡ getD b 6 0 → Station b n p
@@ -79,6 +80,9 @@ module _ (b : List ℕ) {m : ℕ} (number : m ≡ recordRefusal b) (turned : m �
   pub command-kept : (c : Fields) → b ≡ commandBytes b c
   unfolding commandBytes
   command-kept c = rw not-zero refl
+
+  pub held-turned-down : (s o right : ℕ) → Rattle.matrix.specs.declared.Holding.the-variants.Refused m ≡ heldAnswer b s o right
+  held-turned-down s o right = ap (λ (m : ℕ). Rattle.matrix.specs.declared.Holding.the-variants.Refused m) number ∙ held-refused b s o right (λ e. turned (number ∙ e))
 
   run-refusal : (l : List ℕ) → runRefusal b l ≡ recordRefusal b
   unfolding runRefusal firstFailed

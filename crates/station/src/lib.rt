@@ -2,6 +2,7 @@
 
 use matrix::Answer;
 use matrix::Fields;
+use matrix::Holding;
 use matrix::Outcome;
 ghost use mathlib.Core.Path.{_≡_};
 ghost use Prim.Native.Nat.{_<_};

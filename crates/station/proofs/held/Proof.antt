@@ -1,0 +1,40 @@
+-- `station::held` meets its contract.
+use native.Mathlib.Omega.{arith}
+use mathlib.Core.Path.{_≡_, sym, _∙_}
+use Rattle.matrix.specs.Record.{recordRefusal}
+use Rattle.matrix.specs.Shaped.{Octets}
+use Rattle.holding.specs.Asked.{held-answer}
+use Rattle.station.specs.Done.{station-of, long-enough, held-turned-down}
+use borrow.Author.Needs.{needs}
+use Rattle.station.proofs.held.Statement.{statement}
+use Rattle.station.proofs.held.Tie as tie
+
+refusal-requires : tie.Need-refusal-requires
+refusal-requires c κs = search needs
+
+-- where the record is not turned down
+right : (c : tie.Else1) → recordRefusal (c .before .before .before .args .b .now) ≡ 0
+right c = sym (c .before .refusal .ensures) ∙ c .if1 .left
+
+octets : (c : tie.Else1) → Octets (c .before .before .before .args .b .now)
+octets c = record { octet = λ j. c .before .before .shared-slice-known .given j .fits }
+
+returns : tie.Need-returns
+returns c = held-turned-down _ (c .before .refusal .ensures) (c .if1 .taken) _ _ _
+
+byte-requires : tie.Need-byte-requires
+byte-requires c κs = omega (arith, long-enough _ (right c))
+
+byte-requires-2 : tie.Need-byte-requires-2
+byte-requires-2 c κs = omega (arith, long-enough _ (right (c .before)))
+
+held-on-requires : tie.Need-held-on-requires
+held-on-requires c κs = station-of (octets (c .before .before)) (right (c .before .before)) (c .before .byte .ensures) (c .byte2 .ensures)
+
+returns-2 : tie.Need-returns-2
+returns-2 c = c .held-on .ensures ∙ held-answer _ _ _ _ (right (c .before .before .before))
+
+pub held-spec : {M : Type 1} → statement M
+held-spec =
+    tie.close
+    (tie.spec refusal-requires returns byte-requires byte-requires-2 held-on-requires returns-2)
