@@ -1,0 +1,5 @@
+-- The safety question, as the paper defines it: by lists of commands alone.
+pub mod Trust
+pub mod Safe
+pub mod Leaks
+pub mod Asked
