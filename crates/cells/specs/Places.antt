@@ -1,15 +1,15 @@
 -- Where the cells of a record stand, in numbers: what the code computes is what the definitions say.
-use Prim.Native.Nat.{ℕ, zero, suc, _+_, _*_, _/_, _%_, _≤_, _<_}
+use Prim.Native.Nat.{ℕ, _+_, _*_, _/_, _%_, _≤_, _<_}
 use native.Mathlib.Nat.{add-zero, zero-add, le-trans, mul-le-mul-left, mul-le-mul-right}
 use native.Mathlib.Omega.{arith}
-use mathlib.Core.Path.{_≡_, refl, sym, _∙_, ap, ap₂, subst}
+use mathlib.Core.Path.{_≡_, refl, sym, _∙_, ap₂, subst}
 use mathlib.Core.List.{List}
 use lib.ListN.{length, getD, set}
 use lib.Arith.{digits-lt}
 use Rattle.matrix.specs.Bytes.{numberAt, setNumber}
 use Rattle.matrix.specs.Shape.{shapeOf}
 use Rattle.matrix.specs.Reading.{cellAt, setCell}
-use Rattle.cells.specs.Station.{Station, Cell}
+use Rattle.cells.specs.Station.{Station}
 
 -- the place of a cell in a record of n subject names and p plain names
 abbrev pub placeOf : ℕ → ℕ → ℕ → ℕ → ℕ

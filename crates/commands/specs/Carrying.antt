@@ -6,13 +6,11 @@ use mathlib.Core.List.{List}
 use lib.Dec.{eqb}
 use borrow.Author.Tests.{eq-eqb, ne-eqb}
 use Rattle.matrix.specs.declared.Command.{Command}
-use Rattle.matrix.specs.declared.Answer.{Answer}
 use Rattle.matrix.specs.declared.Answer.the-variants.{Accepted, Refused}
 use Rattle.matrix.specs.State.{State}
 use Rattle.matrix.specs.Changes.{change}
 use Rattle.matrix.specs.Step.{refusalOf, linksWith, answer}
 use Rattle.matrix.specs.Reading.{stateOf}
-use Rattle.cells.specs.Station.{Station}
 use Rattle.rules.specs.Needs.{CommandIn}
 use Rattle.verdict.specs.declared.Verdict.{Verdict}
 use Rattle.verdict.specs.Judged.{Judged}

@@ -1,6 +1,5 @@
 -- The definition's refusal, links and next state of a command, from how it is decoded.
 use Prim.Native.Nat.{ℕ, _+_, _<_}
-use native.Mathlib.Omega.{arith}
 use mathlib.Core.Path.{_≡_, refl, sym, _∙_, ap, ap₂, subst}
 use mathlib.Core.Logic.{⊎-elim}
 use mathlib.Core.Bool.{Bool, true, false, cond, _&&_, _||_}
@@ -11,14 +10,14 @@ use Rattle.matrix.specs.declared.Kind.{Kind}
 use Rattle.matrix.specs.declared.Fields.{Fields}
 use Rattle.matrix.specs.declared.Command.{Command}
 use Rattle.matrix.specs.declared.Answer.{Answer}
-use Rattle.matrix.specs.declared.Answer.the-variants.{Accepted, Refused}
+use Rattle.matrix.specs.declared.Answer.the-variants.{Refused}
 use Rattle.matrix.specs.Names.{nameOf, columnOf}
 use Rattle.matrix.specs.State.{State}
-use Rattle.matrix.specs.Commands.{kindOf, known, ruleOf, fieldsFit, decode}
+use Rattle.matrix.specs.Commands.{known, ruleOf, fieldsFit, decode}
 use Rattle.matrix.specs.Tests.{test, firstFailed}
 use Rattle.matrix.specs.Changes.{change}
 use Rattle.matrix.specs.Step.{refusalOf, walkLinks, linksWith, refusal, links, next, answer}
-use Rattle.matrix.specs.Shape.{Shape, shapeOf, basicsOf}
+use Rattle.matrix.specs.Shape.{shapeOf, basicsOf}
 use Rattle.matrix.specs.Reading.{stateOf}
 use Rattle.matrix.specs.Calls.{rawOf, namesFit, refusalOn, linksOn, nextOn}
 use Rattle.laws.specs.Tests.{way, clash, and-left, and-right, and-both}
@@ -28,7 +27,7 @@ use Rattle.rules.specs.Needs.{CommandIn, basicOfAct}
 use Rattle.decoding.specs.Decoded.{withinNames}
 use Rattle.commands.specs.Answered.{Answered, Carried}
 use Rattle.commands.specs.Rows.{row-basic}
-use Rattle.commands.specs.Ready.{Fits, commandOf, DecodedTo, fitsAll, RefusedBy}
+use Rattle.commands.specs.Ready.{commandOf, DecodedTo, fitsAll, RefusedBy}
 
 itself : (m : ℕ) → cond (eqb m 0) 0 m ≡ m
 itself m =

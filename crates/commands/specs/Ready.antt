@@ -1,29 +1,18 @@
 -- A decoded command: it is what the definition decodes, on names and rights of the record.
-use Prim.Native.Nat.{ℕ, _+_, _<_}
+use Prim.Native.Nat.{ℕ}
 use native.Mathlib.Omega.{arith}
-use mathlib.Core.Path.{_≡_, refl, sym, _∙_, ap, ap₂, subst}
+use mathlib.Core.Path.{_≡_, refl, sym, _∙_, ap}
 use mathlib.Core.Bool.{Bool, true, false, cond, _&&_}
-use mathlib.Core.List.{List, [], _∷_}
-use lib.Dec.{eqb, ltb}
-use borrow.Author.Tests.{ltb-true, eq-eqb, ne-eqb, eqb-true, eqb-false}
 use Rattle.matrix.specs.declared.Kind.{Kind}
 use Rattle.matrix.specs.declared.Fields.{Fields}
 use Rattle.matrix.specs.declared.Command.{Command}
-use Rattle.matrix.specs.Names.{nameOf, columnOf}
-use Rattle.matrix.specs.State.{State}
-use Rattle.matrix.specs.Commands.{kindOf, known, ruleOf, fieldsFit, decode}
-use Rattle.matrix.specs.Tests.{test, firstFailed}
-use Rattle.matrix.specs.Step.{refusalOf, linksWith, refusal, links, next}
-use Rattle.matrix.specs.Shape.{Shape, shapeOf, basicsOf}
-use Rattle.matrix.specs.Calls.{rawOf, namesFit, refusalOn, linksOn, nextOn}
-use Rattle.laws.specs.Tests.{way, and-left, and-right}
-use Rattle.codec.specs.Columns.{columnOf-nameOf, named-nameOf}
-use Rattle.cells.specs.Station.{Station}
-use Rattle.rules.specs.Needs.{CommandIn}
+use Rattle.matrix.specs.Names.{nameOf}
+use Rattle.matrix.specs.Commands.{kindOf, known, ruleOf, fieldsFit}
+use Rattle.laws.specs.Tests.{and-left, and-right}
 use Rattle.decoding.specs.declared.Decoded.{Decoded}
 use Rattle.decoding.specs.declared.Decoded.the-variants.{Ready, Refused}
 use Rattle.decoding.specs.Decoded.{decodedOf, withinNames}
-use Rattle.commands.specs.Rows.{row-kind, row-basic}
+use Rattle.commands.specs.Rows.{row-kind}
 
 -- the code is known, and the names and fields fit
 pub record Fits (n p : ℕ) (c : Fields) : Type 0 where

@@ -2,10 +2,9 @@
 use Prim.Native.Nat.{ℕ, _<_}
 use native.Mathlib.Omega.{arith}
 use mathlib.Core.Path.{_≡_, refl}
-use mathlib.Core.Bool.{Bool, true, cond}
+use mathlib.Core.Bool.{true, cond}
 use lib.Dec.{eqb, ltb}
 use borrow.Author.Tests.{ltb-true}
-use Rattle.matrix.specs.declared.Rule.{Rule}
 use Rattle.matrix.specs.Commands.{kindOf, ruleOf}
 use Rattle.laws.specs.Rules.{every-rule}
 use Rattle.rules.specs.Needs.{basicOfAct}

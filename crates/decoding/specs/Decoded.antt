@@ -1,10 +1,9 @@
 -- What decoding answers.
 use Prim.Native.Nat.{ℕ, _+_}
-use mathlib.Core.Bool.{Bool, true, false, cond, _&&_, _||_}
+use mathlib.Core.Bool.{Bool, cond, _&&_}
 use lib.Dec.{eqb, ltb}
 use Rattle.matrix.specs.declared.Form.{Form}
 use Rattle.matrix.specs.declared.Form.the-variants.{Plain, Starred}
-use Rattle.matrix.specs.declared.Rule.{Rule}
 use Rattle.matrix.specs.declared.Fields.{Fields}
 use Rattle.matrix.specs.Names.{nameOf}
 use Rattle.matrix.specs.Commands.{known, ruleOf, fieldsFit}

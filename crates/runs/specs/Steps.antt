@@ -1,23 +1,21 @@
 -- The steps of a list run.
-use Prim.Native.Nat.{ℕ, suc, _+_, _-_, _/_, _≤_, _<_}
-use native.Mathlib.Numerals.{add-one}
+use Prim.Native.Nat.{ℕ, suc, _+_, _-_, _≤_, _<_}
 use native.Mathlib.Omega.{arith}
-use mathlib.Core.Path.{_≡_, refl, sym, _∙_, ap, ap₂, subst}
+use mathlib.Core.Path.{_≡_, refl, sym, _∙_, ap}
 use mathlib.Core.Logic.{⊎-elim}
 use mathlib.Core.Bool.{Bool, true, false, cond}
-use mathlib.Core.List.{List, [], _∷_}
+use mathlib.Core.List.{List, _∷_}
 use lib.Dec.{eqb}
 use lib.ListN.{length}
-use borrow.Author.Tests.{eqb-true, eqb-false}
+use borrow.Author.Tests.{eqb-true}
 use Rattle.matrix.specs.declared.Fields.{Fields}
 use Rattle.matrix.specs.declared.Answer.{Answer}
 use Rattle.matrix.specs.declared.Answer.the-variants.{Accepted, Refused}
-use Rattle.matrix.specs.declared.Outcome.{Outcome}
 use Rattle.matrix.specs.State.{State}
 use Rattle.matrix.specs.Step.{answer, numberOf, refusal, next}
 use Rattle.matrix.specs.Shape.{Shape, shapeOf, sizeOf}
 use Rattle.matrix.specs.Reading.{stateOf}
-use Rattle.matrix.specs.CommandList.{fieldsAt, commandPlace, commandsFrom, commandsIn, recordBytes}
+use Rattle.matrix.specs.CommandList.{fieldsAt, commandPlace, commandsFrom, commandsIn}
 use Rattle.matrix.specs.Calls.{refusalOn, linksOn, nextOn, Ran, runFrom, ranOn}
 use Rattle.laws.specs.Tests.{way}
 use Rattle.cells.specs.Station.{Station}

@@ -1,26 +1,26 @@
 -- The definitions of the public calls, from what the crates below answer.
 use Prim.Native.Nat.{ℕ, _+_, _*_, _<_}
 use native.Mathlib.Omega.{arith}
-use mathlib.Core.Path.{_≡_, refl, sym, _∙_, ap, ap₂}
+use mathlib.Core.Path.{_≡_, refl, sym, _∙_, ap}
 use mathlib.Core.Logic.{⊎-elim}
-use mathlib.Core.Bool.{Bool, true, false, cond, _&&_}
-use mathlib.Core.List.{List, [], _∷_}
+use mathlib.Core.Bool.{Bool, true, false, cond}
+use mathlib.Core.List.{List}
 use lib.Dec.{eqb}
 use lib.ListN.{length, getD}
-use borrow.Author.Tests.{eq-eqb, ne-eqb}
+use borrow.Author.Tests.{ne-eqb}
 use Rattle.matrix.specs.declared.Fields.{Fields}
 use Rattle.matrix.specs.declared.Answer.{Answer}
 use Rattle.matrix.specs.declared.Answer.the-variants.{Refused}
 use Rattle.matrix.specs.declared.Outcome.{Outcome}
 use Rattle.matrix.specs.State.{State}
-use Rattle.matrix.specs.Tests.{test, firstFailed}
+use Rattle.matrix.specs.Tests.{firstFailed}
 use Rattle.matrix.specs.Step.{refusal, next}
 use Rattle.matrix.specs.Shape.{Shape, shapeOf}
 use Rattle.matrix.specs.Reading.{stateOf, bytesOf}
 use Rattle.matrix.specs.Record.{recordRefusal}
 use Rattle.matrix.specs.Shaped.{Octets}
 use Rattle.matrix.specs.CommandList.{wellFormed}
-use Rattle.matrix.specs.Calls.{validAnswer, heldAnswer, refusalOn, nextOn, commandAnswer, commandBytes, runRefusal, ranOn, runAnswer, runBytes}
+use Rattle.matrix.specs.Calls.{validAnswer, heldAnswer, refusalOn, nextOn, commandAnswer, commandBytes, runRefusal, runAnswer, runBytes}
 use Rattle.laws.specs.Tests.{way}
 use Rattle.codec.specs.RoundTrip.{read-write}
 use Rattle.owners.specs.Read.{record-shaped}

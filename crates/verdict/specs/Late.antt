@@ -1,14 +1,13 @@
 -- The tests 12 to 14: what each ends in, with the links that go with it.
 use Prim.Native.Nat.{ℕ}
-use mathlib.Core.Path.{_≡_, refl, sym, _∙_, ap, subst}
+use mathlib.Core.Path.{_≡_, refl, sym, _∙_, ap}
 use mathlib.Core.Bool.{Bool, true, false, not, cond, _||_, false≢true}
-use mathlib.Core.List.{List, [], _∷_}
+use mathlib.Core.List.{List}
 use lib.Dec.{eqb}
 use borrow.Author.Tests.{ne-eqb}
 use Rattle.matrix.specs.declared.Name.{Name}
 use Rattle.matrix.specs.declared.Name.the-variants.{Subject, Plain}
-use Rattle.matrix.specs.declared.Right.{Right}
-use Rattle.matrix.specs.declared.Right.the-variants.{Own, Control, Basic}
+use Rattle.matrix.specs.declared.Right.the-variants.{Own, Control}
 use Rattle.matrix.specs.declared.Act.{Act}
 use Rattle.matrix.specs.declared.Act.the-variants.{Transfer, Grant}
 use Rattle.matrix.specs.declared.Kind.{Kind}
@@ -19,7 +18,7 @@ use Rattle.matrix.specs.declared.Command.{Command}
 use Rattle.matrix.specs.State.{State}
 use Rattle.matrix.specs.Commands.{kindOf}
 use Rattle.matrix.specs.Owners.{walk, meets, linksOf}
-use Rattle.matrix.specs.Tests.{Test, test, firstFailed, kindFits, permitted, apart, uncontrolled, otherController}
+use Rattle.matrix.specs.Tests.{firstFailed, kindFits, permitted, apart, uncontrolled, otherController}
 use Rattle.matrix.specs.Step.{refusalOf, walkLinks, linksWith}
 use Rattle.verdict.specs.declared.Verdict.{Verdict}
 use Rattle.verdict.specs.Stages.{late, early, refusal-stages, early-not-thirteen}

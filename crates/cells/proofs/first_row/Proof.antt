@@ -3,11 +3,11 @@ use borrow.Author.Needs.{needs}
 use native.Mathlib.Numerals.{add-one}
 use mathlib.Core.Logic.{⊎-elim}
 use Rattle.laws.specs.Bounded.{any-miss, least-hit, least-none}
-use Prim.Native.Nat.{ℕ, _≤_, _<_, _-_}
+use Prim.Native.Nat.{ℕ, _≤_, _-_}
 use native.Mathlib.Omega.{arith}
 use mathlib.Core.Path.{_≡_, refl, sym, _∙_, subst}
-use mathlib.Core.Bool.{true, false}
-use Rattle.matrix.specs.Bounded.{any, least}
+use mathlib.Core.Bool.{false}
+use Rattle.matrix.specs.Bounded.{any}
 use Rattle.cells.specs.Rows.{rowHas, row-skipped, row-tested}
 use Rattle.cells.proofs.first_row.Statement.{statement}
 use Rattle.cells.proofs.first_row.Tie as tie

@@ -1,7 +1,7 @@
 -- `decoding::decode` meets its contract.
-use mathlib.Core.Path.{_≡_, refl, sym, _∙_}
+use mathlib.Core.Path.{sym, _∙_}
 use borrow.Author.Tests.{not-true, not-false}
-use Rattle.decoding.specs.Decides.{RowFound, found, refused-6, names-7, fields-7, ready}
+use Rattle.decoding.specs.Decides.{found, refused-6, names-7, fields-7, ready}
 use borrow.Author.Needs.{needs}
 use Rattle.decoding.proofs.decode.Statement.{statement}
 use Rattle.decoding.proofs.decode.Tie as tie

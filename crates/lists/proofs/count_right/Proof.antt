@@ -1,5 +1,4 @@
 -- `lists::count_right` meets its contract.
-use native.Mathlib.Omega.{arith}
 use Rattle.lists.specs.Forms.{wrong-length, too-long, no-multiple, by-lengths}
 use borrow.Author.Needs.{needs}
 use Rattle.lists.proofs.count_right.Statement.{statement}

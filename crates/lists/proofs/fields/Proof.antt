@@ -1,5 +1,4 @@
 -- `lists::fields` meets its contract.
-use Prim.Native.Nat.{_+_}
 use Rattle.matrix.specs.CommandList.{commandPlace}
 use Rattle.lists.specs.Forms.{fields-of}
 use borrow.Author.Needs.{needs}

@@ -1,8 +1,6 @@
 -- `rules::is_permitted` meets its contract: each arm is a case of the definition.
-use mathlib.Core.Path.{_≡_, refl, sym, _∙_, ap, subst}
-use mathlib.Core.Bool.{Bool, true, false, not, _&&_, _||_}
+use mathlib.Core.Path.{sym, _∙_, ap, subst}
 use Rattle.matrix.specs.declared.Act.{Act}
-use Rattle.matrix.specs.declared.Right.{Right}
 use Rattle.matrix.specs.Reading.{stateOf}
 use Prim.Native.Nat.{_<_}
 use native.Mathlib.Omega.{arith}

@@ -1,7 +1,5 @@
 -- `rules::may_transfer` meets its contract: each arm is a case of the definition.
-use mathlib.Core.Path.{_≡_, refl, sym, _∙_, ap, subst}
-use mathlib.Core.Bool.{Bool, true, false, not, _&&_, _||_}
-use Rattle.matrix.specs.declared.Act.{Act}
+use mathlib.Core.Path.{sym, _∙_, ap}
 use Rattle.matrix.specs.declared.Right.{Right}
 use Rattle.matrix.specs.Reading.{stateOf}
 use Rattle.matrix.specs.declared.Act.the-variants.{Transfer}

@@ -1,8 +1,7 @@
 -- `rules::name_free` meets its contract: each arm is a case of the definition.
-use mathlib.Core.Path.{_≡_, refl, sym, _∙_, ap, subst}
-use mathlib.Core.Bool.{Bool, true, false, not, _&&_, _||_}
+use mathlib.Core.Path.{sym, _∙_, ap}
+use mathlib.Core.Bool.{not}
 use Rattle.matrix.specs.declared.Act.{Act}
-use Rattle.matrix.specs.declared.Right.{Right}
 use Rattle.matrix.specs.Reading.{stateOf}
 use Rattle.matrix.specs.Tests.{free}
 use borrow.Author.Needs.{needs}

@@ -1,8 +1,8 @@
 -- `runs::run_on` meets its contract. The loop's invariant: what is left of the run ends as the whole run does.
 use borrow.Author.Needs.{needs}
-use Prim.Native.Nat.{ℕ, _+_, _-_, _/_, _≤_, _<_}
+use Prim.Native.Nat.{ℕ, _-_, _/_, _≤_}
 use native.Mathlib.Omega.{arith}
-use mathlib.Core.Path.{_≡_, refl, sym, _∙_, ap}
+use mathlib.Core.Path.{_∙_, ap}
 use Rattle.lists.specs.Formed.{formed}
 use Rattle.runs.specs.Reached.{Reached}
 use Rattle.runs.specs.Steps.{reached-none, reached-more, ran-refused, ran-all}

@@ -1,6 +1,6 @@
 -- `verdict::judge_early` meets its contract: each return rewrites with the tests that led there.
 use mathlib.Core.Path.{_≡_, sym, _∙_, ap}
-use mathlib.Core.Bool.{Bool, true, false, not}
+use mathlib.Core.Bool.{true}
 use borrow.Author.Tests.{not-true, not-false}
 use Rattle.verdict.specs.Stages.{early-8, early-9, early-10, early-11}
 use Rattle.matrix.specs.declared.Kind.{Kind}
