@@ -1,11 +1,11 @@
 -- The answer of every public call, and the bytes after it.
-use Prim.Native.Nat.{ℕ, zero, suc, _+_}
-use mathlib.Core.Bool.{Bool, true, false, cond, _&&_}
+use Prim.Native.Nat.{ℕ, _+_}
+use mathlib.Core.Bool.{Bool, cond, _&&_}
 use mathlib.Core.List.{List, [], _∷_}
 use lib.Dec.{eqb, ltb}
 use Rattle.matrix.specs.declared.Fields.{Fields}
 use Rattle.matrix.specs.declared.Answer.{Answer}
-use Rattle.matrix.specs.declared.Answer.the-variants.{Accepted, Refused}
+use Rattle.matrix.specs.declared.Answer.the-variants.{Refused}
 use Rattle.matrix.specs.declared.Holding.{Holding}
 use Rattle.matrix.specs.declared.Holding.the-variants.{Yes, No}
 use Rattle.matrix.specs.declared.Outcome.{Outcome}

@@ -1,7 +1,7 @@
 -- A list of commands: "Version byte 1, a four-byte L of the bytes that follow (at most 60,000), then records of a length byte 05
 -- and the five fields, one byte each."
 use Prim.Native.Nat.{ℕ, zero, suc, _+_, _*_, _/_, _%_}
-use mathlib.Core.Bool.{Bool, true, false, _&&_}
+use mathlib.Core.Bool.{Bool, _&&_}
 use mathlib.Core.List.{List, [], _∷_}
 use lib.Dec.{eqb, leb}
 use lib.ListN.{length, getD}

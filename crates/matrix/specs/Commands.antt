@@ -6,7 +6,6 @@ use lib.Dec.{eqb, ltb, leb}
 use lib.ListN.{getD}
 use Rattle.matrix.specs.declared.Name.{Name}
 use Rattle.matrix.specs.declared.Form.the-variants.{Plain, Starred}
-use Rattle.matrix.specs.declared.Right.{Right}
 use Rattle.matrix.specs.declared.Right.the-variants.{Own, Control, Basic}
 use Rattle.matrix.specs.declared.Act.{Act}
 use Rattle.matrix.specs.declared.Act.the-variants.{Transfer, Grant, Delete, CreateObject, DestroyObject, CreateSubject, DestroySubject}
@@ -14,7 +13,6 @@ use Rattle.matrix.specs.declared.Kind.{Kind}
 use Rattle.matrix.specs.declared.Kind.the-variants.{AnyName, SubjectName, PlainName}
 use Rattle.matrix.specs.declared.Rule.{Rule}
 use Rattle.matrix.specs.declared.Command.{Command}
-use Rattle.matrix.specs.Names.{columnOf}
 
 -- A command before decoding. "Fields: code, initiator i, subject s, column o, basic right k." "Its o carries its kind."
 pub record Raw : Type 0 where

@@ -1,7 +1,7 @@
 -- Validity of a record's bytes, and the refusals 1 to 5. The five conditions are tests here, over the record's names; that they
 -- are the five conditions of Valid is proved, both ways.
-use Prim.Native.Nat.{ℕ, zero, suc, _+_}
-use mathlib.Core.Bool.{Bool, true, false, cond, not, _&&_, _||_}
+use Prim.Native.Nat.{ℕ, zero, suc}
+use mathlib.Core.Bool.{Bool, cond, not, _&&_, _||_}
 use mathlib.Core.List.{List, [], _∷_}
 use lib.Dec.{eqb, ltb, leb}
 use lib.ListN.{length}

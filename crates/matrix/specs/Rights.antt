@@ -1,7 +1,7 @@
 -- Rights. "A right is own, control, or a basic right, plain or starred. Its code is its bit number in the cell, bit 0 lowest:
 -- own 0, control 1, basic right k plain 2 + 2k, starred 3 + 2k."
 use Prim.Native.Nat.{ℕ, zero, suc, _+_, _*_, _/_, _%_}
-use mathlib.Core.Bool.{Bool, true, false, cond, _&&_}
+use mathlib.Core.Bool.{Bool, true, false, cond}
 use mathlib.Core.List.{List, [], _∷_}
 use lib.Dec.{eqb}
 use Rattle.matrix.specs.declared.Form.{Form}

@@ -1,8 +1,8 @@
 -- The record's layout: "Byte 0: version, 1. Bytes 1 to 4: the count L of bytes after byte 4. Byte 5: n, subject names, 1 to 64.
 -- Byte 6: p, plain names, 0 to 192. Then n rows of n + p cells of 16 bits; L = 2 + 2·n·(n + p)."
 use Prim.Native.Nat.{ℕ, _+_, _-_, _*_}
-use mathlib.Core.Bool.{Bool, true, false, _&&_}
-use mathlib.Core.List.{List, [], _∷_}
+use mathlib.Core.Bool.{Bool, _&&_}
+use mathlib.Core.List.{List}
 use lib.Dec.{eqb, leb}
 use lib.ListN.{length, getD}
 use Rattle.matrix.specs.Bytes.{numberAt}

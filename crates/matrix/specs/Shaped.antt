@@ -1,7 +1,7 @@
 -- Bytes of the right form for their shape, as facts: the tests 1 to 4 are passed. And states within the names of a shape.
 use Prim.Native.Nat.{ℕ, _≤_, _<_}
 use mathlib.Core.Path.{_≡_}
-use mathlib.Core.Bool.{Bool, true, false}
+use mathlib.Core.Bool.{true}
 use mathlib.Core.List.{List}
 use lib.ListN.{length, getD}
 use Rattle.matrix.specs.declared.Name.{Name}

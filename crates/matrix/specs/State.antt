@@ -1,6 +1,6 @@
 -- States. "The state says, for each subject name as row and each name of either kind as column, which bits are set."
 use Prim.Native.Nat.{ℕ}
-use mathlib.Core.Bool.{Bool, true, false, cond, _&&_, _||_}
+use mathlib.Core.Bool.{Bool, false, cond, _&&_, _||_}
 use mathlib.Core.List.{List, [], _∷_}
 use lib.Dec.{eqb}
 use Rattle.matrix.specs.declared.Name.{Name}

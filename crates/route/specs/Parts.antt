@@ -1,6 +1,6 @@
 -- Commands by their fields, and the end of a list, which gives s the right once v owns o.
 use Prim.Native.Nat.{ℕ}
-use mathlib.Core.Bool.{Bool, true, false, cond, _||_}
+use mathlib.Core.Bool.{Bool, false, cond, _||_}
 use mathlib.Core.List.{List, [], _∷_, _++_}
 use lib.Dec.{eqb}
 use Rattle.matrix.specs.declared.Name.{Name}

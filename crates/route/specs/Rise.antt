@@ -1,7 +1,7 @@
 -- The way up from an owner to the first untrusted subject.
 use Prim.Native.Nat.{ℕ, zero, suc}
-use mathlib.Core.Bool.{Bool, true, false, cond, not, _&&_}
-use mathlib.Core.List.{List, [], _∷_}
+use mathlib.Core.Bool.{Bool, true, false, cond}
+use mathlib.Core.List.{List, _∷_}
 use lib.Dec.{eqb, ltb}
 use Rattle.matrix.specs.declared.Name.{Name}
 use Rattle.matrix.specs.Names.{U}
