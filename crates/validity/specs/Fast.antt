@@ -6,7 +6,7 @@ use mathlib.Core.Bool.{Bool, true, false, cond, not, _&&_, _||_}
 use lib.Dec.{eqb, ltb, leb}
 use Rattle.matrix.specs.Bounded.{any, all, count, least}
 use Rattle.lanes.specs.Lanes.{lastOf}
-use Rattle.validity.specs.Followed.{followed}
+use Rattle.owner_table.specs.Followed.{followed}
 
 -- the row that a subject's owner is followed to; a subject with no owner stays where it is
 abbrev pub ownerStep : ℕ → (ℕ → ℕ → Bool) → ℕ → ℕ

@@ -10,11 +10,12 @@ use Rattle.matrix.specs.Bounded.{any, all, count}
 use Rattle.matrix.specs.Bytes.{bit}
 use Rattle.laws.specs.Bounded.{all-same}
 use Rattle.lanes.specs.Lanes.{merged, lastOf, byteAt, bitIn, Lanes}
-use Rattle.validity.specs.Counts.{last-below}
-use Rattle.validity.specs.Followed.{followed, followed-same}
+use Rattle.owner_table.specs.Counts.{last-below}
+use Rattle.owner_table.specs.Followed.{followed, followed-same}
 use Rattle.validity.specs.Fast.{subjectRight, plainRight, lastOwner, allAscend, testsPass}
 use Rattle.validity.specs.Cells.{ownBit, controlBit, zeroCell}
-use Rattle.validity.specs.Checks.{zeroFrom, zeroColumn, judged, subjectTest, plainTest, ownerIn, Inside}
+use Rattle.columns.specs.Checks.{zeroFrom, zeroColumn, judged, subjectTest, plainTest}
+use Rattle.owner_table.specs.Table.{ownerIn, Inside}
 use Rattle.validity.specs.Merged.{merged-zero, merged-zeros, merged-bit, all-pairs}
 
 module _ (b : List ℕ) (n k m : ℕ) (seen own control last : List ℕ) (lanes : Lanes b m (2 * n) n seen own control last)

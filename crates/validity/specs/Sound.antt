@@ -11,8 +11,8 @@ use Rattle.matrix.specs.Bounded.{any, all, count, least}
 use Rattle.laws.specs.Tests.{way, clash, fails, holds, same-test, and-left, and-right, and-both, or-cases, or-left, or-right}
 use Rattle.laws.specs.Bounded.{all-each, each-all, any-hit, any-none, none-any, any-found}
 use Rattle.lanes.specs.Lanes.{lastOf}
-use Rattle.validity.specs.Counts.{count-none, none-count, count-besides, last-below, last-none, last-least}
-use Rattle.validity.specs.Followed.{followed, followed-same, followed-below, longer, within}
+use Rattle.owner_table.specs.Counts.{count-none, none-count, count-besides, last-below, last-none, last-least}
+use Rattle.owner_table.specs.Followed.{followed, followed-same, followed-below, longer, within}
 use Rattle.validity.specs.Fast.{ownerStep, columnExists, zeroAbsent, plainFree, rootAlone, oneEach, ascends, fiveHold, subjectRight, plainRight, lastOwner, allAscend, testsPass}
 
 -- a zero cell has no bit

@@ -10,8 +10,8 @@ use Rattle.matrix.specs.Bounded.{any, all, count, least}
 use Rattle.laws.specs.Tests.{way, clash, fails, holds, same-test, and-left, and-right, and-both, or-left, or-right}
 use Rattle.laws.specs.Bounded.{all-each, each-all, any-hit, any-none, none-any, least-none}
 use Rattle.lanes.specs.Lanes.{lastOf}
-use Rattle.validity.specs.Counts.{none-count, last-below, last-none, last-least}
-use Rattle.validity.specs.Followed.{followed, followed-same, longer, within}
+use Rattle.owner_table.specs.Counts.{none-count, last-below, last-none, last-least}
+use Rattle.owner_table.specs.Followed.{followed, followed-same, longer, within}
 use Rattle.validity.specs.Fast.{ownerStep, zeroAbsent, plainFree, rootAlone, oneEach, ascends, fiveHold, subjectRight, plainRight, lastOwner, allAscend, testsPass}
 use Rattle.validity.specs.Sound.{Bits, Framed, false-not, other, five-framed, framed-absent, framed-plain, framed-root, framed-one}
 

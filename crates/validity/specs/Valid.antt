@@ -20,7 +20,7 @@ use Rattle.laws.specs.Tests.{way, and-left, and-right}
 use Rattle.laws.specs.Bounded.{all-same, count-same, least-same}
 use Rattle.codec.specs.Bits.{bit-zero}
 use Rattle.lanes.specs.Lanes.{byteAt}
-use Rattle.validity.specs.Followed.{followed}
+use Rattle.owner_table.specs.Followed.{followed}
 use Rattle.validity.specs.Fast.{ownerStep, columnExists, zeroAbsent, plainFree, rootAlone, oneEach, ascends, fiveHold, testsPass}
 use Rattle.validity.specs.Sound.{Bits}
 use Rattle.validity.specs.Tested.{tests-five}

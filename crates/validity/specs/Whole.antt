@@ -16,11 +16,12 @@ use Rattle.matrix.specs.Record.{validMatrix}
 use Rattle.laws.specs.Tests.{and-left, and-right}
 use Rattle.lanes.specs.Lists.{Holds}
 use Rattle.lanes.specs.Lanes.{merged, lastOf, bitIn, Lanes}
-use Rattle.validity.specs.Followed.{followed}
+use Rattle.owner_table.specs.Followed.{followed}
 use Rattle.validity.specs.Fast.{testsPass}
 use Rattle.validity.specs.Cells.{ownBit, controlBit, zeroCell}
 use Rattle.validity.specs.Valid.{valid-tests}
-use Rattle.validity.specs.Checks.{subjectTest, plainTest, ownerIn, Inside}
+use Rattle.columns.specs.Checks.{subjectTest, plainTest}
+use Rattle.owner_table.specs.Table.{ownerIn, Inside}
 use Rattle.validity.specs.Passed.{all-passed, owners-inside}
 use Rattle.validity.specs.Header.{Headed, Whole}
 

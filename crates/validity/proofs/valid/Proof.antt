@@ -8,64 +8,48 @@ use Rattle.validity.specs.Whole.{lanes-none, table-inside, subjects-wron
 use borrow.Author.Needs.{needs}
 use Rattle.validity.proofs.valid.Statement.{statement}
 use Rattle.validity.proofs.valid.Tie as tie
-use Rattle.validity.proofs.valid.Reads as reads
-use Rattle.validity.proofs.valid.Lts as lts
-use Rattle.lanes.proofs.scan.Reads as scan-reads
-use Rattle.validity.proofs.plains.Reads as plains-reads
-use Rattle.validity.proofs.rooted.Reads as rooted-reads
-use Rattle.validity.proofs.subjects.Reads as subjects-reads
 
 -- the elements of the slice are bytes
 octets : (c : tie.After-shared-slice-known) → Octets (c .before .args .b .now)
 octets c = record { octet = λ j. omega (arith, c .shared-slice-known .given j) }
 
--- src/lib.rt:196:18
 add-m : tie.Need-add-m
 add-m c = search needs
 
--- src/lib.rt:196:13
 mul-m : tie.Need-mul-m
 mul-m c = search needs
 
--- src/lib.rt:197:72
 mul-scan : tie.Need-mul-scan
 mul-scan c = search needs
 
--- src/lib.rt:197:5
 scan-requires : tie.Need-scan-requires
 scan-requires c κs =
     let s = c .before .before .before .before .before in
     let h = whole-matrix (s .args .b .now) (s .args .n) (s .args .p) (s .pre) in
     (h, lanes-none _ _ _ (h .bytes) (h .width))
 
--- src/lib.rt:198:9
 subjects-requires : tie.Need-subjects-requires
 subjects-requires c κs = search needs
 
--- src/lib.rt:199:9
 returns : tie.Need-returns
 returns c =
     let s = c .before .before .before .before .before .before .before .before .before .before .before in
     subjects-wrong (s .args .b .now) (s .args .n) (s .args .p) (c .before .before .before .before .before .scan .last .0) (c .before .before .before .before .before .scan .last .1 .0) (c .before .before .before .before .before .scan .last .1 .1 .0) (c .before .before .before .before .before .scan .last .1 .1 .1 .0) (s .pre) (octets (c .before .before .before .before .before .before .before .before .before .before)) (c .before .before .before .before .before .scan .ensures) (sym (c .before .subjects .ensures) ∙ not-true _ (c .if1 .taken))
 
--- src/lib.rt:201:9
 plains-requires : tie.Need-plains-requires
 plains-requires c κs = search needs
 
--- src/lib.rt:202:9
 returns-2 : tie.Need-returns-2
 returns-2 c =
     let s = c .before .before .before .before .before .before .before .before .before .before .before .before .before .before in
     plain-wrong (s .args .b .now) (s .args .n) (s .args .p) (c .before .before .before .before .before .before .before .before .scan .last .0) (c .before .before .before .before .before .before .before .before .scan .last .1 .0) (c .before .before .before .before .before .before .before .before .scan .last .1 .1 .0) (c .before .before .before .before .before .before .before .before .scan .last .1 .1 .1 .0) (s .pre) (octets (c .before .before .before .before .before .before .before .before .before .before .before .before .before)) (c .before .before .before .before .before .before .before .before .scan .ensures) (sym (c .before .before .before .before .subjects .ensures) ∙ not-false _ (c .before .before .before .if1 .left))
     (sym (c .before .plains .ensures) ∙ not-true _ (c .if2 .taken))
 
--- src/lib.rt:204:5
 rooted-requires : tie.Need-rooted-requires
 rooted-requires c κs =
     let s = c .before .before .before .before .before .before .before .before .before .before .before .before .before .before .before in
     (s .pre .head .high, c .before .before .before .before .before .before .before .before .before .scan .ensures .owner .size, table-inside (s .args .b .now) (s .args .n) (s .args .p) (c .before .before .before .before .before .before .before .before .before .scan .last .0) (c .before .before .before .before .before .before .before .before .before .scan .last .1 .0) (c .before .before .before .before .before .before .before .before .before .scan .last .1 .1 .0) (c .before .before .before .before .before .before .before .before .before .scan .last .1 .1 .1 .0) (s .pre) (octets (c .before .before .before .before .before .before .before .before .before .before .before .before .before .before)) (c .before .before .before .before .before .before .before .before .before .scan .ensures))
 
--- src/lib.rt:188:1
 returns-3 : tie.Need-returns-3
 returns-3 c =
     let s = c .before .before .before .before .before .before .before .before .before .before .before .before .before .before .before .before in
