@@ -1,13 +1,12 @@
 -- What the code tests, in the terms of the lists that the pass over the rows has filled.
-use Prim.Native.Nat.{ℕ, zero, suc, _+_, _*_, _≤_, _<_}
+use Prim.Native.Nat.{ℕ, _+_, _*_, _≤_, _<_}
 use mathlib.Core.Path.{_≡_}
-use mathlib.Core.Bool.{Bool, true, false, cond, not, _&&_, _||_}
+use mathlib.Core.Bool.{Bool, cond, not, _&&_}
 use mathlib.Core.List.{List}
 use lib.Dec.{eqb, leb}
 use lib.ListN.{length, getD}
-use Rattle.matrix.specs.Bounded.{all}
 use Rattle.matrix.specs.Bytes.{bit}
-use Rattle.lanes.specs.Lanes.{merged, byteAt}
+use Rattle.lanes.specs.Lanes.{merged}
 
 -- the m bytes from `at` on have no bit
 abbrev pub zeroFrom : List ℕ → ℕ → ℕ → Bool

@@ -1,9 +1,9 @@
 // Tests of each column of a record, over the lists that the pass over its rows has filled.
 ghost use mathlib.Core.Path.{_≡_};
 ghost use mathlib.Core.Bool.{not, _&&_};
-ghost use Prim.Native.Nat.{ℕ, _+_, _*_, _≤_, _<_};
+ghost use Prim.Native.Nat.{_+_, _*_, _≤_, _<_};
 ghost use lib.Dec.{eqb, leb};
-ghost use lib.ListN.{length, getD};
+ghost use lib.ListN.{length};
 ghost use Rattle.matrix.specs.Bounded.{all};
 ghost use Rattle.lanes.specs.Lanes.{Matrix};
 ghost use Rattle.columns.specs.Checks.{zeroFrom, zeroColumn, subjectAt, subjectTest, plainTest, Placed};

@@ -1,16 +1,16 @@
 -- Laws of counts, of the last that passes, and of numbers merged.
-use Prim.Native.Nat.{ℕ, zero, suc, _+_, _*_, _/_, _%_, _^_, _≤_, _<_}
+use Prim.Native.Nat.{ℕ, zero, suc, _<_}
 use native.Mathlib.Nat.{not-suc-le-zero}
 use native.Mathlib.Omega.{arith}
-use mathlib.Core.Path.{_≡_, refl, sym, _∙_, ap, subst}
+use mathlib.Core.Path.{_≡_, refl, sym, _∙_, subst}
 use mathlib.Core.Logic.{_⊎_, inl, inr, ⊎-elim}
-use mathlib.Core.Bool.{Bool, true, false, cond, not, _&&_, _||_}
+use mathlib.Core.Bool.{Bool, true, false, not, _&&_}
 use lib.Dec.{eqb}
-use borrow.Author.Tests.{eqb-true, eq-eqb, ne-eqb}
-use Rattle.matrix.specs.Bounded.{any, all, count, least}
-use Rattle.laws.specs.Tests.{way, clash, fails, holds}
-use Rattle.laws.specs.Bounded.{below-suc, any-hit, any-none, none-any, count-same}
-use Rattle.lanes.specs.Lanes.{merged, lastOf}
+use borrow.Author.Tests.{eq-eqb, ne-eqb}
+use Rattle.matrix.specs.Bounded.{any, count, least}
+use Rattle.laws.specs.Tests.{way, clash, fails}
+use Rattle.laws.specs.Bounded.{below-suc, any-hit, none-any, count-same}
+use Rattle.lanes.specs.Lanes.{lastOf}
 
 -- the count one further, by whether that one passes
 pub count-hit : (n : ℕ) (f : ℕ → Bool) → f n ≡ true → count (suc n) f ≡ suc (count n f)

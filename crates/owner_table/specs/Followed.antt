@@ -2,13 +2,13 @@
 use Prim.Native.Nat.{ℕ, zero, suc, _+_, _≤_, _<_}
 use native.Mathlib.Nat.{not-suc-le-zero}
 use native.Mathlib.Omega.{arith}
-use mathlib.Core.Path.{_≡_, refl, sym, _∙_, ap, subst}
+use mathlib.Core.Path.{_≡_, refl, _∙_, ap, subst}
 use mathlib.Core.Logic.{_⊎_, inl, inr, ⊎-elim}
-use mathlib.Core.Bool.{Bool, true, false, cond, not, _&&_, false≢true}
+use mathlib.Core.Bool.{Bool, true, false, not, _&&_, false≢true}
 use lib.Dec.{eqb}
-use borrow.Author.Tests.{eqb-true, eqb-false, eq-eqb, ne-eqb, not-true}
+use borrow.Author.Tests.{eqb-true, eq-eqb, not-true}
 use Rattle.matrix.specs.Bounded.{any, count}
-use Rattle.laws.specs.Tests.{way, clash, fails, holds, and-left, and-right, and-both}
+use Rattle.laws.specs.Tests.{way, clash, holds, and-left, and-right, and-both}
 use Rattle.laws.specs.Bounded.{below-suc, any-found, any-none}
 use Rattle.lanes.specs.LaneLaws.{count-le}
 use Rattle.owner_table.specs.Counts.{count-hit, count-miss}

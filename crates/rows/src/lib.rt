@@ -1,7 +1,6 @@
 // The pass over all rows of a record, four rows at a time while there are four left: each list is then read and written once for four rows.
 ghost use mathlib.Core.Path.{_≡_};
-ghost use mathlib.Core.Bool.{cond};
-ghost use Prim.Native.Nat.{ℕ, _+_, _*_, _/_, _%_, _^_, _≤_, _<_};
+ghost use Prim.Native.Nat.{ℕ, _+_, _*_, _%_, _≤_, _<_};
 ghost use lib.ListN.{length, getD};
 ghost use Rattle.lanes.specs.Lists.{Stored};
 ghost use Rattle.lanes.specs.Lanes.{Lanes, Matrix};

@@ -1,3 +1,4 @@
+-- `columns::absent` meets its contract. The three tests, one after the other.
 use mathlib.Core.Path.{sym, _∙_}
 use Rattle.columns.specs.Loops.{absent-root, absent-column, absent-row}
 use borrow.Author.Needs.{needs}

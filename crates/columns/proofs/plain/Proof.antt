@@ -1,3 +1,4 @@
+-- `columns::plain` meets its contract. By whether somebody owns the column.
 use mathlib.Core.Path.{_∙_}
 use Rattle.columns.specs.Loops.{plain-owned, plain-unowned}
 use borrow.Author.Needs.{needs}

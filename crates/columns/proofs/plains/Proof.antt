@@ -1,9 +1,9 @@
+-- `columns::plains` meets its contract. The invariant: the first i plain columns pass.
 use borrow.Author.Tests.{not-true, not-false}
 use borrow.Author.Needs.{needs}
-use Prim.Native.Nat.{ℕ, _+_, _*_, _-_, _≤_, _<_}
-use native.Mathlib.Omega.{arith}
-use mathlib.Core.Path.{_≡_, refl, sym, _∙_, ap}
-use mathlib.Core.Bool.{Bool, true, false, cond, not}
+use Prim.Native.Nat.{_+_, _*_, _-_, _≤_}
+use mathlib.Core.Path.{_≡_, sym, _∙_}
+use mathlib.Core.Bool.{true}
 use Rattle.matrix.specs.Bounded.{all}
 use Rattle.columns.specs.Checks.{plainTest}
 use Rattle.lanes.specs.Passing.{all-none, all-more, all-done, all-stop}

@@ -1,3 +1,4 @@
+-- `columns::root_counts` meets its contract. Both tests, one after the other.
 use borrow.Author.Tests.{eq-eqb, ne-eqb}
 use Rattle.columns.proofs.root_counts.Statement.{statement}
 use Rattle.columns.proofs.root_counts.Tie as tie

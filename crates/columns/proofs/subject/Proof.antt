@@ -1,3 +1,4 @@
+-- `columns::subject` meets its contract. By whether the subject's own cell has control, and whether the subject is U.
 use Rattle.columns.specs.Loops.{subject-root, subject-other, subject-absent}
 use borrow.Author.Needs.{needs}
 use Rattle.columns.proofs.subject.Statement.{statement}

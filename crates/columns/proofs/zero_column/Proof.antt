@@ -1,3 +1,4 @@
+-- `columns::zero_column` meets its contract. Both tests, one after the other.
 use borrow.Author.Tests.{eq-eqb, ne-eqb}
 use borrow.Author.Needs.{needs}
 use Rattle.columns.proofs.zero_column.Statement.{statement}

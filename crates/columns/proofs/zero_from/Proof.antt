@@ -1,8 +1,8 @@
+-- `columns::zero_from` meets its contract. The invariant: `any` is the bytes below j merged.
 use borrow.Author.Needs.{needs}
-use Prim.Native.Nat.{ℕ, _+_, _*_, _-_, _≤_, _<_}
-use native.Mathlib.Omega.{arith}
-use mathlib.Core.Path.{_≡_, refl, sym, _∙_, ap}
-use lib.ListN.{length, getD}
+use Prim.Native.Nat.{_+_, _-_, _≤_}
+use mathlib.Core.Path.{_≡_}
+use lib.ListN.{getD}
 use Rattle.lanes.specs.Lanes.{merged}
 use Rattle.columns.specs.Loops.{merged-none, merged-more, merged-done}
 use Rattle.columns.proofs.zero_from.Statement.{statement}

@@ -1,3 +1,4 @@
+-- `lanes::mark` meets its contract. The invariant: the byte columns below j are marked, those from j on are as before.
 use borrow.Author.Needs.{needs}
 use Prim.Native.Nat.{ℕ, _+_, _-_, _≤_}
 use native.Mathlib.Nat.{le-refl}

@@ -1,3 +1,4 @@
+-- `lanes::pick` meets its contract. Bit 0 is the remainder by 2.
 use mathlib.Core.Path.{sym}
 use Rattle.lanes.specs.LaneLaws.{mark-hit, mark-miss}
 use Rattle.lanes.proofs.pick.Statement.{statement}

@@ -1,8 +1,9 @@
+-- `owner_table::double` meets its contract. The invariant: the entries below s are filled. An entry of t is a subject, so it is an index of t.
 use borrow.Author.Needs.{needs}
-use Prim.Native.Nat.{ℕ, _+_, _*_, _-_, _≤_, _<_}
+use Prim.Native.Nat.{_-_, _≤_}
 use native.Mathlib.Omega.{arith}
-use mathlib.Core.Path.{_≡_, refl, sym, _∙_, ap}
-use lib.ListN.{length, getD}
+use mathlib.Core.Path.{refl}
+use lib.ListN.{getD}
 use Rattle.lanes.specs.Lists.{Stored, stored-none, stored-step, stored-done}
 use Rattle.owner_table.proofs.double.Statement.{statement}
 use Rattle.owner_table.proofs.double.Tie as tie

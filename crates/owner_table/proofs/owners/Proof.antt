@@ -1,8 +1,7 @@
+-- `owner_table::owners` meets its contract. The invariant: the entries below s are filled.
 use borrow.Author.Needs.{needs}
-use Prim.Native.Nat.{ℕ, _+_, _*_, _-_, _≤_, _<_}
-use native.Mathlib.Omega.{arith}
-use mathlib.Core.Path.{_≡_, refl, sym, _∙_, ap}
-use lib.ListN.{length, getD}
+use Prim.Native.Nat.{_-_, _≤_}
+use mathlib.Core.Path.{refl}
 use Rattle.lanes.specs.Lists.{Stored, stored-none, stored-step, stored-done}
 use Rattle.owner_table.specs.Table.{ownerIn}
 use Rattle.owner_table.proofs.owners.Statement.{statement}

@@ -1,9 +1,9 @@
+-- `owner_table::rooted` meets its contract. After each call the table written last follows owners twice as often as the one before: 1, 2, 4 and so on to 64.
 use Prim.Native.Nat.{ℕ}
 use mathlib.Core.Path.{refl, _∙_, ap}
 use lib.Dec.{eqb}
 use Rattle.laws.specs.Bounded.{all-same}
-use Rattle.owner_table.specs.Table.{ownerIn, Follows}
-use Rattle.owner_table.specs.Table.{follows-once, follows-twice, follows-inside}
+use Rattle.owner_table.specs.Table.{ownerIn, Follows, follows-once, follows-twice, follows-inside}
 use borrow.Author.Needs.{needs}
 use Rattle.owner_table.proofs.rooted.Statement.{statement}
 use Rattle.owner_table.proofs.rooted.Tie as tie

@@ -1,3 +1,4 @@
+-- `rows::four` meets its contract. Each list by the law of four rows more.
 use native.Mathlib.Omega.{arith}
 use Rattle.rows.specs.FourLaws.{count-room-four, next-merged-four, next-count-four, next-last-four}
 use borrow.Author.Needs.{needs}

@@ -1,12 +1,12 @@
+-- `rows::mark_four` meets its contract. The invariant: the byte columns below j are marked for four rows, those from j on are as before.
 use Rattle.rows.specs.FourLaws.{last-four-made}
 use borrow.Author.Needs.{needs}
-use Prim.Native.Nat.{ℕ, _+_, _*_, _-_, _≤_, _<_}
+use Prim.Native.Nat.{_-_, _≤_}
 use native.Mathlib.Omega.{arith}
 use native.Mathlib.Nat.{le-refl}
-use mathlib.Core.Path.{_∙_, ap}
-use lib.ListN.{length, getD}
+use lib.ListN.{getD}
 use Rattle.lanes.specs.Lists.{Stored, stored-none, stored-step, stored-done}
-use Rattle.rows.specs.Four.{mergedFour, countFour, lastFour}
+use Rattle.rows.specs.Four.{lastFour}
 use Rattle.rows.proofs.mark_four.Statement.{statement}
 use Rattle.rows.proofs.mark_four.Tie as tie
 

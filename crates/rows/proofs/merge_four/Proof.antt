@@ -1,11 +1,12 @@
+-- `rows::merge_four` meets its contract. The invariant: the byte columns below j have the bits of four rows joined in, those from j on are as before.
 use borrow.Author.Needs.{needs}
-use Prim.Native.Nat.{ℕ, _+_, _*_, _-_, _≤_, _<_}
+use Prim.Native.Nat.{ℕ, _-_, _≤_}
 use native.Mathlib.Omega.{arith}
 use native.Mathlib.Nat.{le-refl}
-use mathlib.Core.Path.{_∙_, ap}
-use lib.ListN.{length, getD}
+use mathlib.Core.Path.{ap}
+use lib.ListN.{getD}
 use Rattle.lanes.specs.Lists.{Stored, stored-none, stored-step, stored-done}
-use Rattle.rows.specs.Four.{mergedFour, countFour, lastFour}
+use Rattle.rows.specs.Four.{mergedFour}
 use Rattle.rows.proofs.merge_four.Statement.{statement}
 use Rattle.rows.proofs.merge_four.Tie as tie
 

@@ -1,4 +1,4 @@
-use borrow.Author.Needs.{needs}
+-- `rows::scan` meets its contract. The invariant of both loops: the lists hold what is known after r rows, and the next row begins at `at`.
 use Prim.Native.Nat.{_+_, _*_, _-_, _≤_, _<_}
 use native.Mathlib.Nat.{zero-mul}
 use native.Mathlib.Omega.{arith}

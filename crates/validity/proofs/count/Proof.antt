@@ -1,3 +1,4 @@
+-- `validity::count` meets its contract. The sum of four bytes fits, each being below 256.
 use Rattle.validity.specs.Header.{count-bytes}
 use mathlib.Core.Path.{sym}
 use native.Mathlib.Omega.{arith}

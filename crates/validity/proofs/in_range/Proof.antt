@@ -1,3 +1,4 @@
+-- `validity::in_range` meets its contract. The three tests, one after the other.
 use borrow.Author.Tests.{le-leb, lt-leb}
 use Rattle.validity.proofs.in_range.Statement.{statement}
 use Rattle.validity.proofs.in_range.Tie as tie

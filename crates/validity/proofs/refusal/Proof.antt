@@ -1,9 +1,10 @@
+-- `validity::refusal` meets its contract. The tests 1 to 5, one after the other; each refusal by the law of its number.
 use native.Mathlib.Omega.{arith}
 use mathlib.Core.Path.{_≡_, sym, _∙_}
 use mathlib.Core.Bool.{true}
 use borrow.Author.Tests.{not-true, not-false}
 use Rattle.matrix.specs.Shape.{shapeOf, inRange, sized}
-use Rattle.validity.specs.Header.{Headed, refused-1, refused-2, refused-3, refused-4, refused-5, refused-none}
+use Rattle.validity.specs.Header.{refused-1, refused-2, refused-3, refused-4, refused-5, refused-none}
 use Rattle.validity.specs.Whole.{version-read, version-wrong, range-read, headed, whole-read}
 use borrow.Author.Needs.{needs}
 use Rattle.validity.proofs.refusal.Statement.{statement}

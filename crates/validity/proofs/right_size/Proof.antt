@@ -1,3 +1,4 @@
+-- `validity::right_size` meets its contract. L first, then the true length.
 use Rattle.validity.specs.Whole.{count-right, count-wrong}
 use Rattle.validity.specs.Header.{cells-most}
 use Prim.Native.Nat.{_+_}

@@ -1,4 +1,4 @@
-use Prim.Native.Nat.{_+_, _*_}
+-- `validity::valid` meets its contract. The lists of the pass hold what the tests ask for, and the tests are the five conditions.
 use native.Mathlib.Omega.{arith}
 use mathlib.Core.Path.{sym, _∙_}
 use borrow.Author.Tests.{not-true, not-false}
@@ -34,7 +34,7 @@ subjects-requires c κs = search needs
 returns : tie.Need-returns
 returns c =
     let s = c .before .before .before .before .before .before .before .before .before .before .before in
-    subjects-wrong (s .args .b .now) (s .args .n) (s .args .p) (c .before .before .before .before .before .scan .last .0) (c .before .before .before .before .before .scan .last .1 .0) (c .before .before .before .before .before .scan .last .1 .1 .0) (c .before .before .before .before .before .scan .last .1 .1 .1 .0) (s .pre) (octets (c .before .before .before .before .before .before .before .before .before .before)) (c .before .before .before .before .before .scan .ensures) (sym (c .before .subjects .ensures) ∙ not-true _ (c .if1 .taken))
+    subjects-wrong _ _ _ _ _ _ _ (s .pre) (octets (c .before .before .before .before .before .before .before .before .before .before)) (c .before .before .before .before .before .scan .ensures) (sym (c .before .subjects .ensures) ∙ not-true _ (c .if1 .taken))
 
 plains-requires : tie.Need-plains-requires
 plains-requires c κs = search needs
@@ -42,18 +42,18 @@ plains-requires c κs = search needs
 returns-2 : tie.Need-returns-2
 returns-2 c =
     let s = c .before .before .before .before .before .before .before .before .before .before .before .before .before .before in
-    plain-wrong (s .args .b .now) (s .args .n) (s .args .p) (c .before .before .before .before .before .before .before .before .scan .last .0) (c .before .before .before .before .before .before .before .before .scan .last .1 .0) (c .before .before .before .before .before .before .before .before .scan .last .1 .1 .0) (c .before .before .before .before .before .before .before .before .scan .last .1 .1 .1 .0) (s .pre) (octets (c .before .before .before .before .before .before .before .before .before .before .before .before .before)) (c .before .before .before .before .before .before .before .before .scan .ensures) (sym (c .before .before .before .before .subjects .ensures) ∙ not-false _ (c .before .before .before .if1 .left))
+    plain-wrong _ _ _ _ _ _ _ (s .pre) (octets (c .before .before .before .before .before .before .before .before .before .before .before .before .before)) (c .before .before .before .before .before .before .before .before .scan .ensures) (sym (c .before .before .before .before .subjects .ensures) ∙ not-false _ (c .before .before .before .if1 .left))
     (sym (c .before .plains .ensures) ∙ not-true _ (c .if2 .taken))
 
 rooted-requires : tie.Need-rooted-requires
 rooted-requires c κs =
     let s = c .before .before .before .before .before .before .before .before .before .before .before .before .before .before .before in
-    (s .pre .head .high, c .before .before .before .before .before .before .before .before .before .scan .ensures .owner .size, table-inside (s .args .b .now) (s .args .n) (s .args .p) (c .before .before .before .before .before .before .before .before .before .scan .last .0) (c .before .before .before .before .before .before .before .before .before .scan .last .1 .0) (c .before .before .before .before .before .before .before .before .before .scan .last .1 .1 .0) (c .before .before .before .before .before .before .before .before .before .scan .last .1 .1 .1 .0) (s .pre) (octets (c .before .before .before .before .before .before .before .before .before .before .before .before .before .before)) (c .before .before .before .before .before .before .before .before .before .scan .ensures))
+    (s .pre .head .high, c .before .before .before .before .before .before .before .before .before .scan .ensures .owner .size, table-inside _ _ _ _ _ _ _ (s .pre) (octets (c .before .before .before .before .before .before .before .before .before .before .before .before .before .before)) (c .before .before .before .before .before .before .before .before .before .scan .ensures))
 
 returns-3 : tie.Need-returns-3
 returns-3 c =
     let s = c .before .before .before .before .before .before .before .before .before .before .before .before .before .before .before .before in
-    owners-left (s .args .b .now) (s .args .n) (s .args .p) (c .before .before .before .before .before .before .before .before .before .before .scan .last .0) (c .before .before .before .before .before .before .before .before .before .before .scan .last .1 .0) (c .before .before .before .before .before .before .before .before .before .before .scan .last .1 .1 .0) (c .before .before .before .before .before .before .before .before .before .before .scan .last .1 .1 .1 .0) (s .pre) (octets (c .before .before .before .before .before .before .before .before .before .before .before .before .before .before .before)) (c .before .before .before .before .before .before .before .before .before .before .scan .ensures) _ (sym (c .before .before .before .before .before .before .subjects .ensures) ∙ not-false _ (c .before .before .before .before .before .if1 .left))
+    owners-left _ _ _ _ _ _ _ (s .pre) (octets (c .before .before .before .before .before .before .before .before .before .before .before .before .before .before .before)) (c .before .before .before .before .before .before .before .before .before .before .scan .ensures) _ (sym (c .before .before .before .before .before .before .subjects .ensures) ∙ not-false _ (c .before .before .before .before .before .if1 .left))
     (sym (c .before .before .before .plains .ensures) ∙ not-false _ (c .before .before .if2 .left)) (c .rooted .ensures)
 
 pub valid-spec : {M : Type 1} → statement M
