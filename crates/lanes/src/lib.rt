@@ -1,4 +1,4 @@
-// The pass over the rows of a record: what is seen, counted and found last in each byte column.
+// The passes over one row of a record: what is seen, counted and found last in each byte column.
 ghost use mathlib.Core.Path.{_≡_};
 ghost use mathlib.Core.Bool.{cond};
 ghost use Prim.Native.Nat.{ℕ, _+_, _/_, _%_, _^_, _≤_, _<_};

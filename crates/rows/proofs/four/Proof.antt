@@ -1,6 +1,6 @@
 -- `rows::four` meets its contract. Each list by the law of four rows more.
 use native.Mathlib.Omega.{arith}
-use Rattle.rows.specs.FourLaws.{count-room-four, next-merged-four, next-count-four, next-last-four}
+use Rattle.four_rows.specs.FourLaws.{count-room-four, next-merged-four, next-count-four, next-last-four}
 use borrow.Author.Needs.{needs}
 use Rattle.rows.proofs.four.Statement.{statement}
 use Rattle.rows.proofs.four.Tie as tie

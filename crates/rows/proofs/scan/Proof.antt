@@ -5,7 +5,7 @@ use native.Mathlib.Omega.{arith}
 use mathlib.Core.Path.{_≡_}
 use Rattle.lanes.specs.Lanes.{Lanes}
 use Rattle.lanes.specs.RowLaws.{next-place, row-inside, row-room, lanes-done}
-use Rattle.rows.specs.FourLaws.{place-four, four-inside, room-four}
+use Rattle.four_rows.specs.FourLaws.{place-four, four-inside, room-four}
 use Rattle.rows.proofs.scan.Statement.{statement}
 use Rattle.rows.proofs.scan.Tie as tie
 

@@ -1,4 +1,4 @@
--- `rows::merge_four` meets its contract. The invariant: the byte columns below j have the bits of four rows joined in, those from j on are as before.
+-- `four_rows::merge_four` meets its contract. The invariant: the byte columns below j have the bits of four rows joined in, those from j on are as before.
 use borrow.Author.Needs.{needs}
 use Prim.Native.Nat.{ℕ, _-_, _≤_}
 use native.Mathlib.Omega.{arith}
@@ -6,9 +6,9 @@ use native.Mathlib.Nat.{le-refl}
 use mathlib.Core.Path.{ap}
 use lib.ListN.{getD}
 use Rattle.lanes.specs.Lists.{Stored, stored-none, stored-step, stored-done}
-use Rattle.rows.specs.Four.{mergedFour}
-use Rattle.rows.proofs.merge_four.Statement.{statement}
-use Rattle.rows.proofs.merge_four.Tie as tie
+use Rattle.four_rows.specs.Four.{mergedFour}
+use Rattle.four_rows.proofs.merge_four.Statement.{statement}
+use Rattle.four_rows.proofs.merge_four.Tie as tie
 
 abbrev Inv-loop : tie.InvT-loop
 Inv-loop seen₀ b at m at1 at2 at3 j₀ seen j = (j ≤ m) × Stored j (λ i. mergedFour b at m (getD seen₀ i 0) i) seen₀ seen

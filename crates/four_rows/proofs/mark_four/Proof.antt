@@ -1,14 +1,14 @@
--- `rows::mark_four` meets its contract. The invariant: the byte columns below j are marked for four rows, those from j on are as before.
-use Rattle.rows.specs.FourLaws.{last-four-made}
+-- `four_rows::mark_four` meets its contract. The invariant: the byte columns below j are marked for four rows, those from j on are as before.
+use Rattle.four_rows.specs.FourLaws.{last-four-made}
 use borrow.Author.Needs.{needs}
 use Prim.Native.Nat.{_-_, _≤_}
 use native.Mathlib.Omega.{arith}
 use native.Mathlib.Nat.{le-refl}
 use lib.ListN.{getD}
 use Rattle.lanes.specs.Lists.{Stored, stored-none, stored-step, stored-done}
-use Rattle.rows.specs.Four.{lastFour}
-use Rattle.rows.proofs.mark_four.Statement.{statement}
-use Rattle.rows.proofs.mark_four.Tie as tie
+use Rattle.four_rows.specs.Four.{lastFour}
+use Rattle.four_rows.proofs.mark_four.Statement.{statement}
+use Rattle.four_rows.proofs.mark_four.Tie as tie
 
 abbrev Inv-loop : tie.InvT-loop
 Inv-loop last₀ b at m w row at1 at2 at3 j₀ last j = (j ≤ w) × Stored j (λ i. lastFour b at m row (getD last₀ i 0) i) last₀ last

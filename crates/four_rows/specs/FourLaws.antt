@@ -12,7 +12,7 @@ use Rattle.lanes.specs.Lists.{Holds, Stored, holds-next}
 use Rattle.lanes.specs.Lanes.{merged, lastOf, byteAt, bitIn, Matrix}
 use Rattle.lanes.specs.LaneLaws.{bit-count, merged-step, count-step, last-step, count-le}
 use Rattle.lanes.specs.RowLaws.{next-place, row-inside}
-use Rattle.rows.specs.Four.{mergedFour, countFour, lastFour, RoomFour}
+use Rattle.four_rows.specs.Four.{mergedFour, countFour, lastFour, RoomFour}
 
 -- a count of at most r rows fits a byte with room for four more
 pub count-room-four : (w r : ℕ) (f : ℕ → ℕ → Bool) (l : List ℕ) → Holds 128 w (λ j. count r (f j)) l → r + 4 ≤ 64 → (j : ℕ) → j < w → getD l j 0 < 252

@@ -1,4 +1,4 @@
--- `rows::tally_four` meets its contract. The invariant: the byte columns below j are counted over four rows, those from j on are as before. A count fits because the caller keeps it below 252.
+-- `four_rows::tally_four` meets its contract. The invariant: the byte columns below j are counted over four rows, those from j on are as before. A count fits because the caller keeps it below 252.
 use borrow.Author.Needs.{needs}
 use Prim.Native.Nat.{ℕ, _-_, _≤_}
 use native.Mathlib.Omega.{arith}
@@ -6,9 +6,9 @@ use native.Mathlib.Nat.{le-refl}
 use mathlib.Core.Path.{ap}
 use lib.ListN.{getD}
 use Rattle.lanes.specs.Lists.{Stored, stored-none, stored-step, stored-done}
-use Rattle.rows.specs.Four.{countFour}
-use Rattle.rows.proofs.tally_four.Statement.{statement}
-use Rattle.rows.proofs.tally_four.Tie as tie
+use Rattle.four_rows.specs.Four.{countFour}
+use Rattle.four_rows.proofs.tally_four.Statement.{statement}
+use Rattle.four_rows.proofs.tally_four.Tie as tie
 
 abbrev Inv-loop : tie.InvT-loop
 Inv-loop counts₀ b at m w k at1 at2 at3 j₀ counts j = (j ≤ w) × Stored j (λ i. countFour b at m k (getD counts₀ i 0) i) counts₀ counts
