@@ -30,20 +30,35 @@ add-loop c = record { fits = omega (arith, c .loop .inv .0, c .before .before .p
 four-requires : tie.Need-four-requires Inv-loop μ-loop Inv-loop2 μ-loop2
 four-requires c κs =
     let s = c .before .before .before .before .before .before .before in
-    let l = c .before .before .before .before .before .loop in
-    (room-four (s .args .b .now) (s .args .n) (s .args .m) (s .args .w) (l .r) (l .at) (s .pre .0) (c .before .before .before .before .loop-test .taken) (l .inv .1), l .inv .2)
+    let l = c .before .before .before .before .before .loop in (
+      room-four (s .args .b .now) (s .args .n) (s .args .m) (s .args .w) (l .r) (l .at) (s .pre .0)
+          (c .before .before .before .before .loop-test .taken) (l .inv .1),
+      l .inv .2,
+    )
 
 mul-at : tie.Need-mul-at Inv-loop μ-loop Inv-loop2 μ-loop2
 mul-at c =
     let s = c .before .before .before .before .before .before .before .before in
     let l = c .before .before .before .before .before .before .loop in
-    record { fits = omega (arith, s .pre .0 .holds, four-inside (s .args .n) (l .r) (s .args .m) (l .at) (c .before .before .before .before .before .loop-test .taken) (l .inv .1)) }
+    record {
+      fits = omega (
+        arith,
+        s .pre .0 .holds,
+        four-inside (s .args .n) (l .r) (s .args .m) (l .at) (c .before .before .before .before .before .loop-test .taken) (l .inv .1),
+      );
+    }
 
 add-at : tie.Need-add-at Inv-loop μ-loop Inv-loop2 μ-loop2
 add-at c =
     let s = c .before .before .before .before .before .before .before .before in
     let l = c .before .before .before .before .before .before .loop in
-    record { fits = omega (arith, s .pre .0 .holds, four-inside (s .args .n) (l .r) (s .args .m) (l .at) (c .before .before .before .before .before .loop-test .taken) (l .inv .1)) }
+    record {
+      fits = omega (
+        arith,
+        s .pre .0 .holds,
+        four-inside (s .args .n) (l .r) (s .args .m) (l .at) (c .before .before .before .before .before .loop-test .taken) (l .inv .1),
+      );
+    }
 
 add-r : tie.Need-add-r Inv-loop μ-loop Inv-loop2 μ-loop2
 add-r c = record { fits = omega (arith, c .before .before .before .before .before .loop-test .taken) }
@@ -63,14 +78,23 @@ loop2-holds c = c .before .loop .inv
 row-requires : tie.Need-row-requires Inv-loop μ-loop Inv-loop2 μ-loop2
 row-requires c κs =
     let s = c .before .before .before .before .before .before .before .before .before in
-    let l = c .before .before .before .before .before .loop2 in
-    (row-room (s .args .b .now) (s .args .n) (s .args .m) (s .args .w) (l .r) (l .at) (s .pre .0) (c .before .before .before .before .loop2-test .taken) (l .inv .1), l .inv .2)
+    let l = c .before .before .before .before .before .loop2 in (
+      row-room (s .args .b .now) (s .args .n) (s .args .m) (s .args .w) (l .r) (l .at) (s .pre .0)
+          (c .before .before .before .before .loop2-test .taken) (l .inv .1),
+      l .inv .2,
+    )
 
 add-at-2 : tie.Need-add-at-2 Inv-loop μ-loop Inv-loop2 μ-loop2
 add-at-2 c =
     let s = c .before .before .before .before .before .before .before .before .before .before in
     let l = c .before .before .before .before .before .before .loop2 in
-    record { fits = omega (arith, s .pre .0 .holds, row-inside (s .args .n) (l .r) (s .args .m) (l .at) (c .before .before .before .before .before .loop2-test .taken) (l .inv .1)) }
+    record {
+      fits = omega (
+        arith,
+        s .pre .0 .holds,
+        row-inside (s .args .n) (l .r) (s .args .m) (l .at) (c .before .before .before .before .before .loop2-test .taken) (l .inv .1),
+      );
+    }
 
 add-r-2 : tie.Need-add-r-2 Inv-loop μ-loop Inv-loop2 μ-loop2
 add-r-2 c = record { fits = omega (arith, c .before .before .before .before .before .loop2-test .taken) }

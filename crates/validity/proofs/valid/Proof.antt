@@ -9,9 +9,13 @@ use borrow.Author.Needs.{needs}
 use Rattle.validity.proofs.valid.Statement.{statement}
 use Rattle.validity.proofs.valid.Tie as tie
 
+-- the function's entry, from after the pass over the rows
+abbrev entry : tie.After-scan → tie.After-shared-slice-known
+entry c = c .before .before .before .before .before
+
 -- the elements of the slice are bytes
-octets : (c : tie.After-shared-slice-known) → Octets (c .before .args .b .now)
-octets c = record { octet = λ j. omega (arith, c .shared-slice-known .given j) }
+octets : (c : tie.After-scan) → Octets (entry c .before .args .b .now)
+octets c = record { octet = λ j. omega (arith, entry c .shared-slice-known .given j) }
 
 add-m : tie.Need-add-m
 add-m c = search needs
@@ -33,28 +37,32 @@ subjects-requires c κs = search needs
 
 returns : tie.Need-returns
 returns c =
-    let s = c .before .before .before .before .before .before .before .before .before .before .before in
-    subjects-wrong _ _ _ _ _ _ _ (s .pre) (octets (c .before .before .before .before .before .before .before .before .before .before)) (c .before .before .before .before .before .scan .ensures) (sym (c .before .subjects .ensures) ∙ not-true _ (c .if1 .taken))
+    let f = c .before .before .before .before .before in
+    subjects-wrong _ _ _ _ _ _ _ (entry f .before .pre) (octets f) (f .scan .ensures) (sym (c .before .subjects .ensures) ∙ not-true _ (c .if1 .taken))
 
 plains-requires : tie.Need-plains-requires
 plains-requires c κs = search needs
 
 returns-2 : tie.Need-returns-2
 returns-2 c =
-    let s = c .before .before .before .before .before .before .before .before .before .before .before .before .before .before in
-    plain-wrong _ _ _ _ _ _ _ (s .pre) (octets (c .before .before .before .before .before .before .before .before .before .before .before .before .before)) (c .before .before .before .before .before .before .before .before .scan .ensures) (sym (c .before .before .before .before .subjects .ensures) ∙ not-false _ (c .before .before .before .if1 .left))
+    let e = c .before .before .before in
+    let f = e .before .before .before .before .before in
+    plain-wrong _ _ _ _ _ _ _ (entry f .before .pre) (octets f) (f .scan .ensures) (sym (e .before .subjects .ensures) ∙ not-false _ (e .if1 .left))
     (sym (c .before .plains .ensures) ∙ not-true _ (c .if2 .taken))
 
 rooted-requires : tie.Need-rooted-requires
 rooted-requires c κs =
-    let s = c .before .before .before .before .before .before .before .before .before .before .before .before .before .before .before in
-    (s .pre .head .high, c .before .before .before .before .before .before .before .before .before .scan .ensures .owner .size, table-inside _ _ _ _ _ _ _ (s .pre) (octets (c .before .before .before .before .before .before .before .before .before .before .before .before .before .before)) (c .before .before .before .before .before .before .before .before .before .scan .ensures))
+    let f = c .before .before .before .before .before .before .before .before .before in
+    let s = entry f .before in
+    (s .pre .head .high, f .scan .ensures .owner .size, table-inside _ _ _ _ _ _ _ (s .pre) (octets f) (f .scan .ensures))
 
 returns-3 : tie.Need-returns-3
 returns-3 c =
-    let s = c .before .before .before .before .before .before .before .before .before .before .before .before .before .before .before .before in
-    owners-left _ _ _ _ _ _ _ (s .pre) (octets (c .before .before .before .before .before .before .before .before .before .before .before .before .before .before .before)) (c .before .before .before .before .before .before .before .before .before .before .scan .ensures) _ (sym (c .before .before .before .before .before .before .subjects .ensures) ∙ not-false _ (c .before .before .before .before .before .if1 .left))
-    (sym (c .before .before .before .plains .ensures) ∙ not-false _ (c .before .before .if2 .left)) (c .rooted .ensures)
+    let d = c .before .before in
+    let e = d .before .before .before in
+    let f = e .before .before .before .before .before in
+    owners-left _ _ _ _ _ _ _ (entry f .before .pre) (octets f) (f .scan .ensures) _ (sym (e .before .subjects .ensures) ∙ not-false _ (e .if1 .left))
+    (sym (d .before .plains .ensures) ∙ not-false _ (d .if2 .left)) (c .rooted .ensures)
 
 pub valid-spec : {M : Type 1} → statement M
 valid-spec =
