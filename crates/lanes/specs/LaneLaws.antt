@@ -1,16 +1,16 @@
 -- Laws of what is kept for each byte column: one row more, and what a merged number tells.
-use Prim.Native.Nat.{ℕ, zero, suc, _+_, _*_, _/_, _%_, _^_, _≤_, _<_}
+use Prim.Native.Nat.{ℕ, zero, suc, _+_, _/_, _%_, _^_, _≤_}
 use native.Mathlib.Nat.{div-one}
 use native.Mathlib.Numerals.{add-one}
 use native.Mathlib.Omega.{arith}
-use mathlib.Core.Path.{_≡_, refl, sym, _∙_, ap}
+use mathlib.Core.Path.{_≡_, refl, _∙_, ap}
 use mathlib.Core.Logic.{⊎-elim}
-use mathlib.Core.Bool.{Bool, true, false, cond, _&&_, _||_}
+use mathlib.Core.Bool.{Bool, true, false, cond}
 use lib.Dec.{eqb}
-use lib.Bits.{bitOr, or-shr, or-mod}
+use lib.Bits.{bitOr}
 use borrow.Author.Tests.{eqb-true, eqb-false, eq-eqb, ne-eqb}
-use Rattle.laws.specs.Tests.{way, clash}
-use Rattle.matrix.specs.Bounded.{any, all, count}
+use Rattle.laws.specs.Tests.{way}
+use Rattle.matrix.specs.Bounded.{count}
 use Rattle.matrix.specs.Bytes.{bit}
 use Rattle.lanes.specs.Lanes.{merged, lastOf}
 

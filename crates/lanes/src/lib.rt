@@ -1,4 +1,4 @@
-// The pass over the rows of a record: what is seen, counted and found last in each byte column.
+// The passes over one row of a record: what is seen, counted and found last in each byte column.
 ghost use mathlib.Core.Path.{_≡_};
 ghost use mathlib.Core.Bool.{cond};
 ghost use Prim.Native.Nat.{ℕ, _+_, _/_, _%_, _^_, _≤_, _<_};
@@ -6,7 +6,7 @@ ghost use lib.Bits.{bitOr};
 ghost use lib.ListN.{length, getD};
 ghost use Rattle.matrix.specs.Bytes.{bit};
 ghost use Rattle.lanes.specs.Lists.{Stored};
-ghost use Rattle.lanes.specs.Lanes.{Lanes, Matrix, Room};
+ghost use Rattle.lanes.specs.Lanes.{Lanes, Room};
 
 // The bits of a row's m bytes join those that are seen in each byte column.
 fn merge(seen: &mut [u8; 512], b: &[u8], at: usize, m: usize)
@@ -28,19 +28,25 @@ fn tally(counts: &mut [u8; 128], b: &[u8], at: usize, w: usize, k: u8)
     }
 }
 
+// The row's number where the byte has bit 0, else the number before.
+pub fn pick(v: u8, row: u8, before: u8) -> u8
+    ensures { λ r. ⌜ r ≡ cond (bit 0 v) row before ⌝ }
+{
+    if v % 2 == 1 { row } else { before }
+}
+
 // The row's number is stored for each of its first w byte columns that has bit 0.
 fn mark(last: &mut [u8; 128], b: &[u8], at: usize, w: usize, row: u8)
     requires { ⌜ (w ≤ 128) × (at + w ≤ length (now b)) × (length (now last) ≡ 128) ⌝ }
     ensures { λ _. ⌜ Stored w (λ j. cond (bit 0 (getD (now (b .entry)) (at + j) 0)) row (getD (now (last .entry)) j 0)) (now (last .entry)) (now (last .exit)) ⌝ }
 {
     for j in 0..w {
-        let before = last[j];
-        last[j] = if b[at + j] % 2 == 1 { row } else { before };
+        last[j] = pick(b[at + j], row, last[j]);
     }
 }
 
 // One row joins the four lists.
-fn row(
+pub fn row(
     seen: &mut [u8; 512],
     own: &mut [u8; 128],
     control: &mut [u8; 128],
@@ -58,25 +64,4 @@ fn row(
     tally(own, b, at, w, 0);
     tally(control, b, at, w, 1);
     mark(last, b, at, w, r as u8);
-}
-
-// All n rows of a record: the four lists, of zeros at first, hold what is to be known of each byte column.
-pub fn scan(
-    seen: &mut [u8; 512],
-    own: &mut [u8; 128],
-    control: &mut [u8; 128],
-    last: &mut [u8; 128],
-    b: &[u8],
-    n: usize,
-    m: usize,
-    w: usize,
-)
-    requires { ⌜ Matrix (now b) n m w × Lanes (now b) m w 0 (now seen) (now own) (now control) (now last) ⌝ }
-    ensures { λ _. ⌜ Lanes (now (b .entry)) m w n (now (seen .exit)) (now (own .exit)) (now (control .exit)) (now (last .exit)) ⌝ }
-{
-    let mut at = 7;
-    for r in 0..n {
-        row(seen, own, control, last, b, at, m, w, r);
-        at += m;
-    }
 }

@@ -1,23 +1,21 @@
 -- The bits of a record's cells, by their place among the bytes: a cell's own and control bits are in its low byte.
-use Prim.Native.Nat.{ℕ, zero, suc, _+_, _*_, _^_, _≤_, _<_}
+use Prim.Native.Nat.{ℕ, suc, _+_, _*_, _^_, _≤_, _<_}
 use native.Mathlib.Nat.{mul-left-comm}
 use native.Mathlib.Omega.{arith}
 use mathlib.Core.Path.{_≡_, refl, sym, _∙_, ap}
-use mathlib.Core.Logic.{_⊎_, inl, inr, ⊎-elim}
-use mathlib.Core.Bool.{Bool, true, false, cond, not, _&&_, _||_, Bool·not-not}
+use mathlib.Core.Logic.{_⊎_, inl, inr}
+use mathlib.Core.Bool.{Bool, true, false, not, _&&_, Bool·not-not}
 use mathlib.Core.List.{List}
 use lib.Dec.{eqb, ltb}
 use lib.ListN.{getD}
 use borrow.Author.Tests.{eqb-true, eq-eqb, lt-ltb, le-ltb, ltb-true, ltb-false}
-use Rattle.matrix.specs.declared.Name.{Name}
 use Rattle.matrix.specs.declared.Name.the-variants.{Subject, Plain}
 use Rattle.matrix.specs.declared.Right.the-variants.{Own, Control}
-use Rattle.matrix.specs.Bounded.{any}
 use Rattle.matrix.specs.Names.{nameOf}
-use Rattle.matrix.specs.Rights.{codeOf, rightOf}
-use Rattle.matrix.specs.State.{State, has, exists, existsName}
+use Rattle.matrix.specs.Rights.{rightOf}
+use Rattle.matrix.specs.State.{has, existsName}
 use Rattle.matrix.specs.Bytes.{numberAt, bit}
-use Rattle.matrix.specs.Shape.{Shape, shapeOf, columns, bitsOf, cellPlace}
+use Rattle.matrix.specs.Shape.{shapeOf, columns, bitsOf, cellPlace}
 use Rattle.matrix.specs.Shaped.{Octets}
 use Rattle.matrix.specs.Reading.{stateOf, cellAt, bitAt}
 use Rattle.matrix.specs.Record.{emptyCell}

@@ -1,12 +1,11 @@
 -- Validity over the bits of a matrix of n rows and k columns: O the own bits, C the control bits, Z the cells that are zero, each by
 -- row and column. First as the record's definition says it, then as it is tested in one pass over the rows.
-use Prim.Native.Nat.{ℕ, zero, suc, _+_, _≤_, _<_}
-use mathlib.Core.Path.{_≡_}
-use mathlib.Core.Bool.{Bool, true, false, cond, not, _&&_, _||_}
+use Prim.Native.Nat.{ℕ, _+_}
+use mathlib.Core.Bool.{Bool, cond, not, _&&_, _||_}
 use lib.Dec.{eqb, ltb, leb}
 use Rattle.matrix.specs.Bounded.{any, all, count, least}
 use Rattle.lanes.specs.Lanes.{lastOf}
-use Rattle.validity.specs.Followed.{followed}
+use Rattle.owner_table.specs.Followed.{followed}
 
 -- the row that a subject's owner is followed to; a subject with no owner stays where it is
 abbrev pub ownerStep : ℕ → (ℕ → ℕ → Bool) → ℕ → ℕ

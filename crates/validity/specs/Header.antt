@@ -1,19 +1,17 @@
 -- The tests 1 to 4 of a record's bytes, and the refusals one by one.
-use Prim.Native.Nat.{ℕ, zero, suc, _+_, _-_, _*_, _≤_, _<_}
-use native.Mathlib.Nat.{mul-le-mul-left, mul-le-mul-right, mul-left-comm}
+use Prim.Native.Nat.{ℕ, _+_, _*_, _≤_, _<_}
+use native.Mathlib.Nat.{mul-le-mul-right, mul-left-comm}
 use native.Mathlib.Omega.{arith}
-use mathlib.Core.Path.{_≡_, refl, sym, _∙_, ap}
-use mathlib.Core.Bool.{Bool, true, false, cond, not, _&&_, _||_}
+use mathlib.Core.Path.{_≡_, refl}
+use mathlib.Core.Bool.{true, false}
 use mathlib.Core.List.{List}
-use lib.Dec.{eqb, leb}
 use lib.ListN.{length, getD}
-use borrow.Author.Tests.{eqb-true, leb-true, le-leb, lt-leb, eq-eqb, ne-eqb}
+use borrow.Author.Tests.{le-leb, lt-leb}
 use Rattle.matrix.specs.Bytes.{numberAt}
-use Rattle.matrix.specs.Shape.{Shape, shapeOf, knownVersion, inRange, sized, columns, countOf, sizeOf}
+use Rattle.matrix.specs.Shape.{shapeOf, knownVersion, inRange, sized}
 use Rattle.matrix.specs.Reading.{stateOf}
 use Rattle.matrix.specs.Tests.{firstFailed}
 use Rattle.matrix.specs.Record.{validMatrix, recordRefusal}
-use Rattle.laws.specs.Tests.{and-left, and-right, and-both}
 use Rattle.lanes.specs.Lanes.{Matrix}
 
 -- bytes with a header: n and p are read from it

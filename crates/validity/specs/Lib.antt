@@ -1,12 +1,8 @@
-pub mod Counts
-pub mod Followed
 pub mod Fast
 pub mod Sound
 pub mod Tested
 pub mod Cells
 pub mod Valid
-pub mod Checks
-pub mod Loops
 pub mod Merged
 pub mod Passed
 pub mod Header

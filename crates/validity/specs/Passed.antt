@@ -1,20 +1,21 @@
 -- The lists that the pass has filled hold what the tests of a matrix ask for.
-use Prim.Native.Nat.{ℕ, zero, suc, _+_, _*_, _≤_, _<_}
+use Prim.Native.Nat.{ℕ, _+_, _*_, _≤_, _<_}
 use native.Mathlib.Omega.{arith}
-use mathlib.Core.Path.{_≡_, refl, sym, _∙_, ap}
-use mathlib.Core.Bool.{Bool, true, false, cond, not, _&&_, _||_}
+use mathlib.Core.Path.{_≡_, _∙_, ap}
+use mathlib.Core.Bool.{cond, not, _&&_}
 use mathlib.Core.List.{List}
-use lib.Dec.{eqb, leb}
-use lib.ListN.{length, getD}
-use Rattle.matrix.specs.Bounded.{any, all, count}
+use lib.Dec.{eqb}
+use lib.ListN.{getD}
+use Rattle.matrix.specs.Bounded.{any, all}
 use Rattle.matrix.specs.Bytes.{bit}
 use Rattle.laws.specs.Bounded.{all-same}
-use Rattle.lanes.specs.Lanes.{merged, lastOf, byteAt, bitIn, Lanes}
-use Rattle.validity.specs.Counts.{last-below}
-use Rattle.validity.specs.Followed.{followed, followed-same}
+use Rattle.lanes.specs.Lanes.{merged, byteAt, Lanes}
+use Rattle.owner_table.specs.Counts.{last-below}
+use Rattle.owner_table.specs.Followed.{followed, followed-same}
 use Rattle.validity.specs.Fast.{subjectRight, plainRight, lastOwner, allAscend, testsPass}
 use Rattle.validity.specs.Cells.{ownBit, controlBit, zeroCell}
-use Rattle.validity.specs.Checks.{zeroFrom, zeroColumn, judged, subjectTest, plainTest, ownerIn, Inside}
+use Rattle.columns.specs.Checks.{zeroFrom, zeroColumn, judged, subjectTest, plainTest}
+use Rattle.owner_table.specs.Table.{ownerIn, Inside}
 use Rattle.validity.specs.Merged.{merged-zero, merged-zeros, merged-bit, all-pairs}
 
 module _ (b : List ℕ) (n k m : ℕ) (seen own control last : List ℕ) (lanes : Lanes b m (2 * n) n seen own control last)

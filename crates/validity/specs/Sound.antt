@@ -1,19 +1,16 @@
 -- The five conditions and the tests of one pass say the same of a matrix: both say what Sound says.
-use Prim.Native.Nat.{ℕ, zero, suc, _+_, _-_, _≤_, _<_}
-use native.Mathlib.Nat.{not-suc-le-zero}
+use Prim.Native.Nat.{ℕ, suc, _≤_, _<_}
 use native.Mathlib.Omega.{arith}
-use mathlib.Core.Path.{_≡_, refl, sym, _∙_, ap, subst}
+use mathlib.Core.Path.{_≡_, refl, _∙_, ap}
 use mathlib.Core.Logic.{_⊎_, inl, inr, ⊎-elim}
-use mathlib.Core.Bool.{Bool, true, false, cond, not, _&&_, _||_, false≢true}
+use mathlib.Core.Bool.{Bool, true, false, not, _&&_, _||_}
 use lib.Dec.{eqb, ltb, leb}
 use borrow.Author.Tests.{eqb-true, eqb-false, eq-eqb, ne-eqb, ltb-true, ltb-false, lt-ltb, le-ltb, leb-true, le-leb, not-true}
-use Rattle.matrix.specs.Bounded.{any, all, count, least}
-use Rattle.laws.specs.Tests.{way, clash, fails, holds, same-test, and-left, and-right, and-both, or-cases, or-left, or-right}
-use Rattle.laws.specs.Bounded.{all-each, each-all, any-hit, any-none, none-any, any-found}
-use Rattle.lanes.specs.Lanes.{lastOf}
-use Rattle.validity.specs.Counts.{count-none, none-count, count-besides, last-below, last-none, last-least}
-use Rattle.validity.specs.Followed.{followed, followed-same, followed-below, longer, within}
-use Rattle.validity.specs.Fast.{ownerStep, columnExists, zeroAbsent, plainFree, rootAlone, oneEach, ascends, fiveHold, subjectRight, plainRight, lastOwner, allAscend, testsPass}
+use Rattle.matrix.specs.Bounded.{any, all, count}
+use Rattle.laws.specs.Tests.{way, clash, fails, holds, and-left, and-right, and-both, or-cases, or-left, or-right}
+use Rattle.laws.specs.Bounded.{all-each, each-all}
+use Rattle.owner_table.specs.Counts.{count-none, none-count, count-besides}
+use Rattle.validity.specs.Fast.{columnExists, zeroAbsent, plainFree, rootAlone, oneEach}
 
 -- a zero cell has no bit
 pub record Bits (O C Z : ℕ → ℕ → Bool) : Type 0 where

@@ -1,17 +1,16 @@
 -- The tests of one pass are the five conditions.
-use Prim.Native.Nat.{ℕ, zero, suc, _+_, _-_, _≤_, _<_}
+use Prim.Native.Nat.{ℕ, _+_, _-_, _≤_, _<_}
 use native.Mathlib.Omega.{arith}
-use mathlib.Core.Path.{_≡_, refl, sym, _∙_, ap, subst}
+use mathlib.Core.Path.{_≡_, refl, sym, _∙_, subst}
 use mathlib.Core.Logic.{_⊎_, inl, inr, ⊎-elim}
 use mathlib.Core.Bool.{Bool, true, false, cond, not, _&&_, _||_, false≢true}
 use lib.Dec.{eqb, ltb, leb}
 use borrow.Author.Tests.{eqb-true, eqb-false, eq-eqb, ne-eqb, lt-ltb, le-ltb, leb-true, le-leb, not-true}
 use Rattle.matrix.specs.Bounded.{any, all, count, least}
-use Rattle.laws.specs.Tests.{way, clash, fails, holds, same-test, and-left, and-right, and-both, or-left, or-right}
-use Rattle.laws.specs.Bounded.{all-each, each-all, any-hit, any-none, none-any, least-none}
-use Rattle.lanes.specs.Lanes.{lastOf}
-use Rattle.validity.specs.Counts.{none-count, last-below, last-none, last-least}
-use Rattle.validity.specs.Followed.{followed, followed-same, longer, within}
+use Rattle.laws.specs.Tests.{way, clash, holds, same-test, and-left, and-right, and-both, or-left, or-right}
+use Rattle.laws.specs.Bounded.{all-each, each-all, any-none, none-any, least-none}
+use Rattle.owner_table.specs.Counts.{none-count, last-below, last-none, last-least}
+use Rattle.owner_table.specs.Followed.{followed, followed-same, longer, within}
 use Rattle.validity.specs.Fast.{ownerStep, zeroAbsent, plainFree, rootAlone, oneEach, ascends, fiveHold, subjectRight, plainRight, lastOwner, allAscend, testsPass}
 use Rattle.validity.specs.Sound.{Bits, Framed, false-not, other, five-framed, framed-absent, framed-plain, framed-root, framed-one}
 

@@ -1,27 +1,25 @@
 -- The definition's test of a record's matrix is the tests of one pass over its bytes.
 use Prim.Native.Nat.{ℕ, zero, suc, _+_, _*_, _≤_, _<_}
-use native.Mathlib.Omega.{arith}
 use mathlib.Core.Path.{_≡_, refl, sym, _∙_, ap}
-use mathlib.Core.Logic.{_⊎_, inl, inr, ⊎-elim}
+use mathlib.Core.Logic.{_⊎_, inl, inr}
 use mathlib.Core.Bool.{Bool, true, false, cond, not, _&&_, _||_}
 use mathlib.Core.List.{List}
 use lib.Dec.{eqb, ltb, leb}
 use borrow.Author.Tests.{eqb-true, ltb-true, ltb-false}
 use Rattle.matrix.specs.declared.Name.{Name}
 use Rattle.matrix.specs.declared.Name.the-variants.{Subject, Plain}
-use Rattle.matrix.specs.Bounded.{any, all, count, least}
+use Rattle.matrix.specs.Bounded.{least}
 use Rattle.matrix.specs.Bytes.{bit}
-use Rattle.matrix.specs.Shape.{Shape, shapeOf, columns}
+use Rattle.matrix.specs.Shape.{shapeOf, columns}
 use Rattle.matrix.specs.Shaped.{Octets}
 use Rattle.matrix.specs.Reading.{stateOf}
-use Rattle.matrix.specs.Owners.{ownerOf}
 use Rattle.matrix.specs.Record.{absentZero, plainUncontrolled, rootRight, oneOwnerEach, climb, allRooted, validMatrix}
-use Rattle.laws.specs.Tests.{way, and-left, and-right}
+use Rattle.laws.specs.Tests.{way, and-right}
 use Rattle.laws.specs.Bounded.{all-same, count-same, least-same}
 use Rattle.codec.specs.Bits.{bit-zero}
 use Rattle.lanes.specs.Lanes.{byteAt}
-use Rattle.validity.specs.Followed.{followed}
-use Rattle.validity.specs.Fast.{ownerStep, columnExists, zeroAbsent, plainFree, rootAlone, oneEach, ascends, fiveHold, testsPass}
+use Rattle.owner_table.specs.Followed.{followed}
+use Rattle.validity.specs.Fast.{ownerStep, zeroAbsent, plainFree, rootAlone, oneEach, ascends, fiveHold, testsPass}
 use Rattle.validity.specs.Sound.{Bits}
 use Rattle.validity.specs.Tested.{tests-five}
 use Rattle.validity.specs.Cells.{rowBytes, ownBit, controlBit, zeroCell, own-subject, control-subject, control-plain, empty-read, column-read}

@@ -1,26 +1,27 @@
 -- The tests of a whole record, from those that the code makes one after another.
-use Prim.Native.Nat.{ℕ, zero, suc, _+_, _-_, _*_, _≤_, _<_}
+use Prim.Native.Nat.{ℕ, _+_, _-_, _*_, _≤_, _<_}
 use native.Mathlib.Omega.{arith}
 use mathlib.Core.Path.{_≡_, refl, sym, _∙_, ap}
-use mathlib.Core.Bool.{Bool, true, false, cond, not, _&&_, _||_}
+use mathlib.Core.Bool.{Bool, true, false, _&&_}
 use mathlib.Core.List.{List}
 use lib.Dec.{eqb, leb}
 use lib.ListN.{length, getD, replicate, length-replicate, getD-replicate}
 use borrow.Author.Tests.{eqb-true, leb-true, eq-eqb, ne-eqb}
 use Rattle.matrix.specs.Bounded.{all, count}
 use Rattle.matrix.specs.Bytes.{numberAt}
-use Rattle.matrix.specs.Shape.{Shape, shapeOf, knownVersion, inRange, sized, columns, countOf, sizeOf}
+use Rattle.matrix.specs.Shape.{shapeOf, knownVersion, inRange, sized, countOf, sizeOf}
 use Rattle.matrix.specs.Shaped.{Octets}
 use Rattle.matrix.specs.Reading.{stateOf}
 use Rattle.matrix.specs.Record.{validMatrix}
 use Rattle.laws.specs.Tests.{and-left, and-right}
 use Rattle.lanes.specs.Lists.{Holds}
-use Rattle.lanes.specs.Lanes.{merged, lastOf, bitIn, Lanes}
-use Rattle.validity.specs.Followed.{followed}
+use Rattle.lanes.specs.Lanes.{merged, lastOf, Lanes}
+use Rattle.owner_table.specs.Followed.{followed}
 use Rattle.validity.specs.Fast.{testsPass}
 use Rattle.validity.specs.Cells.{ownBit, controlBit, zeroCell}
 use Rattle.validity.specs.Valid.{valid-tests}
-use Rattle.validity.specs.Checks.{subjectTest, plainTest, ownerIn, Inside}
+use Rattle.columns.specs.Checks.{subjectTest, plainTest}
+use Rattle.owner_table.specs.Table.{ownerIn, Inside}
 use Rattle.validity.specs.Passed.{all-passed, owners-inside}
 use Rattle.validity.specs.Header.{Headed, Whole}
 

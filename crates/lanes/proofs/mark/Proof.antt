@@ -1,12 +1,10 @@
-use Rattle.lanes.specs.LaneLaws.{mark-hit, mark-miss}
-use native.Mathlib.Nat.{le-refl}
-use mathlib.Core.Logic.{⊎-elim}
+-- `lanes::mark` meets its contract. The invariant: the byte columns below j are marked, those from j on are as before.
 use borrow.Author.Needs.{needs}
-use Prim.Native.Nat.{ℕ, _+_, _-_, _/_, _%_, _^_, _≤_, _<_}
-use native.Mathlib.Omega.{arith}
-use mathlib.Core.Path.{_≡_, refl, sym, _∙_, ap}
+use Prim.Native.Nat.{ℕ, _+_, _-_, _≤_}
+use native.Mathlib.Nat.{le-refl}
+use mathlib.Core.Path.{_∙_, ap}
 use mathlib.Core.Bool.{cond}
-use lib.ListN.{length, getD}
+use lib.ListN.{getD}
 use Rattle.matrix.specs.Bytes.{bit}
 use Rattle.lanes.specs.Lists.{Stored, stored-none, stored-step, stored-done}
 use Rattle.lanes.proofs.mark.Statement.{statement}
@@ -21,14 +19,17 @@ abbrev μ-loop : tie.MeasureT-loop
 loop-holds : tie.Need-loop-holds Inv-loop μ-loop
 loop-holds c = (search needs, stored-none _ _)
 
-element-copy-out-before : tie.Need-element-copy-out-before Inv-loop μ-loop
-element-copy-out-before c = search needs
+add-pick : tie.Need-add-pick Inv-loop μ-loop
+add-pick c = search needs
 
-add-if1 : tie.Need-add-if1 Inv-loop μ-loop
-add-if1 c = search needs
+shared-slice-read-pick : tie.Need-shared-slice-read-pick Inv-loop μ-loop
+shared-slice-read-pick c = search needs
 
-shared-slice-read-if1 : tie.Need-shared-slice-read-if1 Inv-loop μ-loop
-shared-slice-read-if1 c = search needs
+element-copy-out-pick : tie.Need-element-copy-out-pick Inv-loop μ-loop
+element-copy-out-pick c = search needs
+
+pick-requires : tie.Need-pick-requires Inv-loop μ-loop
+pick-requires c κs = search needs
 
 element-write-last : tie.Need-element-write-last Inv-loop μ-loop
 element-write-last c = search needs
@@ -41,10 +42,12 @@ loop-less c = search needs
 
 loop-again : tie.Need-loop-again Inv-loop μ-loop
 loop-again c =
-    let a = c .before .before .before .before .before .args in
-    let l = c .before .before .before .before .loop in
-    let v : ℕ = getD (a .b .now) (a .at + l .j) 0 in
-    (search needs, stored-step _ _ _ _ _ (l .inv .1) (search needs) (⊎-elim (λ w. w .1 ∙ sym (mark-hit v (a .row) _ (w .0 .taken))) (λ w. w .1 ∙ l .inv .1 .above (l .j) (le-refl (l .j)) ∙ sym (mark-miss v (a .row) _ (w .0 .left))) (c .if1 .came)))
+    let a = c .before .before .before .before .before .before .args in
+    let l = c .before .before .before .before .loop in (
+      search needs,
+      stored-step _ _ _ _ _ (l .inv .1) (search needs)
+          (c .pick .ensures ∙ ap (λ (x : ℕ). cond (bit 0 (getD (a .b .now) (a .at + l .j) 0)) (a .row) x) (l .inv .1 .above (l .j) (le-refl (l .j)))),
+    )
 
 returns : tie.Need-returns Inv-loop μ-loop
 returns c = stored-done _ _ _ _ _ (c .before .loop .inv .0) (c .loop-test .left) (c .before .loop .inv .1)
@@ -56,9 +59,10 @@ mark-spec =
     Inv-loop
     μ-loop
     loop-holds
-    element-copy-out-before
-    add-if1
-    shared-slice-read-if1
+    add-pick
+    shared-slice-read-pick
+    element-copy-out-pick
+    pick-requires
     element-write-last
     add-j
     loop-less

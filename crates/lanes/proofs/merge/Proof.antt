@@ -1,10 +1,10 @@
+-- `lanes::merge` meets its contract. The invariant: the byte columns below j have the row's bits joined in, those from j on are as before.
 use native.Mathlib.Nat.{le-refl}
 use borrow.Author.Needs.{needs}
-use Prim.Native.Nat.{ℕ, _+_, _-_, _/_, _%_, _^_, _≤_, _<_}
-use native.Mathlib.Omega.{arith}
-use mathlib.Core.Path.{_≡_, refl, sym, _∙_, ap}
+use Prim.Native.Nat.{ℕ, _+_, _-_, _≤_}
+use mathlib.Core.Path.{ap}
 use lib.Bits.{bitOr}
-use lib.ListN.{length, getD}
+use lib.ListN.{getD}
 use Rattle.lanes.specs.Lists.{Stored, stored-none, stored-step, stored-done}
 use Rattle.lanes.proofs.merge.Statement.{statement}
 use Rattle.lanes.proofs.merge.Tie as tie

@@ -1,3 +1,4 @@
+-- `lanes::row` meets its contract. Each list by the law of one row more.
 use native.Mathlib.Omega.{arith}
 use Rattle.lanes.specs.RowLaws.{count-room, next-merged, next-count, next-last}
 use borrow.Author.Needs.{needs}

@@ -1,9 +1,10 @@
+-- `lanes::tally` meets its contract. The invariant: the byte columns below j are counted, those from j on are as before. A count fits because the caller keeps it below 255.
 use native.Mathlib.Nat.{le-refl}
 use borrow.Author.Needs.{needs}
-use Prim.Native.Nat.{ℕ, _+_, _-_, _/_, _%_, _^_, _≤_, _<_}
+use Prim.Native.Nat.{ℕ, _+_, _-_, _/_, _%_, _^_, _≤_}
 use native.Mathlib.Omega.{arith}
-use mathlib.Core.Path.{_≡_, refl, sym, _∙_, ap}
-use lib.ListN.{length, getD}
+use mathlib.Core.Path.{ap}
+use lib.ListN.{getD}
 use Rattle.lanes.specs.Lists.{Stored, stored-none, stored-step, stored-done}
 use Rattle.lanes.proofs.tally.Statement.{statement}
 use Rattle.lanes.proofs.tally.Tie as tie

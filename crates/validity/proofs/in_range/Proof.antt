@@ -1,18 +1,14 @@
+-- `validity::in_range` meets its contract. The three tests, one after the other.
 use borrow.Author.Tests.{le-leb, lt-leb}
 use Rattle.validity.proofs.in_range.Statement.{statement}
 use Rattle.validity.proofs.in_range.Tie as tie
-use Rattle.validity.proofs.in_range.Reads as reads
-use Rattle.validity.proofs.in_range.Lts as lts
 
--- src/lib.rt:212:9
 returns : tie.Need-returns
 returns c = simp (lt-leb 1 _ (c .if1 .taken))
 
--- src/lib.rt:215:9
 returns-2 : tie.Need-returns-2
 returns-2 c = simp (le-leb 1 _ (c .before .if1 .left), lt-leb _ 64 (c .if2 .taken))
 
--- src/lib.rt:208:1
 returns-3 : tie.Need-returns-3
 returns-3 c = simp (le-leb 1 _ (c .before .if1 .left), le-leb _ 64 (c .if2 .left))
 

@@ -1,3 +1,4 @@
+-- `validity::right_size` meets its contract. L first, then the true length.
 use Rattle.validity.specs.Whole.{count-right, count-wrong}
 use Rattle.validity.specs.Header.{cells-most}
 use Prim.Native.Nat.{_+_}
@@ -5,39 +6,28 @@ use native.Mathlib.Omega.{arith}
 use borrow.Author.Needs.{needs}
 use Rattle.validity.proofs.right_size.Statement.{statement}
 use Rattle.validity.proofs.right_size.Tie as tie
-use Rattle.validity.proofs.right_size.Reads as reads
-use Rattle.validity.proofs.right_size.Lts as lts
-use Rattle.validity.proofs.count.Reads as count-reads
 
--- src/lib.rt:233:30
 add-size : tie.Need-add-size
 add-size c = search needs
 
--- src/lib.rt:233:25
 mul-size : tie.Need-mul-size
 mul-size c = record { fits = omega (arith, cells-most (c .before .args .n) (c .before .args .n + c .before .args .p) (c .before .pre .high) (omega arith)) }
 
--- src/lib.rt:233:20
 mul-size-2 : tie.Need-mul-size-2
 mul-size-2 c = record { fits = omega (arith, cells-most (c .before .args .n) (c .before .args .n + c .before .args .p) (c .before .pre .high) (omega arith)) }
 
--- src/lib.rt:233:16
 add-size-2 : tie.Need-add-size-2
 add-size-2 c = record { fits = omega (arith, cells-most (c .before .args .n) (c .before .args .n + c .before .args .p) (c .before .pre .high) (omega arith)) }
 
--- src/lib.rt:234:8
 count-requires : tie.Need-count-requires
 count-requires c κs = search needs
 
--- src/lib.rt:234:20
 sub-if1 : tie.Need-sub-if1
 sub-if1 c = search needs
 
--- src/lib.rt:229:1
 returns : tie.Need-returns
 returns c = let s = c .before .before .before in count-right (s .args .b .now) (s .args .n) (s .args .p) _ (s .pre) (c .before .count .ensures) (c .if1 .taken)
 
--- src/lib.rt:229:1
 returns-2 : tie.Need-returns-2
 returns-2 c = let s = c .before .before .before in count-wrong (s .args .b .now) (s .args .n) (s .args .p) _ (s .pre) (c .before .count .ensures) (c .if1 .left)
 

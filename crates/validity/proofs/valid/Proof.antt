@@ -1,4 +1,4 @@
-use Prim.Native.Nat.{_+_, _*_}
+-- `validity::valid` meets its contract. The lists of the pass hold what the tests ask for, and the tests are the five conditions.
 use native.Mathlib.Omega.{arith}
 use mathlib.Core.Path.{sym, _∙_}
 use borrow.Author.Tests.{not-true, not-false}
@@ -8,69 +8,61 @@ use Rattle.validity.specs.Whole.{lanes-none, table-inside, subjects-wron
 use borrow.Author.Needs.{needs}
 use Rattle.validity.proofs.valid.Statement.{statement}
 use Rattle.validity.proofs.valid.Tie as tie
-use Rattle.validity.proofs.valid.Reads as reads
-use Rattle.validity.proofs.valid.Lts as lts
-use Rattle.lanes.proofs.scan.Reads as scan-reads
-use Rattle.validity.proofs.plains.Reads as plains-reads
-use Rattle.validity.proofs.rooted.Reads as rooted-reads
-use Rattle.validity.proofs.subjects.Reads as subjects-reads
+
+-- the function's entry, from after the pass over the rows
+abbrev entry : tie.After-scan → tie.After-shared-slice-known
+entry c = c .before .before .before .before .before
 
 -- the elements of the slice are bytes
-octets : (c : tie.After-shared-slice-known) → Octets (c .before .args .b .now)
-octets c = record { octet = λ j. omega (arith, c .shared-slice-known .given j) }
+octets : (c : tie.After-scan) → Octets (entry c .before .args .b .now)
+octets c = record { octet = λ j. omega (arith, entry c .shared-slice-known .given j) }
 
--- src/lib.rt:196:18
 add-m : tie.Need-add-m
 add-m c = search needs
 
--- src/lib.rt:196:13
 mul-m : tie.Need-mul-m
 mul-m c = search needs
 
--- src/lib.rt:197:72
 mul-scan : tie.Need-mul-scan
 mul-scan c = search needs
 
--- src/lib.rt:197:5
 scan-requires : tie.Need-scan-requires
 scan-requires c κs =
     let s = c .before .before .before .before .before in
     let h = whole-matrix (s .args .b .now) (s .args .n) (s .args .p) (s .pre) in
     (h, lanes-none _ _ _ (h .bytes) (h .width))
 
--- src/lib.rt:198:9
 subjects-requires : tie.Need-subjects-requires
 subjects-requires c κs = search needs
 
--- src/lib.rt:199:9
 returns : tie.Need-returns
 returns c =
-    let s = c .before .before .before .before .before .before .before .before .before .before .before in
-    subjects-wrong (s .args .b .now) (s .args .n) (s .args .p) (c .before .before .before .before .before .scan .last .0) (c .before .before .before .before .before .scan .last .1 .0) (c .before .before .before .before .before .scan .last .1 .1 .0) (c .before .before .before .before .before .scan .last .1 .1 .1 .0) (s .pre) (octets (c .before .before .before .before .before .before .before .before .before .before)) (c .before .before .before .before .before .scan .ensures) (sym (c .before .subjects .ensures) ∙ not-true _ (c .if1 .taken))
+    let f = c .before .before .before .before .before in
+    subjects-wrong _ _ _ _ _ _ _ (entry f .before .pre) (octets f) (f .scan .ensures) (sym (c .before .subjects .ensures) ∙ not-true _ (c .if1 .taken))
 
--- src/lib.rt:201:9
 plains-requires : tie.Need-plains-requires
 plains-requires c κs = search needs
 
--- src/lib.rt:202:9
 returns-2 : tie.Need-returns-2
 returns-2 c =
-    let s = c .before .before .before .before .before .before .before .before .before .before .before .before .before .before in
-    plain-wrong (s .args .b .now) (s .args .n) (s .args .p) (c .before .before .before .before .before .before .before .before .scan .last .0) (c .before .before .before .before .before .before .before .before .scan .last .1 .0) (c .before .before .before .before .before .before .before .before .scan .last .1 .1 .0) (c .before .before .before .before .before .before .before .before .scan .last .1 .1 .1 .0) (s .pre) (octets (c .before .before .before .before .before .before .before .before .before .before .before .before .before)) (c .before .before .before .before .before .before .before .before .scan .ensures) (sym (c .before .before .before .before .subjects .ensures) ∙ not-false _ (c .before .before .before .if1 .left))
+    let e = c .before .before .before in
+    let f = e .before .before .before .before .before in
+    plain-wrong _ _ _ _ _ _ _ (entry f .before .pre) (octets f) (f .scan .ensures) (sym (e .before .subjects .ensures) ∙ not-false _ (e .if1 .left))
     (sym (c .before .plains .ensures) ∙ not-true _ (c .if2 .taken))
 
--- src/lib.rt:204:5
 rooted-requires : tie.Need-rooted-requires
 rooted-requires c κs =
-    let s = c .before .before .before .before .before .before .before .before .before .before .before .before .before .before .before in
-    (s .pre .head .high, c .before .before .before .before .before .before .before .before .before .scan .ensures .owner .size, table-inside (s .args .b .now) (s .args .n) (s .args .p) (c .before .before .before .before .before .before .before .before .before .scan .last .0) (c .before .before .before .before .before .before .before .before .before .scan .last .1 .0) (c .before .before .before .before .before .before .before .before .before .scan .last .1 .1 .0) (c .before .before .before .before .before .before .before .before .before .scan .last .1 .1 .1 .0) (s .pre) (octets (c .before .before .before .before .before .before .before .before .before .before .before .before .before .before)) (c .before .before .before .before .before .before .before .before .before .scan .ensures))
+    let f = c .before .before .before .before .before .before .before .before .before in
+    let s = entry f .before in
+    (s .pre .head .high, f .scan .ensures .owner .size, table-inside _ _ _ _ _ _ _ (s .pre) (octets f) (f .scan .ensures))
 
--- src/lib.rt:188:1
 returns-3 : tie.Need-returns-3
 returns-3 c =
-    let s = c .before .before .before .before .before .before .before .before .before .before .before .before .before .before .before .before in
-    owners-left (s .args .b .now) (s .args .n) (s .args .p) (c .before .before .before .before .before .before .before .before .before .before .scan .last .0) (c .before .before .before .before .before .before .before .before .before .before .scan .last .1 .0) (c .before .before .before .before .before .before .before .before .before .before .scan .last .1 .1 .0) (c .before .before .before .before .before .before .before .before .before .before .scan .last .1 .1 .1 .0) (s .pre) (octets (c .before .before .before .before .before .before .before .before .before .before .before .before .before .before .before)) (c .before .before .before .before .before .before .before .before .before .before .scan .ensures) _ (sym (c .before .before .before .before .before .before .subjects .ensures) ∙ not-false _ (c .before .before .before .before .before .if1 .left))
-    (sym (c .before .before .before .plains .ensures) ∙ not-false _ (c .before .before .if2 .left)) (c .rooted .ensures)
+    let d = c .before .before in
+    let e = d .before .before .before in
+    let f = e .before .before .before .before .before in
+    owners-left _ _ _ _ _ _ _ (entry f .before .pre) (octets f) (f .scan .ensures) _ (sym (e .before .subjects .ensures) ∙ not-false _ (e .if1 .left))
+    (sym (d .before .plains .ensures) ∙ not-false _ (d .if2 .left)) (c .rooted .ensures)
 
 pub valid-spec : {M : Type 1} → statement M
 valid-spec =

@@ -1,0 +1,114 @@
+-- Laws of counts, of the last that passes, and of numbers merged.
+use Prim.Native.Nat.{ℕ, zero, suc, _<_}
+use native.Mathlib.Nat.{not-suc-le-zero}
+use native.Mathlib.Omega.{arith}
+use mathlib.Core.Path.{_≡_, refl, sym, _∙_, subst}
+use mathlib.Core.Logic.{_⊎_, inl, inr, ⊎-elim}
+use mathlib.Core.Bool.{Bool, true, false, not, _&&_}
+use lib.Dec.{eqb}
+use borrow.Author.Tests.{eq-eqb, ne-eqb}
+use Rattle.matrix.specs.Bounded.{any, count, least}
+use Rattle.laws.specs.Tests.{way, clash, fails}
+use Rattle.laws.specs.Bounded.{below-suc, any-hit, none-any, count-same}
+use Rattle.lanes.specs.Lanes.{lastOf}
+
+-- the count one further, by whether that one passes
+pub count-hit : (n : ℕ) (f : ℕ → Bool) → f n ≡ true → count (suc n) f ≡ suc (count n f)
+unfolding count
+count-hit n f h = rw h (omega arith)
+
+pub count-miss : (n : ℕ) (f : ℕ → Bool) → f n ≡ false → count (suc n) f ≡ count n f
+unfolding count
+count-miss n f h = rw h (omega arith)
+
+-- nothing passes where the count is 0
+pub count-none : (n : ℕ) (f : ℕ → Bool) → ((i : ℕ) → i < n → f i ≡ false) → count n f ≡ 0
+unfolding count
+count-none zero f h = refl
+count-none (suc n) f h = rw (count-none n f (λ i l. h i (omega arith)), h n (omega arith)) refl
+
+pub none-count : (n : ℕ) (f : ℕ → Bool) → count n f ≡ 0 → (i : ℕ) → i < n → f i ≡ false
+none-count zero f h i l = absurd (not-suc-le-zero l)
+none-count (suc n) f h i l = ⊎-elim (λ b. none-count n f (rest (way (f n))) i b) (λ q. subst (λ (j : ℕ). f j ≡ false) (sym q) here) (below-suc i n l)
+  where
+    here : f n ≡ false
+    here = fails (f n) (λ e. let c : count (suc n) f ≡ suc (count n f) = count-hit n f e in absurd (omega arith))
+
+    rest : (f n ≡ true) ⊎ (f n ≡ false) → count n f ≡ 0
+    rest (inl e) = absurd (clash e here)
+    rest (inr e) = sym (count-miss n f e) ∙ h
+
+-- where one passes, the others are one fewer
+pub count-besides : (n : ℕ) (f : ℕ → Bool) (s : ℕ) → s < n → f s ≡ true → count n f ≡ suc (count n (λ w. f w && not (eqb w s)))
+count-besides zero f s l h = absurd (not-suc-le-zero l)
+count-besides (suc n) f s l h =
+    ⊎-elim (λ b. earlier b (count-besides n f s b h) (way (f n))) (λ q. here q) (below-suc s n l)
+  where
+    g : ℕ → Bool
+    g w = f w && not (eqb w s)
+
+    apart : (i : ℕ) → (i ≡ s → ⊥) → g i ≡ f i
+    apart i ne = let e : eqb i s ≡ false = ne-eqb i s ne in rw e (both (f i))
+      where
+        both : (t : Bool) → (t && true) ≡ t
+        both true = refl
+        both false = refl
+
+    gone : g s ≡ false
+    gone = let e : eqb s s ≡ true = eq-eqb s s refl in rw (h, e) refl
+
+    earlier : s < n → count n f ≡ suc (count n g) → (f n ≡ true) ⊎ (f n ≡ false) → count (suc n) f ≡ suc (count (suc n) g)
+    earlier b ih (inl e) =
+        let p : count (suc n) f ≡ suc (count n f) = count-hit n f e in
+        let q : count (suc n) g ≡ suc (count n g) = count-hit n g (apart n (omega arith) ∙ e) in
+        omega arith
+    earlier b ih (inr e) =
+        let p : count (suc n) f ≡ count n f = count-miss n f e in
+        let q : count (suc n) g ≡ count n g = count-miss n g (apart n (omega arith) ∙ e) in
+        omega arith
+
+    here : s ≡ n → count (suc n) f ≡ suc (count (suc n) g)
+    here q =
+        let p : count (suc n) f ≡ suc (count n f) = count-hit n f (subst (λ (j : ℕ). f j ≡ true) q h) in
+        let r : count (suc n) g ≡ count n g = count-miss n g (subst (λ (j : ℕ). g j ≡ false) q gone) in
+        let t : count n f ≡ count n g = count-same n f g (λ i b. sym (apart i (omega arith))) in
+        omega arith
+
+-- the last that passes is below the bound
+pub last-below : (n : ℕ) (f : ℕ → Bool) → 0 < n → lastOf n f < n
+unfolding lastOf
+last-below zero f h = h
+last-below (suc zero) f h = ⊎-elim (λ e. rw e (omega arith)) (λ e. rw e (omega arith)) (way (f 0))
+last-below (suc (suc n)) f h = ⊎-elim (λ e. rw e (omega arith)) (λ e. rw e (rest (last-below (suc n) f (omega arith)))) (way (f (suc n)))
+  where
+    rest : lastOf (suc n) f < suc n → lastOf (suc n) f < suc (suc n)
+    rest ih = omega arith
+
+-- none passes: 0
+pub last-none : (n : ℕ) (f : ℕ → Bool) → ((i : ℕ) → i < n → f i ≡ false) → lastOf n f ≡ 0
+unfolding lastOf
+last-none zero f h = refl
+last-none (suc n) f h = rw (h n (omega arith)) (last-none n f (λ i l. h i (omega arith)))
+
+-- where just one passes, the last is the lowest
+pub last-least : (n : ℕ) (f : ℕ → Bool) → count n f ≡ 1 → (lastOf n f ≡ least n f) × (least n f < n) × (f (least n f) ≡ true)
+unfolding count lastOf least
+last-least zero f h = absurd (omega arith)
+last-least (suc n) f h = go (way (f n)) (last-least n f)
+  where
+    Claim : ℕ → Type 0
+    Claim m = (lastOf m f ≡ least m f) × (least m f < m) × (f (least m f) ≡ true)
+
+    go : (f n ≡ true) ⊎ (f n ≡ false) → (count n f ≡ 1 → Claim n) → Claim (suc n)
+    go (inl e) ih =
+        let z : count n f ≡ 0 = (let p : count (suc n) f ≡ suc (count n f) = count-hit n f e in omega arith) in
+        let a : any n f ≡ false = none-any n f (none-count n f z) in
+        let q : least (suc n) f ≡ n = rw (a, e) refl in
+        (rw (e, a) refl, rw q (omega arith), rw q e)
+    go (inr e) ih =
+        let z : count n f ≡ 1 = (let p : count (suc n) f ≡ count n f = count-miss n f e in omega arith) in
+        let w = ih z in
+        let a : any n f ≡ true = any-hit n f (least n f) (w .1) (w .2) in
+        let q : least (suc n) f ≡ least n f = rw a refl in
+        let l : least n f < n = w .1 in
+        (rw (e, a) (w .0), rw q (omega arith), rw q (w .2))
