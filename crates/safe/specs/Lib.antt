@@ -1,0 +1,4 @@
+pub mod Runs
+pub mod Possible
+pub mod Impossible
+pub mod Nobody
