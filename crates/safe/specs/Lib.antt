@@ -1,4 +1,8 @@
 pub mod Runs
+pub mod Nobody
 pub mod Possible
 pub mod Impossible
-pub mod Nobody
+pub mod Gained
+pub mod Lasts
+pub mod Guarded
+pub mod Trusted

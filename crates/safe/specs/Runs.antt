@@ -25,10 +25,14 @@ next-by I basics names S c h changed =
     ⊎-elim (λ e. rw e (changed (allowed S (decode c) (taken basics names S c (eqb-true (refusal basics names S c) 0 e) .decoded))))
     (λ e. rw e h) (way (eqb (refusal basics names S c) 0))
 
--- every command of a list is of a class
-abbrev pub Each : (Raw → Type 0) → List Raw → Type 0
+-- every member of a list has a property
+abbrev pub Each : {A : Type 0} → (A → Type 0) → List A → Type 0
 Each P [] = Unit
 Each P (c ∷ cs) = P c × Each P cs
+
+pub each-map : {A : Type 0} {P Q : A → Type 0} (xs : List A) → ((x : A) → P x → Q x) → Each P xs → Each Q xs
+each-map [] f each = tt
+each-map (x ∷ xs) f each = (f x (each .0), each-map xs f (each .1))
 
 -- what each command of a class keeps, a list of such commands keeps
 pub after-keeps : (P : Raw → Type 0) (I : State → Type 0) (basics : ℕ) → ((T : State) (c : Raw) → P c → I T → I (next basics true T c))
