@@ -2,11 +2,10 @@
 use Prim.Native.Nat.{ℕ}
 use mathlib.Core.Path.{_≡_, refl, sym, _∙_, subst}
 use mathlib.Core.Logic.{_⊎_, inl, inr, ⊎-elim}
-use mathlib.Core.Bool.{Bool, true, false, false≢true}
+use mathlib.Core.Bool.{true, false, false≢true}
 use borrow.Author.Tests.{not-true}
 use Rattle.matrix.specs.declared.Name.{Name}
 use Rattle.matrix.specs.declared.Name.the-variants.{Subject}
-use Rattle.matrix.specs.declared.Form.the-variants.{Starred}
 use Rattle.matrix.specs.declared.Right.{Right}
 use Rattle.matrix.specs.declared.Right.the-variants.{Own, Control, Basic}
 use Rattle.matrix.specs.declared.Act.{Act}
@@ -18,12 +17,7 @@ use Rattle.matrix.specs.Touched.{isBit}
 use Rattle.laws.specs.Tests.{cond-cases}
 use Rattle.laws.specs.Changed.{has-put, put-bit, clear-bit, inherit-bit, has-admit}
 use Rattle.kept.specs.Allowed.{Allowed}
-
--- w has over x the star of the right z: the starred form of a basic right. Own and control have no star.
-abbrev pub hasStar : State → Right → ℕ → Name → Bool
-hasStar S Own w x = false
-hasStar S Control w x = false
-hasStar S (Basic k f) w x = S .basic k Starred w x
+use Rattle.safe.specs.Conditions.{hasStar}
 
 -- What lets a command set the bit of right z over x: its initiator owns x; it has the star of z over x; x is absent, and is
 -- created; or the initiator destroys an owner of x, which it owns.

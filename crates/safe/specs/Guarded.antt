@@ -2,7 +2,7 @@
 -- the name o of A.
 use Prim.Native.Nat.{ℕ}
 use mathlib.Core.Path.{_≡_, refl}
-use mathlib.Core.Logic.{_⊎_, inl, inr, ⊎-elim}
+use mathlib.Core.Logic.{_⊎_, ⊎-elim}
 use mathlib.Core.Bool.{Bool, true, false}
 use mathlib.Core.List.{List, [], _∷_}
 use Rattle.matrix.specs.declared.Name.{Name}
@@ -22,13 +22,14 @@ use Rattle.matrix.specs.Valid.{Valid}
 use Rattle.laws.specs.Tests.{clash, fails, or-cases, or-left, or-right}
 use Rattle.kept.specs.Allowed.{Allowed}
 use Rattle.safe.specs.Runs.{Each, each-map, next-by}
-use Rattle.safe.specs.Gained.{hasStar, Source, by-owner, by-star, by-creation, by-heir, gained}
+use Rattle.safe.specs.Conditions.{hasStar}
+use Rattle.safe.specs.Gained.{Source, by-owner, by-star, by-creation, by-heir, gained}
 use Rattle.safe.specs.Lasts.{lasts}
 
 -- What holds of the names of A, and of s, o and x, after every command. `Spared` names subjects that no command at hand destroys;
 -- in the safety question there are none.
 pub record Guarded (A : Name → Type 0) (Spared : ℕ → Type 0) (trusted : ℕ → Bool) (s : ℕ) (o : Name) (x : Right) (S : State) : Type 0 where
-  -- each name of A exists; whoever owns one is trusted, and is in A itself
+  -- each name of A exists; whoever owns one is trusted, and is in A itself or spared
   pub there : (a : Name) → A a → existsName S a ≡ true
   pub owners : (a : Name) → A a → (w : ℕ) → S .owns w a ≡ true → (trusted w ≡ true) × (A (Subject w) ⊎ Spared w)
   -- no untrusted subject has the star of x over o

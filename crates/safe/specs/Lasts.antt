@@ -1,5 +1,5 @@
 -- Which names an accepted command may take away: only such as its initiator owns.
-use Prim.Native.Nat.{ℕ, suc, _<_, max}
+use Prim.Native.Nat.{ℕ, _<_}
 use native.Mathlib.Omega.{arith}
 use mathlib.Core.Path.{_≡_, refl, sym, subst}
 use mathlib.Core.Logic.{_⊎_, inl, inr, ⊎-elim}
