@@ -1,11 +1,10 @@
 -- The ends of leaking lists are accepted, and s holds the right after them: from a state in which v owns o, from one in which o is
 -- absent, and from one in which i has the right starred.
 use Prim.Native.Nat.{ℕ, _<_}
-use mathlib.Core.Path.{_≡_, refl, sym, _∙_, ap, subst}
+use mathlib.Core.Path.{_≡_, sym, _∙_, ap, subst}
 use mathlib.Core.Logic.{_≢_, ⊎-elim}
 use mathlib.Core.Bool.{Bool, true, false, cond, not, _||_, true≢false}
 use mathlib.Core.List.{[], _∷_, _++_}
-use lib.Dec.{eqb}
 use borrow.Author.Tests.{ltb-true, ne-eqb}
 use Rattle.matrix.specs.declared.Name.{Name}
 use Rattle.matrix.specs.declared.Name.the-variants.{Subject}
@@ -19,12 +18,12 @@ use Rattle.matrix.specs.Owners.{owner, walk, meets}
 use Rattle.matrix.specs.Tests.{otherController}
 use Rattle.matrix.specs.Shape.{Shape, basicsOf}
 use Rattle.matrix.specs.Valid.{Valid}
-use Rattle.laws.specs.Tests.{way, clash, fails, or-left}
+use Rattle.laws.specs.Tests.{clash, fails}
 use Rattle.laws.specs.Same.{sameName-refl, sameName-ne}
 use Rattle.kept.specs.Subjects.{destroyed-keeps}
 use Rattle.kept.specs.Cells.{put-new}
 use Rattle.frame.specs.Top.{controller-found}
-use Rattle.route.specs.Parts.{destroys, creates, createsName, gives, passes, basicNumber, finish}
+use Rattle.route.specs.Parts.{creates, createsName, gives, passes, basicNumber, finish}
 use Rattle.steps.specs.Accepted.{Givable, created, destroy-accepted, create-accepted, give-accepted, pass-accepted}
 use Rattle.finish.specs.Reaches.{Reaches, reaches-step, reaches-one, reaches-created}
 use Rattle.finish.specs.States.{walk-apart, walk-beside, created-valid, created-owned, created-owns, created-controller, created-exists, created-alone, created-bare, destroyed, destroyed-absent, destroyed-exists, has-held, put-held, given-held}
@@ -125,8 +124,8 @@ againNeeded S s (Name.Plain a) Control = false
 againNeeded S s o (Basic k g) = false
 
 -- Then the end of the list works for every right that s can have over o and does not hold.
-pub again-ready : {S : State} (v s : ℕ) (o : Name) (x : Right) (again : Bool) → Valid S → S .owns v o ≡ true → Gainable s o x → held S x s o ≡ false
-    → again ≡ againNeeded S s o x → Ready S s o x again
+pub again-ready : {S : State} (v s : ℕ) (o : Name) (x : Right) (again : Bool) → Valid S → S .owns v o ≡ true → Gainable s o x
+    → held S x s o ≡ false → again ≡ againNeeded S s o x → Ready S s o x again
 again-ready v s (Subject a) Own true h own apart none e = apart
 again-ready v s (Subject a) Own false h own apart none e = sym e
 again-ready v s (Name.Plain a) Own true h own fit none e = absurd (true≢false e)

@@ -11,7 +11,7 @@ use Rattle.matrix.specs.declared.Form.{Form}
 use Rattle.matrix.specs.declared.Form.the-variants.{Starred}
 use Rattle.matrix.specs.declared.Right.{Right}
 use Rattle.question.specs.Leaks.{Untrusted}
-use Rattle.route.specs.Parts.{creates, createsName, gives, passes, finish}
+use Rattle.route.specs.Parts.{creates, createsName, passes, finish}
 
 -- every command is begun by v
 pub create-untrusted : (trusted : ℕ → Bool) (v : ℕ) (o : Name) → trusted v ≡ false → Untrusted trusted (createsName v o ∷ [])

@@ -12,7 +12,7 @@ use Rattle.matrix.specs.declared.Form.the-variants.{Starred}
 use Rattle.matrix.specs.declared.Right.{Right}
 use Rattle.matrix.specs.declared.Right.the-variants.{Own, Control, Basic}
 use Rattle.matrix.specs.Names.{sameName, columnOf}
-use Rattle.matrix.specs.State.{State, has, held, exists, existsName, isCell, put, clear}
+use Rattle.matrix.specs.State.{State, has, held, exists, existsName, put, clear}
 use Rattle.matrix.specs.Owners.{Above, owner, higher, walk, meets}
 use Rattle.matrix.specs.Changes.{inherit, inCross}
 use Rattle.matrix.specs.Touched.{isBit}
@@ -27,7 +27,7 @@ use Rattle.kept.specs.Parts.{above-owns}
 use Rattle.kept.specs.Bits.{object-keeps}
 use Rattle.kept.specs.Subjects.{created-keeps}
 use Rattle.frame.specs.Top.{controller-found}
-use Rattle.steps.specs.Accepted.{created, given, Givable}
+use Rattle.steps.specs.Accepted.{created, given}
 
 -- ---- a walk that does not meet a subject
 

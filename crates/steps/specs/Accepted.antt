@@ -2,7 +2,7 @@
 use Prim.Native.Nat.{ℕ, _<_}
 use native.Mathlib.Omega.{arith}
 use mathlib.Core.Path.{_≡_, refl, sym, ap, subst}
-use mathlib.Core.Bool.{true, false, cond, _&&_}
+use mathlib.Core.Bool.{Bool, true, false, cond, _&&_}
 use mathlib.Core.List.{[], _∷_}
 use lib.Dec.{eqb}
 use borrow.Author.Tests.{eq-eqb, lt-ltb, ltb-true}
@@ -12,6 +12,7 @@ use Rattle.matrix.specs.declared.Form.{Form}
 use Rattle.matrix.specs.declared.Form.the-variants.{Starred}
 use Rattle.matrix.specs.declared.Right.{Right}
 use Rattle.matrix.specs.declared.Right.the-variants.{Own, Control, Basic}
+use Rattle.matrix.specs.declared.Act.{Act}
 use Rattle.matrix.specs.declared.Act.the-variants.{Transfer, Grant}
 use Rattle.matrix.specs.declared.Command.{Command}
 use Rattle.matrix.specs.declared.Fields.{Fields}
@@ -32,9 +33,15 @@ use Rattle.kept.specs.Allowed.{Allowed}
 use Rattle.route.specs.Parts.{fields, destroys, creates, createsName, gives, passes, basicNumber}
 use Rattle.route.specs.RunsTo.{Accepts}
 
--- the command that the fields are decoded to, where their column is that of name x
+-- what the fields' code does; the command that they are decoded to, where their column is that of name x; and whether they fit the code
+abbrev pub actOf : Fields → Act
+actOf c = ruleOf (c .code) (c .k) .act
+
 abbrev pub meaning : Fields → Name → Command
-meaning c x = record { i = c .i; s = c .s; o = x; act = ruleOf (c .code) (c .k) .act }
+meaning c x = record { i = c .i; s = c .s; o = x; act = actOf c }
+
+abbrev pub fitting : Shape → Fields → ℕ → Bool
+fitting f c column = fieldsFit (basicsOf f) (ruleOf (c .code) (c .k)) (c .s) column (c .k)
 
 -- a command that passes its tests is not refused
 pub allowed-accepted : (S : State) (c : Command) → Allowed S c (c .act) → refusalOf S c ≡ 0
@@ -43,32 +50,30 @@ allowed-accepted S c a =
     all-passed (commandTests S c)
     (a .initiator, (a .kind, (a .there, (a .absent, (a .entitled, (a .unmet, (a .alone, tt)))))))
 
-accepts-column : (f : Shape) (S : State) (c : Fields) → c .i < f .n → c .s < f .n → c .o < columns f
-    → known (c .code) ≡ true → fieldsFit (basicsOf f) (ruleOf (c .code) (c .k)) (c .s) (c .o) (c .k) ≡ true
-    → Allowed S (meaning c (nameOf (f .n) (c .o))) (ruleOf (c .code) (c .k) .act)
-    → Accepts f S c (change S (meaning c (nameOf (f .n) (c .o))) (ruleOf (c .code) (c .k) .act))
+accepts-column : (f : Shape) (S : State) (c : Fields) → c .i < f .n → c .s < f .n → c .o < columns f → known (c .code) ≡ true
+    → fitting f c (c .o) ≡ true → Allowed S (meaning c (nameOf (f .n) (c .o))) (actOf c)
+    → Accepts f S c (change S (meaning c (nameOf (f .n) (c .o))) (actOf c))
 unfolding refusalOn nextOn refusal next
 accepts-column f S c li ls lo code fit a =
-    let number = refusalOf S (decode (rawOf f c)) in
-    let names : namesFit f c ≡ true = and-both (and-both (lt-ltb (c .i) (f .n) li) (lt-ltb (c .s) (f .n) ls)) (lt-ltb (c .o) (columns f) lo) in
-    let fields : fieldsFit (basicsOf f) (ruleOf (c .code) (c .k)) (c .s) (columnOf (nameOf (f .n) (c .o))) (c .k) ≡ true =
-    subst (λ (o : ℕ). fieldsFit (basicsOf f) (ruleOf (c .code) (c .k)) (c .s) o (c .k) ≡ true) (sym (columnOf-nameOf (f .n) (c .o))) fit in
+    let decoded = decode (rawOf f c) in
+    let number = refusalOf S decoded in
+    let column = columnOf (nameOf (f .n) (c .o)) in
+    let rows = and-both (lt-ltb (c .i) (f .n) li) (lt-ltb (c .s) (f .n) ls) in
+    let names : namesFit f c ≡ true = and-both rows (lt-ltb (c .o) (columns f) lo) in
+    let used : fitting f c column ≡ true = subst (λ (o : ℕ). fitting f c o ≡ true) (sym (columnOf-nameOf (f .n) (c .o))) fit in
     let none : refusal (basicsOf f) (namesFit f c) S (rawOf f c) ≡ 0 =
-    all-passed (test 6 (known (c .code)) ∷ test 7 (namesFit f c && fieldsFit (basicsOf f) (ruleOf (c .code) (c .k)) (c .s) (columnOf (nameOf (f .n) (c .o))) (c .k)) ∷ test number (eqb number 0) ∷ [])
-    (code, (and-both names fields, (eq-eqb number 0 (allowed-accepted S (decode (rawOf f c)) a), tt))) in
-    record {
-      accepted = none;
-      leaves = ap (λ (m : ℕ). cond (eqb m 0) (change S (decode (rawOf f c)) (decode (rawOf f c) .act)) S) none;
-    }
+    all-passed (test 6 (known (c .code)) ∷ test 7 (namesFit f c && fitting f c column) ∷ test number (eqb number 0) ∷ [])
+    (code, (and-both names used, (eq-eqb number 0 (allowed-accepted S decoded a), tt))) in
+    record { accepted = none; leaves = ap (λ (m : ℕ). cond (eqb m 0) (change S decoded (decoded .act)) S) none }
 
 -- A command whose code is known, whose names are the record's and whose fields fit is accepted where it passes its tests, and makes its
 -- change.
 pub accepts : (f : Shape) (S : State) (c : Fields) (x : Name) → nameOf (f .n) (c .o) ≡ x → c .i < f .n → c .s < f .n → c .o < columns f
-    → known (c .code) ≡ true → fieldsFit (basicsOf f) (ruleOf (c .code) (c .k)) (c .s) (c .o) (c .k) ≡ true
-    → Allowed S (meaning c x) (ruleOf (c .code) (c .k) .act) → Accepts f S c (change S (meaning c x) (ruleOf (c .code) (c .k) .act))
+    → known (c .code) ≡ true → fitting f c (c .o) ≡ true → Allowed S (meaning c x) (actOf c)
+    → Accepts f S c (change S (meaning c x) (actOf c))
 accepts f S c x e li ls lo code fit =
-    subst (λ (y : Name). Allowed S (meaning c y) (ruleOf (c .code) (c .k) .act) → Accepts f S c (change S (meaning c y) (ruleOf (c .code) (c .k) .act)))
-    e (accepts-column f S c li ls lo code fit)
+    subst (λ (y : Name). Allowed S (meaning c y) (actOf c) → Accepts f S c (change S (meaning c y) (actOf c))) e
+    (accepts-column f S c li ls lo code fit)
 
 -- v destroys a subject w that it owns
 pub destroy-accepted : {S : State} (f : Shape) (v w : ℕ) → Valid S → v < f .n → w < f .n → S .owns v (Subject w) ≡ true
@@ -91,23 +96,23 @@ created v (Subject w) S = put Control w (Subject w) true (put Own v (Subject w) 
 created v (Name.Plain o) S = put Own v (Name.Plain o) true S
 
 -- v creates a name of the record that is absent
-pub create-accepted : {S : State} (f : Shape) (v : ℕ) (x : Name) → v < f .n → named (f .n) (f .p) x ≡ true → exists S v ≡ true → existsName S x ≡ false
-    → Accepts f S (createsName v x) (created v x S)
-create-accepted {S} f v (Subject w) lv named ev absent =
-    accepts f S (creates v w) (nameOf (f .n) 0) refl lv (ltb-true w (f .n) named) (omega arith) refl refl
+pub create-accepted : {S : State} (f : Shape) (v : ℕ) (x : Name) → v < f .n → named (f .n) (f .p) x ≡ true → exists S v ≡ true
+    → existsName S x ≡ false → Accepts f S (createsName v x) (created v x S)
+create-accepted {S} f v (Subject w) lv inside ev absent =
+    accepts f S (creates v w) (nameOf (f .n) 0) refl lv (ltb-true w (f .n) inside) (omega arith) refl refl
     (record { initiator = ev; kind = refl; there = refl; absent = fails-not absent; entitled = refl; unmet = refl; alone = refl })
-create-accepted {S} f v (Name.Plain o) lv named ev absent =
-    accepts f S (createsName v (Name.Plain o)) (Name.Plain o) (nameOf-columnOf (f .n) (f .p) (Name.Plain o) named) lv (omega arith)
-    (named-below (f .n) (f .p) (Name.Plain o) named) refl refl
+create-accepted {S} f v (Name.Plain o) lv inside ev absent =
+    accepts f S (createsName v (Name.Plain o)) (Name.Plain o) (nameOf-columnOf (f .n) (f .p) (Name.Plain o) inside) lv (omega arith)
+    (named-below (f .n) (f .p) (Name.Plain o) inside) refl refl
     (record { initiator = ev; kind = refl; there = refl; absent = fails-not absent; entitled = refl; unmet = refl; alone = refl })
 
--- A command of v on s and a name o of the record, whose code uses both.
+-- A command of v on s and a name o of the record.
 over : {S : State} (f : Shape) (v s : ℕ) (o : Name) (code k : ℕ) → v < f .n → s < f .n → named (f .n) (f .p) o ≡ true → known code ≡ true
-    → fieldsFit (basicsOf f) (ruleOf code k) s (columnOf o) k ≡ true
+    → fitting f (fields code v s (columnOf o) k) (columnOf o) ≡ true
     → Allowed S (meaning (fields code v s (columnOf o) k) o) (ruleOf code k .act)
     → Accepts f S (fields code v s (columnOf o) k) (change S (meaning (fields code v s (columnOf o) k) o) (ruleOf code k .act))
-over {S} f v s o code k lv ls named =
-    accepts f S (fields code v s (columnOf o) k) o (nameOf-columnOf (f .n) (f .p) o named) lv ls (named-below (f .n) (f .p) o named)
+over {S} f v s o code k lv ls inside =
+    accepts f S (fields code v s (columnOf o) k) o (nameOf-columnOf (f .n) (f .p) o inside) lv ls (named-below (f .n) (f .p) o inside)
 
 -- What else an owner needs to give s the right x over o: the walk from s does not meet a subject o whose ownership is given, and nobody
 -- else controls o.
