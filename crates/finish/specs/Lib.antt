@@ -1,0 +1,4 @@
+pub mod Reaches
+pub mod States
+pub mod Finish
+pub mod Lists
