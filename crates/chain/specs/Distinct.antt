@@ -3,7 +3,7 @@ use Prim.Native.Nat.{ℕ, zero, suc, _≤_, _<_}
 use native.Mathlib.Nat.{not-suc-le-zero}
 use native.Mathlib.Omega.{arith}
 use mathlib.Core.Path.{_≡_, refl, sym, subst}
-use mathlib.Core.Logic.{_⊎_, inl, inr, ⊎-elim}
+use mathlib.Core.Logic.{_≢_, _⊎_, inl, inr, ⊎-elim}
 use mathlib.Core.Bool.{true, false, false≢true}
 use mathlib.Core.List.{List, [], _∷_}
 use lib.Dec.{eqb, ltb}
@@ -29,6 +29,13 @@ among-cases u w ws h = ⊎-elim (λ e. inl (eqb-true u w e)) (λ a. inr a) (or-c
 pub among-none : (u : ℕ) → among u [] ≡ true → ⊥
 unfolding among
 among-none u h = false≢true h
+
+-- what is not among the members is neither the first nor among the others
+pub among-not-here : (u w : ℕ) (ws : List ℕ) → among u (w ∷ ws) ≡ false → w ≢ u
+among-not-here u w ws h e = clash (subst (λ (x : ℕ). among x (w ∷ ws) ≡ true) e (among-here w ws)) h
+
+pub among-not-later : (u w : ℕ) (ws : List ℕ) → among u (w ∷ ws) ≡ false → among u ws ≡ false
+among-not-later u w ws h = fails (among u ws) (λ m. clash (among-later u w ws m) h)
 
 -- no number stands in the list twice
 abbrev pub Distinct : List ℕ → Type 0

@@ -2,3 +2,4 @@
 pub mod Distinct
 pub mod Chain
 pub mod Rising
+pub mod Destroyed
