@@ -12,7 +12,7 @@ use Rattle.matrix.specs.declared.Name.the-variants.{Subject, Plain}
 use Rattle.matrix.specs.declared.Right.the-variants.{Own}
 use Rattle.matrix.specs.Names.{isSubject}
 use Rattle.matrix.specs.State.{State, exists, existsName}
-use Rattle.matrix.specs.Owners.{Above, owner, higher}
+use Rattle.matrix.specs.Owners.{Above, owner}
 use Rattle.matrix.specs.Valid.{Valid}
 use Rattle.laws.specs.Tests.{fails}
 use Rattle.owners.specs.Rooted.{above-trans}

@@ -38,7 +38,7 @@ use Rattle.chain.specs.Chain.{Chain, last, link, chain-distinct, chain-a
 abbrev pub destroyed : ℕ → ℕ → State → State
 destroyed v w S = clear (inCross w) (inherit v w S)
 
--- whether a subject is left when t says that it was destroyed, and when m says that it is later
+-- whether a subject is left: e, it existed; t, it is the one destroyed; m, it is among those destroyed later
 left-one : (t e : Bool) → cond (t || t) false e ≡ (e && not t)
 left-one true true = refl
 left-one true false = refl
@@ -85,20 +85,18 @@ module _ (S : State) (v w : ℕ) where
   old-link u x h =
       ⊎-elim (λ old. inl old) (λ p. inr (p .1, p .2)) (inherit-bit v w S Own u x (clear-found (inCross w) (inherit v w S .owns) u x h .1))
 
-  -- so nobody comes to be above a name where v owned w
+  -- so nobody comes to be above a name where v owned w: one link, and then a chain of them
+  old-from : S .owns v (Subject w) ≡ true → (x : Name) (b u : ℕ) → destroyed v w S .owns b x ≡ true → Up (S .owns) b u → Above (S .owns) x u
+  old-from own x b u h up =
+      ⊎-elim (λ old. ⊎-elim (λ e. owner (subst (λ (n : ℕ). S .owns n x ≡ true) e old)) (λ more. higher old more) up)
+      (λ p. higher (p .1) (up-link (S .owns) w v u own (subst (λ (n : ℕ). Up (S .owns) n u) (p .0) up))) (old-link b x h)
+
   old-above : S .owns v (Subject w) ≡ true → (x : Name) (u : ℕ) → Above (destroyed v w S .owns) x u → Above (S .owns) x u
-  old-above own x u a = climb a
-    where
-      from : (b : ℕ) → destroyed v w S .owns b x ≡ true → Up (S .owns) b u → Above (S .owns) x u
-      from b h up =
-          ⊎-elim (λ old. ⊎-elim (λ e. owner (subst (λ (n : ℕ). S .owns n x ≡ true) e old)) (λ more. higher old more) up)
-          (λ p. higher (p .1) (up-link (S .owns) w v u own (subst (λ (n : ℕ). Up (S .owns) n u) (p .0) up))) (old-link b x h)
+  old-above own x u (owner h) = old-from own x u u h (inl refl)
+  old-above own x u (higher {w = b} h up) =
+      old-from own x b u h (inr (above-heir (S .owns) (destroyed v w S .owns) v w own (λ c d e. old-link c (Subject d) e) b u up))
 
-      climb : Above (destroyed v w S .owns) x u → Above (S .owns) x u
-      climb (owner h) = from u h (inl refl)
-      climb (higher {w = b} h up) =
-          from b h (inr (above-heir (S .owns) (destroyed v w S .owns) v w own (λ c d e. old-link c (Subject d) e) b u up))
-
+  -- all that existed but w are left
   exists-left : (u : ℕ) → exists (destroyed v w S) u ≡ (exists S u && not (eqb u w))
   exists-left u = left-one (eqb u w) (exists S u)
 

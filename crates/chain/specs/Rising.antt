@@ -9,7 +9,7 @@ use mathlib.Core.Bool.{Bool, true, false}
 use mathlib.Core.List.{List, [], _∷_}
 use lib.Dec.{eqb, ltb}
 use lib.ListN.{length}
-use borrow.Author.Tests.{eqb-true, eqb-false, eq-eqb, lt-ltb, ltb-true}
+use borrow.Author.Tests.{eqb-true, eqb-false, lt-ltb, ltb-true}
 use Rattle.matrix.specs.declared.Name.{Name}
 use Rattle.matrix.specs.declared.Name.the-variants.{Subject}
 use Rattle.matrix.specs.declared.Right.the-variants.{Own}
@@ -25,7 +25,7 @@ use Rattle.owners.specs.Walk.{root-top}
 use Rattle.kept.specs.Parts.{Up}
 use Rattle.route.specs.Parts.{among}
 use Rattle.route.specs.Rise.{Risen, meets-at, none, rise, rises}
-use Rattle.chain.specs.Distinct.{among-cases, among-none, among-here, among-later, Distinct}
+use Rattle.chain.specs.Distinct.{among-cases, among-none, among-here, Distinct}
 use Rattle.chain.specs.Chain.{Chain, last, link, above-there, chain-distinct, chain-apart, chain-bound, chain-few, chain-fewer, member-above}
 
 -- One subject on the way: it is untrusted, or it is U, or the way goes on to its owner, or it has none.
