@@ -1,0 +1,1 @@
+// How a right can come to be held, as functions on states. All of it is in specs/; there is no code.
