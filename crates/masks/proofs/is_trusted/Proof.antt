@@ -1,0 +1,16 @@
+-- `masks::is_trusted` meets its contract: the test is the definition's.
+use borrow.Author.Needs.{needs}
+use mathlib.Core.Path.{refl}
+use Rattle.matrix.specs.Bytes.{bit}
+use Rattle.masks.proofs.is_trusted.Statement.{statement}
+use Rattle.masks.proofs.is_trusted.Tie as tie
+
+shr-result : tie.Need-shr-result
+shr-result c = search needs
+
+returns : tie.Need-returns
+unfolding bit
+returns c = refl
+
+pub is-trusted-spec : {M : Type 1} → statement M
+is-trusted-spec = tie.close (tie.spec shr-result returns)

@@ -1,0 +1,6 @@
+pub mod Marks
+pub mod Digits
+pub mod Searches
+pub mod Counts
+pub mod Existing
+pub mod Untrusted

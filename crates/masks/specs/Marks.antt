@@ -1,0 +1,17 @@
+-- What the masks say: bit j is subject j.
+use Prim.Native.Nat.{ℕ, _<_}
+use mathlib.Core.Path.{_≡_}
+use mathlib.Core.Bool.{not, _&&_}
+use mathlib.Core.List.{List}
+use lib.Dec.{ltb}
+use Rattle.matrix.specs.Bytes.{bit}
+use Rattle.matrix.specs.State.{exists}
+use Rattle.matrix.specs.Reading.{stateOf}
+
+-- m marks the existing subjects of a record of n subject names
+pub record MarksOf (b : List ℕ) (n m : ℕ) : Type 0 where
+  pub marks : (j : ℕ) → j < 64 → bit j m ≡ (ltb j n && exists (stateOf b) j)
+
+-- r marks the members of a set that a trust mask leaves out
+pub record LeftOut (set trust r : ℕ) : Type 0 where
+  pub marks : (j : ℕ) → j < 64 → bit j r ≡ (bit j set && not (bit j trust))

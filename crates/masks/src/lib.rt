@@ -1,0 +1,79 @@
+// Sets of subjects as 64-bit masks: the existing subjects of a record, and those that a trust mask leaves out.
+
+ghost use mathlib.Core.Path.{_≡_};
+ghost use mathlib.Core.Bool.{not, _&&_};
+ghost use Prim.Native.Nat.{_^_, _≤_, _<_};
+ghost use lib.Dec.{ltb};
+ghost use Rattle.matrix.specs.Bounded.{least, count};
+ghost use Rattle.matrix.specs.Bytes.{bit};
+ghost use Rattle.matrix.specs.State.{exists};
+ghost use Rattle.matrix.specs.Reading.{stateOf};
+ghost use Rattle.cells.specs.Station.{Station};
+ghost use Rattle.masks.specs.Marks.{MarksOf, LeftOut};
+
+// The existing subjects of a record. No bit is set before its subject is reached, so adding it sets it.
+pub fn existing(b: &[u8], n: usize, p: usize) -> u64
+    requires { ⌜ Station (now b) n p ⌝ }
+    ensures { λ m. ⌜ MarksOf (now (b .entry)) n m ⌝ }
+{
+    let mut m: u64 = 0;
+    for s in 0..n {
+        if states::subject_exists(b, n, p, s) {
+            m += 1 << s;
+        }
+    }
+    m
+}
+
+// The members of a set that a trust mask leaves out: the set, masked by the complement of the trust mask.
+pub fn untrusted(set: u64, trust: u64) -> u64
+    ensures { λ r. ⌜ LeftOut set trust r ⌝ }
+{
+    set & !trust
+}
+
+// The lowest member of a set, or 64 if it has none.
+pub fn lowest(set: u64) -> usize
+    ensures { λ r. ⌜ r ≡ least 64 (λ j. bit j set) ⌝ }
+{
+    u64::trailing_zeros(set) as usize
+}
+
+// The number of members of a set.
+pub fn size(set: u64) -> usize
+    ensures { λ r. ⌜ r ≡ count 64 (λ j. bit j set) ⌝ }
+{
+    u64::count_ones(set) as usize
+}
+
+// The lowest untrusted existing subject, or n if there is none.
+pub fn lowest_untrusted(b: &[u8], n: usize, p: usize, trust: u64) -> usize
+    requires { ⌜ Station (now b) n p ⌝ }
+    ensures { λ r. ⌜ r ≡ least n (λ v. exists (stateOf (now (b .entry))) v && not (bit v trust)) ⌝ }
+{
+    let all = existing(b, n, p);
+    let left = untrusted(all, trust);
+    if size(left) == 0 {
+        return n;
+    }
+    lowest(left)
+}
+
+// Whether a trust mask has no bit at n or above. All 64 bits fit where n is 64, by which nothing can be shifted.
+pub fn trust_fits(trust: u64, n: usize) -> bool
+    requires { ⌜ n ≤ 64 ⌝ }
+    ensures { λ t. ⌜ t ≡ ltb trust (2 ^ n) ⌝ }
+{
+    if n == 64 {
+        return true;
+    }
+    trust >> n == 0
+}
+
+// Whether subject s is trusted.
+pub fn is_trusted(trust: u64, s: usize) -> bool
+    requires { ⌜ s < 64 ⌝ }
+    ensures { λ t. ⌜ t ≡ bit s trust ⌝ }
+{
+    (trust >> s) % 2 == 1
+}
