@@ -50,17 +50,21 @@ unfolding putHead
 putHead-later out count i h =
     getD-setNumber-other (set out 0 1) 1 4 (recordBytes * count) i (λ p q. omega arith) ∙ getD-set-other out 0 i 1 0 (λ e. omega arith)
 
+-- the bytes of whole commands
+commands-number : (m : ℕ) → recordBytes * m / recordBytes ≡ m
+commands-number m = omega arith
+
 -- ---- the whole list
 
 pub list-size : (out : List ℕ) (cs : List Fields) → length (putList out cs) ≡ length out
 unfolding putList
-list-size out cs = length-putHead (putAll out 0 cs) (length cs) ∙ length-putAll out 0 cs
+list-size out cs = length-putHead (putAll out 0 cs) _ ∙ length-putAll out 0 cs
 
 pub list-later : (out : List ℕ) (cs : List Fields) → drop (listRoom (length cs)) (putList out cs) ≡ drop (listRoom (length cs)) out
 unfolding putList
 list-later out cs =
     drop-agree (putList out cs) out (listRoom (length cs)) (list-size out cs)
-    (λ i h. putHead-later (putAll out 0 cs) (length cs) i (omega arith) ∙ putAll-other out 0 cs i (λ p q. omega arith))
+    (λ i h. putHead-later (putAll out 0 cs) _ i (omega arith) ∙ putAll-other out 0 cs i (λ p q. omega arith))
 
 -- the part of the buffer that the list takes
 abbrev written : List ℕ → List Fields → List ℕ
@@ -73,7 +77,7 @@ module _ (out : List ℕ) (cs : List Fields) (few : length cs ≤ mostCommands) 
   -- a byte of the commands
   written-command : (i : ℕ) → 5 ≤ i → i < listRoom (length cs) → getD (written out cs) i 0 ≡ getD (putAll out 0 cs) i 0
   unfolding putList
-  written-command i l h = written-at i h ∙ putHead-later (putAll out 0 cs) (length cs) i l
+  written-command i l h = written-at i h ∙ putHead-later (putAll out 0 cs) _ i l
 
   long : length (written out cs) ≡ listRoom (length cs)
   long = length-take-le (listRoom (length cs)) (putList out cs) (let e : length (putList out cs) ≡ length out = list-size out cs in omega arith)
@@ -82,7 +86,7 @@ module _ (out : List ℕ) (cs : List Fields) (few : length cs ≤ mostCommands) 
   unfolding putList
   version =
       written-at 0 (omega arith)
-      ∙ putHead-version (putAll out 0 cs) (length cs) (let e : length (putAll out 0 cs) ≡ length out = length-putAll out 0 cs in omega arith)
+      ∙ putHead-version (putAll out 0 cs) _ (let e : length (putAll out 0 cs) ≡ length out = length-putAll out 0 cs in omega arith)
 
   number : numberAt (written out cs) 1 4 ≡ recordBytes * length cs
   unfolding putList
@@ -100,16 +104,13 @@ module _ (out : List ℕ) (cs : List Fields) (few : length cs ≤ mostCommands) 
           written-command (commandPlace j) (omega arith) (omega arith) ∙ ap (λ (i : ℕ). getD (putAll out 0 cs) i 0) e
           ∙ putAll-lengths out 0 cs j (omega arith) h
 
-  commands-number : recordBytes * length cs / recordBytes ≡ length cs
-  commands-number = omega arith
-
   pub list-formed : wellFormed (take (listRoom (length cs)) (putList out cs)) ≡ true
   list-formed =
       sym (by-count (written out cs) {count = recordBytes * length cs} (omega (arith, long)) version (sym number)
-      (by-lengths (written out cs) (recordBytes * length cs) (sym long) (omega arith) (omega arith) (sym (rw commands-number lengths))))
+      (by-lengths (written out cs) (recordBytes * length cs) (sym long) (omega arith) (omega arith) (sym (rw (commands-number (length cs)) lengths))))
 
   pub list-commands : commandsOf (take (listRoom (length cs)) (putList out cs)) ≡ cs
   list-commands =
-      ap (λ (m : ℕ). commandsFrom (written out cs) 0 (m / recordBytes)) number ∙ ap (λ (m : ℕ). commandsFrom (written out cs) 0 m) commands-number
+      ap (λ (m : ℕ). commandsFrom (written out cs) 0 (m / recordBytes)) number ∙ ap (λ (m : ℕ). commandsFrom (written out cs) 0 m) (commands-number (length cs))
       ∙ commands-agree (written out cs) (putAll out 0 cs) 0 (length cs) (λ i l h. written-command i (omega arith) (omega arith))
       ∙ putAll-commands out 0 cs (omega arith)
