@@ -1,0 +1,1 @@
+// The paper's worked rows as theorems. All of it is in specs/; there is no code.
