@@ -1,0 +1,26 @@
+-- What the functions that tell a way ask of their caller.
+use Prim.Native.Nat.{ℕ, _≤_}
+use mathlib.Core.Path.{_≡_}
+use mathlib.Core.List.{List}
+use lib.ListN.{length}
+use Rattle.matrix.specs.declared.Name.{Name}
+use Rattle.matrix.specs.declared.Right.{Right}
+use Rattle.matrix.specs.State.{State}
+use Rattle.matrix.specs.Reading.{stateOf}
+use Rattle.states.specs.Needs.{BitIn}
+use Rattle.question.specs.declared.Safety.{Safety}
+use Rattle.question.specs.declared.Safety.the-variants.{Leaks}
+use Rattle.question.specs.Asked.{listRoom}
+use Rattle.ways.specs.Ways.{Way, listOf}
+use Rattle.writing.specs.Put.{mostCommands, putHead}
+
+-- a question of the record's names and rights, with room for the list of the way w
+pub record Asks (b : List ℕ) (n p s : ℕ) (x : Name) (y : Right) (w : Way) (out : List ℕ) : Type 0 where
+  pub bit : BitIn b n p y s x
+  pub few : length (listOf (stateOf b) s x y w) ≤ mostCommands
+  pub room : listRoom (length (listOf (stateOf b) s x y w)) ≤ length out
+
+-- the head is written over the list, and leaks is answered
+pub record Headed (out out′ : List ℕ) (k : ℕ) (r : Safety) : Type 0 where
+  pub buffer : out′ ≡ putHead out k
+  pub reply : r ≡ Leaks k
