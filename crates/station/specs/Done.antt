@@ -1,12 +1,10 @@
 -- The definitions of the public calls, from what the crates below answer.
-use Prim.Native.Nat.{ℕ, _+_, _*_, _<_}
-use native.Mathlib.Omega.{arith}
+use Prim.Native.Nat.{ℕ}
 use mathlib.Core.Path.{_≡_, refl, sym, _∙_, ap}
 use mathlib.Core.Logic.{⊎-elim}
 use mathlib.Core.Bool.{Bool, true, false, cond}
 use mathlib.Core.List.{List}
 use lib.Dec.{eqb}
-use lib.ListN.{length, getD}
 use borrow.Author.Tests.{ne-eqb}
 use Rattle.matrix.specs.declared.Fields.{Fields}
 use Rattle.matrix.specs.declared.Answer.{Answer}
@@ -18,26 +16,15 @@ use Rattle.matrix.specs.Step.{refusal, next}
 use Rattle.matrix.specs.Shape.{Shape, shapeOf}
 use Rattle.matrix.specs.Reading.{stateOf, bytesOf}
 use Rattle.matrix.specs.Record.{recordRefusal}
-use Rattle.matrix.specs.Shaped.{Octets}
 use Rattle.matrix.specs.CommandList.{wellFormed}
 use Rattle.matrix.specs.Calls.{validAnswer, heldAnswer, refusalOn, nextOn, commandAnswer, commandBytes, runRefusal, runAnswer, runBytes}
 use Rattle.laws.specs.Tests.{way}
 use Rattle.codec.specs.RoundTrip.{read-write}
-use Rattle.owners.specs.Read.{record-shaped}
 use Rattle.cells.specs.Station.{Station}
 use Rattle.bits.specs.Became.{Became}
 use Rattle.commands.specs.Answered.{Answered}
 use Rattle.runs.specs.Reached.{RunOn}
 use Rattle.holding.specs.Asked.{held-refused}
-
--- a record that is not turned down is of the right form
-pub station-of : {b : List ℕ} {n p : ℕ} → Octets b → recordRefusal b ≡ 0 → n ≡ getD b 5 0 → p ≡ getD b 6 0 → Station b n p
-unfolding shapeOf
-station-of {b} o h e f = record { shaped = record-shaped b h; octets = o; subjects = e; plains = f }
-
-pub long-enough : (b : List ℕ) → recordRefusal b ≡ 0 → 6 < length b
-unfolding shapeOf
-long-enough b h = let e : length b ≡ 7 + 2 * (getD b 5 0 * (getD b 5 0 + getD b 6 0)) = record-shaped b h .size in omega arith
 
 -- bytes that became a state are that state written in the same shape
 pub written : {b b′ : List ℕ} {S : State} → Became b b′ S → b′ ≡ bytesOf (shapeOf b) S

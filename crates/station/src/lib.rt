@@ -5,18 +5,8 @@ use matrix::Fields;
 use matrix::Holding;
 use matrix::Outcome;
 ghost use mathlib.Core.Path.{_≡_};
-ghost use Prim.Native.Nat.{_<_};
-ghost use lib.ListN.{length, getD};
 ghost use Rattle.matrix.specs.Calls.{validAnswer, heldAnswer, commandAnswer, commandBytes, runAnswer, runBytes};
 ghost use Rattle.station.specs.Given.{fieldsOf};
-
-// The byte at a place, as a number.
-fn byte(b: &[u8], j: usize) -> usize
-    requires { ⌜ j < length (now b) ⌝ }
-    ensures { λ r. ⌜ r ≡ getD (now (b .entry)) j 0 ⌝ }
-{
-    b[j] as usize
-}
 
 // Whether a record is valid.
 pub fn valid(b: &[u8]) -> bool
@@ -33,8 +23,8 @@ pub fn held(b: &[u8], s: u64, o: u64, right: u64) -> Holding
     if turned != 0 {
         return Holding::Refused(turned);
     }
-    let n = byte(b, 5);
-    let p = byte(b, 6);
+    let n = opening::byte(b, 5);
+    let p = opening::byte(b, 6);
     holding::held_on(b, n, p, s as usize, o as usize, right as usize)
 }
 
@@ -47,8 +37,8 @@ pub fn command(b: &mut [u8], code: u64, i: u64, s: u64, o: u64, k: u64) -> Answe
     if turned != 0 {
         return Answer::Refused(turned, 0);
     }
-    let n = byte(b, 5);
-    let p = byte(b, 6);
+    let n = opening::byte(b, 5);
+    let p = opening::byte(b, 6);
     let c = Fields {
         code: code as usize,
         i: i as usize,
@@ -77,7 +67,7 @@ pub fn run(b: &mut [u8], l: &[u8]) -> Outcome
             refusal: 16,
         };
     }
-    let n = byte(b, 5);
-    let p = byte(b, 6);
+    let n = opening::byte(b, 5);
+    let p = opening::byte(b, 6);
     runs::run_on(b, n, p, l)
 }

@@ -3,7 +3,8 @@ use native.Mathlib.Omega.{arith}
 use mathlib.Core.Path.{_≡_, sym, _∙_}
 use Rattle.matrix.specs.Record.{recordRefusal}
 use Rattle.matrix.specs.Shaped.{Octets}
-use Rattle.station.specs.Done.{station-of, long-enough, command-turned-down, command-kept, command-reply, command-done}
+use Rattle.opening.specs.Opened.{station-of, long-enough}
+use Rattle.station.specs.Done.{command-turned-down, command-kept, command-reply, command-done}
 use borrow.Author.Needs.{needs}
 use Rattle.station.proofs.command.Statement.{statement}
 use Rattle.station.proofs.command.Tie as tie

@@ -4,7 +4,8 @@ use mathlib.Core.Path.{_≡_, sym, _∙_}
 use Rattle.matrix.specs.Record.{recordRefusal}
 use Rattle.matrix.specs.Shaped.{Octets}
 use Rattle.holding.specs.Asked.{held-answer}
-use Rattle.station.specs.Done.{station-of, long-enough, held-turned-down}
+use Rattle.opening.specs.Opened.{station-of, long-enough}
+use Rattle.station.specs.Done.{held-turned-down}
 use borrow.Author.Needs.{needs}
 use Rattle.station.proofs.held.Statement.{statement}
 use Rattle.station.proofs.held.Tie as tie

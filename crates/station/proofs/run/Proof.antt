@@ -6,7 +6,8 @@ use Rattle.matrix.specs.Shaped.{Octets}
 use Rattle.matrix.specs.CommandList.{wellFormed}
 use mathlib.Core.Bool.{true}
 use borrow.Author.Tests.{not-true, not-false}
-use Rattle.station.specs.Done.{station-of, long-enough, run-turned-down, run-kept, list-turned-down, list-kept, run-outcome, run-done}
+use Rattle.opening.specs.Opened.{station-of, long-enough}
+use Rattle.station.specs.Done.{run-turned-down, run-kept, list-turned-down, list-kept, run-outcome, run-done}
 use borrow.Author.Needs.{needs}
 use Rattle.station.proofs.run.Statement.{statement}
 use Rattle.station.proofs.run.Tie as tie

@@ -1,8 +1,8 @@
--- `station::byte` meets its contract.
+-- `opening::byte` meets its contract.
 use native.Mathlib.Omega.{arith}
 use borrow.Author.Needs.{needs}
-use Rattle.station.proofs.byte.Statement.{statement}
-use Rattle.station.proofs.byte.Tie as tie
+use Rattle.opening.proofs.byte.Statement.{statement}
+use Rattle.opening.proofs.byte.Tie as tie
 
 shared-slice-read-result : tie.Need-shared-slice-read-result
 shared-slice-read-result c = search needs
