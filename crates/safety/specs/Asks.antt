@@ -1,5 +1,5 @@
 -- What the functions that tell a way ask of their caller.
-use Prim.Native.Nat.{ℕ, _≤_}
+use Prim.Native.Nat.{ℕ, _≤_, _<_}
 use mathlib.Core.Path.{_≡_}
 use mathlib.Core.List.{List}
 use lib.ListN.{length}
@@ -24,3 +24,9 @@ pub record Asks (b : List ℕ) (n p s : ℕ) (x : Name) (y : Right) (w : Way) (o
 pub record Headed (out out′ : List ℕ) (k : ℕ) (r : Safety) : Type 0 where
   pub buffer : out′ ≡ putHead out k
   pub reply : r ≡ Leaks k
+
+-- v and the first m of a path are subjects of the record, and m is fewer than those
+pub record PathOf (path : List ℕ) (n v m : ℕ) : Type 0 where
+  pub size : length path ≡ 64
+  pub subject : v < n
+  pub passed : m < n

@@ -1,1 +1,137 @@
-// stub
+// The safety question: the way by which a right can come to be held is searched, and its list is written.
+
+use climbing::Climbed;
+use matrix::Name;
+use matrix::Right;
+use question::Safety;
+ghost use mathlib.Core.Path.{_≡_};
+ghost use mathlib.Core.Bool.{not, _||_};
+ghost use Prim.Native.Nat.{_<_};
+ghost use lib.ListN.{length};
+ghost use Rattle.matrix.specs.Names.{sameName};
+ghost use Rattle.matrix.specs.State.{exists};
+ghost use Rattle.matrix.specs.Reading.{stateOf};
+ghost use Rattle.states.specs.Needs.{BitIn};
+ghost use Rattle.question.specs.Trust.{trustedBy};
+ghost use Rattle.question.specs.Asked.{Answers};
+ghost use Rattle.route.specs.Parts.{among};
+ghost use Rattle.ways.specs.Ways.{by-star, by-creation, from-above, wayOver, wayMade, wayOf};
+ghost use Rattle.ways.specs.Path.{listed};
+ghost use Rattle.writing.specs.Put.{HeadRoom};
+ghost use Rattle.told.specs.Told.{Told};
+ghost use Rattle.safety.specs.Asks.{Asks, Headed, PathOf};
+
+// The head of a list of k commands is written, and the answer says that it leaks.
+fn leaks(out: &mut [u8], k: usize) -> Safety
+    requires { ⌜ HeadRoom (now out) k ⌝ }
+    ensures { λ r. ⌜ Headed (now (out .entry)) (now (out .exit)) k r ⌝ }
+{
+    writing::put_head(out, k);
+    Safety::Leaks(k)
+}
+
+// The list of an untrusted subject i with the star.
+fn by_star(b: &[u8], n: usize, p: usize, i: usize, s: usize, x: Name, y: Right, out: &mut [u8]) -> Safety
+    requires { ⌜ Asks (now b) n p s x y (by-star i) (now out) × (i < n) ⌝ }
+    ensures { λ r. ⌜ Told (stateOf (now (b .entry))) s x y (by-star i) (now (out .entry)) (now (out .exit)) r ⌝ }
+{
+    let absent = !states::subject_exists(b, n, p, s);
+    let k = telling::put_star(out, i, s, x, y, absent);
+    leaks(out, k)
+}
+
+// Whether s still has to be created once x is.
+fn still_absent(b: &[u8], n: usize, p: usize, s: usize, x: Name) -> bool
+    requires { ⌜ Station (now b) n p × (s < n) ⌝ }
+    ensures { λ t. ⌜ t ≡ not (sameName (Name.Subject s) x || exists (stateOf (now (b .entry))) s) ⌝ }
+{
+    if let Name::Subject(w) = x {
+        if s == w {
+            return false;
+        }
+    }
+    !states::subject_exists(b, n, p, s)
+}
+
+// The list of an untrusted subject v that creates x.
+fn by_creation(b: &[u8], n: usize, p: usize, v: usize, s: usize, x: Name, y: Right, out: &mut [u8]) -> Safety
+    requires { ⌜ Asks (now b) n p s x y (by-creation v) (now out) × (v < n) ⌝ }
+    ensures { λ r. ⌜ Told (stateOf (now (b .entry))) s x y (by-creation v) (now (out .entry)) (now (out .exit)) r ⌝ }
+{
+    let held = telling::held_when_made(v, s, x, y);
+    let absent = still_absent(b, n, p, s, x);
+    let k = telling::put_creation(out, v, s, x, y, absent, held);
+    leaks(out, k)
+}
+
+// Whether s is absent once the first m subjects of the path are destroyed.
+fn gone(b: &[u8], n: usize, p: usize, s: usize, path: &[u8; 64], m: usize) -> bool
+    requires { ⌜ Station (now b) n p × (s < n) × (length (now path) ≡ 64) × (m < 65) ⌝ }
+    ensures { λ t. ⌜ t ≡ (not (exists (stateOf (now (b .entry))) s) || among s (listed (now (path .entry)) m)) ⌝ }
+{
+    if !states::subject_exists(b, n, p, s) {
+        return true;
+    }
+    telling::is_among(path, m, s)
+}
+
+// The list of an untrusted subject v above x: the m subjects of the path are destroyed, and v gives s the right.
+fn from_above(b: &[u8], n: usize, p: usize, v: usize, path: &[u8; 64], m: usize, s: usize, x: Name, y: Right, out: &mut [u8]) -> Safety
+    requires { ⌜ Asks (now b) n p s x y (from-above v (listed (now path) m)) (now out) × PathOf (now path) n v m ⌝ }
+    ensures { λ r. ⌜ Told (stateOf (now (b .entry))) s x y (from-above v (listed (now (path .entry)) m)) (now (out .entry)) (now (out .exit)) r ⌝ }
+{
+    let j = telling::put_destroys(out, v, path, m);
+    if telling::owns_then(v, s, y) {
+        return leaks(out, j);
+    }
+    let absent = gone(b, n, p, s, path, m);
+    let again = climbing::again_needed(b, n, p, s, x, y);
+    let k = telling::put_finish(out, j, v, s, x, y, absent, again);
+    leaks(out, k)
+}
+
+// The answer where x exists.
+fn over(b: &[u8], n: usize, p: usize, trust: u64, s: usize, x: Name, y: Right, out: &mut [u8]) -> Safety
+    requires { ⌜ Asks (now b) n p s x y (wayOver (stateOf (now b)) (trustedBy trust) x) (now out) ⌝ }
+    ensures { λ r. ⌜ Told (stateOf (now (b .entry))) s x y (wayOver (stateOf (now (b .entry))) (trustedBy trust) x) (now (out .entry)) (now (out .exit)) r ⌝ }
+{
+    let mut path = [0u8; 64];
+    let r = climbing::way_up(b, n, p, trust, x, &mut path);
+    match r {
+        Climbed::At(v, m) => from_above(b, n, p, v, &path, m, s, x, y, out),
+        Climbed::None => Safety::Safe,
+    }
+}
+
+// The answer where x is absent.
+fn made(b: &[u8], n: usize, p: usize, trust: u64, s: usize, x: Name, y: Right, out: &mut [u8]) -> Safety
+    requires { ⌜ Asks (now b) n p s x y (wayMade (stateOf (now b)) (trustedBy trust)) (now out) ⌝ }
+    ensures { λ r. ⌜ Told (stateOf (now (b .entry))) s x y (wayMade (stateOf (now (b .entry))) (trustedBy trust)) (now (out .entry)) (now (out .exit)) r ⌝ }
+{
+    let v = masks::lowest_untrusted(b, n, p, trust);
+    if n <= v {
+        return Safety::Safe;
+    }
+    by_creation(b, n, p, v, s, x, y, out)
+}
+
+// The answer to a question on a valid record.
+fn decide(b: &[u8], n: usize, p: usize, trust: u64, s: usize, x: Name, y: Right, out: &mut [u8]) -> Safety
+    requires { ⌜ Asks (now b) n p s x y (wayOf (stateOf (now b)) (trustedBy trust) s x y) (now out) ⌝ }
+    ensures { λ r. ⌜ Told (stateOf (now (b .entry))) s x y (wayOf (stateOf (now (b .entry))) (trustedBy trust) s x y) (now (out .entry)) (now (out .exit)) r ⌝ }
+{
+    if holding::is_held(b, n, p, y, s, x) {
+        return leaks(out, 0);
+    }
+    if !climbing::is_possible(s, x, y) {
+        return Safety::Safe;
+    }
+    let i = climbing::star_holder(b, n, p, trust, y, x);
+    if i < n {
+        return by_star(b, n, p, i, s, x, y, out);
+    }
+    if states::name_exists(b, n, p, x) {
+        return over(b, n, p, trust, s, x, y, out);
+    }
+    made(b, n, p, trust, s, x, y, out)
+}
