@@ -1,7 +1,7 @@
 -- The steps of the search for an owner whose way up meets an untrusted subject.
 use Prim.Native.Nat.{ℕ, _<_}
 use native.Mathlib.Omega.{arith}
-use mathlib.Core.Path.{_≡_, refl, sym, _∙_, ap, subst}
+use mathlib.Core.Path.{_≡_, refl, sym, ap, subst}
 use mathlib.Core.Bool.{Bool, true, false, true≢false}
 use mathlib.Core.List.{List, []}
 use lib.ListN.{length}
@@ -12,12 +12,11 @@ use Rattle.matrix.specs.Reading.{stateOf}
 use Rattle.laws.specs.Bounded.{least-hit, least-none}
 use Rattle.cells.specs.Station.{Station}
 use Rattle.states.specs.Reads.{top-is}
-use Rattle.route.specs.Rise.{rises}
 use Rattle.chain.specs.Rising.{riseIn}
 use Rattle.ways.specs.Ways.{riser, wayUp, wayOver}
 use Rattle.climbing.specs.declared.Climbed.{Climbed}
 use Rattle.climbing.specs.declared.Climbed.the-variants.{At, None}
-use Rattle.climbing.specs.Climbs.{risenTo, Found, Rises, OwnerRises, Climbs}
+use Rattle.climbing.specs.Climbs.{risenTo, Rises, OwnerRises, Climbs}
 use Rattle.climbing.specs.Rising.{found-none}
 
 -- ---- one owner

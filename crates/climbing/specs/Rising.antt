@@ -10,13 +10,12 @@ use mathlib.Core.List.{List, [], _∷_}
 use lib.ListN.{length, getD, set, length-set}
 use lib.Seq.{getD-set-same, getD-set-other}
 use borrow.Author.Tests.{lt-ltb, le-ltb, eq-eqb, ne-eqb}
-use Rattle.matrix.specs.declared.Name.{Name}
 use Rattle.matrix.specs.Owners.{ownerOf}
 use Rattle.matrix.specs.Reading.{stateOf}
 use Rattle.laws.specs.Bounded.{below-suc}
 use Rattle.cells.specs.Station.{Station}
 use Rattle.states.specs.Reads.{top-is}
-use Rattle.route.specs.Rise.{Risen, meets-at, none, rise}
+use Rattle.route.specs.Rise.{rise}
 use Rattle.chain.specs.Rising.{riseIn, rise-here, rise-root, rise-up, rise-lost}
 use Rattle.ways.specs.Path.{listed}
 use Rattle.climbing.specs.declared.Climbed.{Climbed}

@@ -6,10 +6,10 @@ use matrix::Name;
 use matrix::Right;
 use matrix::Walked;
 ghost use mathlib.Core.Path.{_≡_};
-ghost use mathlib.Core.Bool.{not, _&&_};
 ghost use Prim.Native.Nat.{_<_};
 ghost use lib.ListN.{length};
 ghost use Rattle.matrix.specs.Bounded.{least};
+ghost use Rattle.matrix.specs.Owners.{walk, meets};
 ghost use Rattle.matrix.specs.Reading.{stateOf};
 ghost use Rattle.cells.specs.Station.{Station};
 ghost use Rattle.states.specs.Needs.{basicOf, NameIn};
@@ -85,4 +85,78 @@ pub fn way_up(b: &[u8], n: usize, p: usize, trust: u64, x: Name, path: &mut [u8;
         };
     }
     Climbed::None
+}
+
+// The lowest untrusted subject that has basic right k starred over x, or n if there is none.
+fn star_row(b: &[u8], n: usize, p: usize, trust: u64, k: usize, x: Name) -> usize
+    requires { ⌜ NameIn (now b) n p x × (k < 7) ⌝ }
+    ensures { λ i. ⌜ i ≡ least n (starHolder (stateOf (now (b .entry))) (trustedBy trust) x (Right.Basic k Form.Starred)) ⌝ }
+{
+    for v in 0..n {
+        if !masks::is_trusted(trust, v) {
+            if states::has_bit(b, n, p, Right::Basic(k, Form::Starred), v, x) {
+                return v;
+            }
+        }
+    }
+    n
+}
+
+// The lowest untrusted subject with the star of right y over x, or n if there is none. Own and control have no star.
+pub fn star_holder(b: &[u8], n: usize, p: usize, trust: u64, y: Right, x: Name) -> usize
+    requires { ⌜ NameIn (now b) n p x × (basicOf y < 7) ⌝ }
+    ensures { λ i. ⌜ i ≡ least n (starHolder (stateOf (now (b .entry))) (trustedBy trust) x y) ⌝ }
+{
+    match y {
+        Right::Own => n,
+        Right::Control => n,
+        Right::Basic(k, _) => star_row(b, n, p, trust, k, x),
+    }
+}
+
+// Whether a valid state may have s with right y over x.
+pub fn is_possible(s: usize, x: Name, y: Right) -> bool
+    ensures { λ t. ⌜ t ≡ possible s x y ⌝ }
+{
+    match x {
+        Name::Subject(o) => match y {
+            Right::Own => o != s && o != 0,
+            Right::Control => o != 0 || s == 0,
+            Right::Basic(_, _) => true,
+        },
+        Name::Plain(_) => match y {
+            Right::Own => true,
+            Right::Control => false,
+            Right::Basic(_, _) => true,
+        },
+    }
+}
+
+// Whether the owner walk from s meets subject o.
+fn walk_meets(b: &[u8], n: usize, p: usize, s: usize, o: usize) -> bool
+    requires { ⌜ Station (now b) n p × (s < n) ⌝ }
+    ensures { λ t. ⌜ t ≡ meets (walk (stateOf (now (b .entry))) s (Name.Subject o)) ⌝ }
+{
+    let found = states::owner_walk(b, n, p, s, o);
+    match found {
+        Walked::Meets(_) => true,
+        Walked::Root(_) => false,
+        Walked::Lost => false,
+    }
+}
+
+// Whether x is to be destroyed and created again before right y over it is given to s: own of a subject that the walk from s meets, and
+// control of a subject that another controls.
+pub fn again_needed(b: &[u8], n: usize, p: usize, s: usize, x: Name, y: Right) -> bool
+    requires { ⌜ NameIn (now b) n p x × (s < n) ⌝ }
+    ensures { λ t. ⌜ t ≡ againNeeded (stateOf (now (b .entry))) s x y ⌝ }
+{
+    match x {
+        Name::Subject(o) => match y {
+            Right::Own => walk_meets(b, n, p, s, o),
+            Right::Control => states::controlled(b, n, p, o),
+            Right::Basic(_, _) => false,
+        },
+        Name::Plain(_) => false,
+    }
 }

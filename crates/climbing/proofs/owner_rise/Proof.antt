@@ -5,24 +5,16 @@ use Rattle.climbing.specs.Over.{owner-not, owner-rises}
 use borrow.Author.Needs.{needs}
 use Rattle.climbing.proofs.owner_rise.Statement.{statement}
 use Rattle.climbing.proofs.owner_rise.Tie as tie
-use Rattle.climbing.proofs.owner_rise.Reads as reads
-use Rattle.climbing.proofs.owner_rise.Lts as lts
-use Rattle.climbing.proofs.rise_from.Reads as rise-from-reads
-use Rattle.states.proofs.has_bit.Reads as has-bit-reads
 
--- src/lib.rt:62:9
 has-bit-requires : tie.Need-has-bit-requires
 has-bit-requires c κs = search needs
 
--- src/lib.rt:63:9
 returns : tie.Need-returns
 returns c = owner-not (sym (c .before .has-bit .ensures) ∙ not-true _ (c .if1 .taken)) (c .before .before .before .pre .2)
 
--- src/lib.rt:65:5
 rise-from-requires : tie.Need-rise-from-requires
 rise-from-requires c κs = search needs
 
--- src/lib.rt:58:1
 returns-2 : tie.Need-returns-2
 returns-2 c = owner-rises (sym (c .before .before .before .has-bit .ensures) ∙ not-false _ (c .before .before .if1 .left)) (c .rise-from .ensures)
 

@@ -1,6 +1,6 @@
 -- `climbing::rise_from` meets its contract. The loop's invariant: what is left of the way up is the whole way up.
 use borrow.Author.Needs.{needs}
-use Prim.Native.Nat.{ℕ, _+_, _<_}
+use Prim.Native.Nat.{_+_, _<_}
 use native.Mathlib.Omega.{arith}
 use borrow.Author.Tests.{not-true, not-false}
 use mathlib.Core.Path.{_≡_, sym, _∙_}
@@ -10,10 +10,6 @@ use Rattle.question.specs.Trust.{trustedBy}
 use Rattle.climbing.specs.Rising.{Rising, rising-none, rises-out, rises-met, rises-root, rises-unowned, rising-up}
 use Rattle.climbing.proofs.rise_from.Statement.{statement}
 use Rattle.climbing.proofs.rise_from.Tie as tie
-use Rattle.climbing.proofs.rise_from.Reads as reads
-use Rattle.climbing.proofs.rise_from.Lts as lts
-use Rattle.cells.proofs.first_row.Reads as first-row-reads
-use Rattle.masks.proofs.is_trusted.Reads as is-trusted-reads
 
 abbrev Inv-up : tie.InvT-up
 Inv-up b n p trust w path₀ at₀ m₀ left₀ path at m left =
@@ -22,39 +18,30 @@ Inv-up b n p trust w path₀ at₀ m₀ left₀ path at m left =
 abbrev μ-up : tie.MeasureT-up
 μ-up b n p trust w path₀ at₀ m₀ left₀ path at m left = left
 
--- src/lib.rt:36:5
 up-holds : tie.Need-up-holds Inv-up μ-up
 up-holds c = (search needs, omega arith, rising-none _ _ _ (c .before .pre .0) (c .before .pre .2))
 
--- src/lib.rt:40:13
 is-trusted-requires : tie.Need-is-trusted-requires Inv-up μ-up
 is-trusted-requires c κs = omega (arith, subjects-few _ _ _ (c .before .before .before .pre .0))
 
--- src/lib.rt:46:13
 first-row-requires : tie.Need-first-row-requires Inv-up μ-up
 first-row-requires c κs = (c .before .before .before .before .before .before .pre .0, omega arith, omega arith)
 
--- src/lib.rt:50:19
 cast-path : tie.Need-cast-path Inv-up μ-up
 cast-path c = record { fits = omega (arith, subjects-few _ _ _ (c .before .before .before .before .before .before .before .before .pre .0)) }
 
--- src/lib.rt:50:9
 element-write-path : tie.Need-element-write-path Inv-up μ-up
 element-write-path c = omega (arith, subjects-few _ _ _ (c .before .before .before .before .before .before .before .before .pre .0))
 
--- src/lib.rt:52:9
 add-m : tie.Need-add-m Inv-up μ-up
 add-m c = record { fits = omega (arith, subjects-few _ _ _ (c .before .before .before .before .before .before .before .before .pre .0)) }
 
--- src/lib.rt:53:9
 sub-left : tie.Need-sub-left Inv-up μ-up
 sub-left c = omega arith
 
--- src/lib.rt:36:5
 up-less : tie.Need-up-less Inv-up μ-up
 up-less c = omega arith
 
--- src/lib.rt:36:5
 up-again : tie.Need-up-again Inv-up μ-up
 up-again c =
     let z = c .before .before .before .before .before .before .before .before in (
@@ -65,19 +52,15 @@ up-again c =
           (omega (arith, subjects-few _ _ _ (z .pre .0))),
     )
 
--- src/lib.rt:29:1
 returns : tie.Need-returns Inv-up μ-up
 returns c = rises-out (c .before .up .inv .2) (c .if1 .taken)
 
--- src/lib.rt:29:1
 returns-2 : tie.Need-returns-2 Inv-up μ-up
 returns-2 c = rises-met (c .before .before .before .up .inv .2) (c .before .before .if1 .left) (sym (c .before .is-trusted .ensures) ∙ not-true _ (c .if2 .taken)) (c .before .before .before .up .inv .0) (omega arith)
 
--- src/lib.rt:29:1
 returns-3 : tie.Need-returns-3 Inv-up μ-up
 returns-3 c = rises-root (c .before .before .before .before .up .inv .2) (c .before .before .before .if1 .left) (sym (c .before .before .is-trusted .ensures) ∙ not-false _ (c .before .if2 .left)) (c .if3 .taken)
 
--- src/lib.rt:29:1
 returns-4 : tie.Need-returns-4 Inv-up μ-up
 returns-4 c =
     let z = c .before .before .before .before .before .before .before .before in

@@ -14,9 +14,6 @@ use Rattle.ways.specs.Ways.{riser}
 use Rattle.climbing.specs.Over.{climbs-met, climbs-none}
 use Rattle.climbing.proofs.way_up.Statement.{statement}
 use Rattle.climbing.proofs.way_up.Tie as tie
-use Rattle.climbing.proofs.way_up.Reads as reads
-use Rattle.climbing.proofs.way_up.Lts as lts
-use Rattle.climbing.proofs.owner_rise.Reads as owner-rise-reads
 
 abbrev Inv-loop : tie.InvT-loop
 Inv-loop b n p trust x path₀ w₀ path w = (w ≤ n) × (length path ≡ 64) × (any w (riser (stateOf b) (trustedBy trust) x) ≡ false)
@@ -24,39 +21,31 @@ Inv-loop b n p trust x path₀ w₀ path w = (w ≤ n) × (length path ≡ 64) �
 abbrev μ-loop : tie.MeasureT-loop
 μ-loop b n p trust x path₀ w₀ path w = n - w
 
--- src/lib.rt:73:5
 loop-holds : tie.Need-loop-holds Inv-loop μ-loop
 unfolding any
 loop-holds c = (search needs, c .before .pre .1, refl)
 
--- src/lib.rt:74:13
 owner-rise-requires : tie.Need-owner-rise-requires Inv-loop μ-loop
 owner-rise-requires c κs = (c .before .before .before .before .pre .0, c .before .loop-test .taken, c .before .before .loop .inv .1)
 
 enum-told : tie.Need-enum-told Inv-loop μ-loop
 enum-told c = search needs
 
--- src/lib.rt:76:13
 enum-told-2 : tie.Need-enum-told-2 Inv-loop μ-loop
 enum-told-2 c = search needs
 
--- src/lib.rt:76:13
 returns : tie.Need-returns Inv-loop μ-loop
 returns c = climbs-met (c .before .before .before .before .before .before .before .pre .0 .station) (c .before .before .before .before .loop-test .taken) (c .before .before .before .before .before .loop .inv .2) (c .before .before .owner-rise .ensures) (c .enum-told2 .given .1)
 
--- src/lib.rt:73:9
 add-w : tie.Need-add-w Inv-loop μ-loop
 add-w c = search needs
 
--- src/lib.rt:73:5
 loop-less : tie.Need-loop-less Inv-loop μ-loop
 loop-less c = search needs
 
--- src/lib.rt:73:5
 loop-again : tie.Need-loop-again Inv-loop μ-loop
 loop-again c = (search needs, c .before .before .owner-rise .ensures .size, rw add-one (any-miss _ _ (c .before .before .before .before .before .loop .inv .2) (c .before .before .owner-rise .ensures .missed (c .enum-told .given .1))))
 
--- src/lib.rt:69:1
 returns-2 : tie.Need-returns-2 Inv-loop μ-loop
 returns-2 c = climbs-none (c .before .before .before .pre .0 .station) (subst (λ (m : ℕ). any m (riser (stateOf (c .before .before .before .args .b .now)) (trustedBy (c .before .before .before .args .trust)) (c .before .before .before .args .x)) ≡ false) (omega arith) (c .before .loop .inv .2)) (c .before .loop .inv .1)
 
