@@ -1,0 +1,4 @@
+pub mod Climbs
+pub mod Rising
+pub mod Over
+pub mod Targets

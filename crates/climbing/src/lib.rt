@@ -1,0 +1,162 @@
+// The searches of the safety question on a record that is of the right form: the way up to an untrusted subject, an untrusted subject
+// with the star, whether a target is possible, and whether o is to be destroyed and created again.
+
+use matrix::Form;
+use matrix::Name;
+use matrix::Right;
+use matrix::Walked;
+ghost use mathlib.Core.Path.{_≡_};
+ghost use Prim.Native.Nat.{_<_};
+ghost use lib.ListN.{length};
+ghost use Rattle.matrix.specs.Bounded.{least};
+ghost use Rattle.matrix.specs.Owners.{walk, meets};
+ghost use Rattle.matrix.specs.Reading.{stateOf};
+ghost use Rattle.cells.specs.Station.{Station};
+ghost use Rattle.states.specs.Needs.{basicOf, NameIn};
+ghost use Rattle.question.specs.Trust.{trustedBy};
+ghost use Rattle.safe.specs.Possible.{possible};
+ghost use Rattle.finish.specs.Finish.{againNeeded};
+ghost use Rattle.ways.specs.Ways.{starHolder};
+ghost use Rattle.climbing.specs.Climbs.{Rises, OwnerRises, Climbs};
+
+// What the way up finds: the first untrusted subject and how many trusted ones were passed, or none.
+pub enum Climbed {
+    At(usize, usize),
+    None,
+}
+
+// The way up from subject w. The trusted subjects passed are kept in `path`, in the order in which they are met.
+fn rise_from(b: &[u8], n: usize, p: usize, trust: u64, w: usize, path: &mut [u8; 64]) -> Climbed
+    requires { ⌜ Station (now b) n p × (w < n) × (length (now path) ≡ 64) ⌝ }
+    ensures { λ r. ⌜ Rises (now (b .entry)) n (trustedBy trust) w (now (path .exit)) r ⌝ }
+{
+    let mut at = w;
+    let mut m = 0;
+    let mut left = n;
+    'up: loop {
+        if left == 0 {
+            break 'up Climbed::None;
+        }
+        if !masks::is_trusted(trust, at) {
+            break 'up Climbed::At(at, m);
+        }
+        if at == 0 {
+            break 'up Climbed::None;
+        }
+        let owner = cells::first_row(b, n, p, at, 0, n);
+        if n <= owner {
+            break 'up Climbed::None;
+        }
+        path[m] = at as u8;
+        at = owner;
+        m += 1;
+        left -= 1;
+    }
+}
+
+// The way up from subject w where it owns x, and none where it doesn't.
+fn owner_rise(
+    b: &[u8],
+    n: usize,
+    p: usize,
+    trust: u64,
+    x: Name,
+    w: usize,
+    path: &mut [u8; 64],
+) -> Climbed
+    requires { ⌜ NameIn (now b) n p x × (w < n) × (length (now path) ≡ 64) ⌝ }
+    ensures { λ r. ⌜ OwnerRises (now (b .entry)) n (trustedBy trust) x w (now (path .exit)) r ⌝ }
+{
+    if !states::has_bit(b, n, p, Right::Own, w, x) {
+        return Climbed::None;
+    }
+    rise_from(b, n, p, trust, w, path)
+}
+
+// The way over an existing name x: that of its lowest owner whose way up meets an untrusted subject.
+pub fn way_up(b: &[u8], n: usize, p: usize, trust: u64, x: Name, path: &mut [u8; 64]) -> Climbed
+    requires { ⌜ NameIn (now b) n p x × (length (now path) ≡ 64) ⌝ }
+    ensures { λ r. ⌜ Climbs (now (b .entry)) n (trustedBy trust) x (now (path .exit)) r ⌝ }
+{
+    for w in 0..n {
+        let r = owner_rise(b, n, p, trust, x, w, path);
+        let Climbed::None = r else {
+            return r;
+        };
+    }
+    Climbed::None
+}
+
+// The lowest untrusted subject that has basic right k starred over x, or n if there is none.
+fn star_row(b: &[u8], n: usize, p: usize, trust: u64, k: usize, x: Name) -> usize
+    requires { ⌜ NameIn (now b) n p x × (k < 7) ⌝ }
+    ensures { λ i. ⌜ i ≡ least n (starHolder (stateOf (now (b .entry))) (trustedBy trust) x (Right.Basic k Form.Starred)) ⌝ }
+{
+    for v in 0..n {
+        if !masks::is_trusted(trust, v) {
+            if states::has_bit(b, n, p, Right::Basic(k, Form::Starred), v, x) {
+                return v;
+            }
+        }
+    }
+    n
+}
+
+// The lowest untrusted subject with the star of right y over x, or n if there is none. Own and control have no star.
+pub fn star_holder(b: &[u8], n: usize, p: usize, trust: u64, y: Right, x: Name) -> usize
+    requires { ⌜ NameIn (now b) n p x × (basicOf y < 7) ⌝ }
+    ensures { λ i. ⌜ i ≡ least n (starHolder (stateOf (now (b .entry))) (trustedBy trust) x y) ⌝ }
+{
+    match y {
+        Right::Own => n,
+        Right::Control => n,
+        Right::Basic(k, _) => star_row(b, n, p, trust, k, x),
+    }
+}
+
+// Whether a valid state may have s with right y over x.
+pub fn is_possible(s: usize, x: Name, y: Right) -> bool
+    ensures { λ t. ⌜ t ≡ possible s x y ⌝ }
+{
+    match x {
+        Name::Subject(o) => match y {
+            Right::Own => o != s && o != 0,
+            Right::Control => o != 0 || s == 0,
+            Right::Basic(_, _) => true,
+        },
+        Name::Plain(_) => match y {
+            Right::Own => true,
+            Right::Control => false,
+            Right::Basic(_, _) => true,
+        },
+    }
+}
+
+// Whether the owner walk from s meets subject o.
+fn walk_meets(b: &[u8], n: usize, p: usize, s: usize, o: usize) -> bool
+    requires { ⌜ Station (now b) n p × (s < n) ⌝ }
+    ensures { λ t. ⌜ t ≡ meets (walk (stateOf (now (b .entry))) s (Name.Subject o)) ⌝ }
+{
+    let found = states::owner_walk(b, n, p, s, o);
+    match found {
+        Walked::Meets(_) => true,
+        Walked::Root(_) => false,
+        Walked::Lost => false,
+    }
+}
+
+// Whether x is to be destroyed and created again before right y over it is given to s: own of a subject that the walk from s meets, and
+// control of a subject that another controls.
+pub fn again_needed(b: &[u8], n: usize, p: usize, s: usize, x: Name, y: Right) -> bool
+    requires { ⌜ NameIn (now b) n p x × (s < n) ⌝ }
+    ensures { λ t. ⌜ t ≡ againNeeded (stateOf (now (b .entry))) s x y ⌝ }
+{
+    match x {
+        Name::Subject(o) => match y {
+            Right::Own => walk_meets(b, n, p, s, o),
+            Right::Control => states::controlled(b, n, p, o),
+            Right::Basic(_, _) => false,
+        },
+        Name::Plain(_) => false,
+    }
+}
