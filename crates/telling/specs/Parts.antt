@@ -1,5 +1,5 @@
 -- What writing the parts of a list asks of the caller, and the rooms for their commands.
-use Prim.Native.Nat.{ℕ, suc, _+_, _≤_, _<_}
+use Prim.Native.Nat.{ℕ, _+_, _≤_, _<_}
 use native.Mathlib.Omega.{arith}
 use mathlib.Core.Path.{_≡_, refl, sym, _∙_, ap}
 use mathlib.Core.Bool.{Bool, true, false, cond, _&&_, _||_}
@@ -43,16 +43,27 @@ pub record Part (out : List ℕ) (j m v s : ℕ) (x : Name) (y : Right) : Type 0
 -- ---- the rooms
 
 -- room for one command whose fields are bytes
-pub one-room : {out : List ℕ} {j : ℕ} (m : ℕ) {code i s o k : ℕ} → Fits out j (suc m) → code < 256 → i < 256 → s < 256 → o < 256 → k < 256
+pub one-room : {out : List ℕ} {j code i s o k : ℕ} → Fits out j 1 → code < 256 → i < 256 → s < 256 → o < 256 → k < 256
     → Room out j (fields code i s o k)
-one-room m f code i s o k = record { fits = omega (arith, f .fits); bytes = record { code = code; i = i; s = s; o = o; k = k } }
+one-room f code i s o k = record { fits = omega (arith, f .fits); bytes = record { code = code; i = i; s = s; o = o; k = k } }
+
+-- room for a command about a subject alone
+pub pair-room : {out : List ℕ} {j v w : ℕ} (code : ℕ) → Pair out j 1 v w → code < 256 → Room out j (fields code v w 0 0)
+pair-room code q h = one-room (q .room) h (q .by) (q .about) (omega arith) (omega arith)
 
 pub part-room : {out : List ℕ} {j v s : ℕ} {x : Name} {y : Right} {code o k : ℕ} → Part out j 1 v s x y → code < 256 → o ≡ columnOf x
     → k ≡ basicNumber y → Room out j (fields code v s o k)
 part-room q c e h =
-    one-room 0 (q .room) c (omega (arith, q .by)) (omega (arith, q .to)) (omega (arith, q .over, e)) (omega (arith, q .number, h))
+    one-room (q .room) c (omega (arith, q .by)) (omega (arith, q .to)) (omega (arith, q .over, e)) (omega (arith, q .number, h))
 
 -- the room that a part leaves for those after it
+pub pair-after : {out out′ : List ℕ} {j r v w : ℕ} {cs : List Fields} (k m : ℕ) → Pair out j (k + m) v w → Tells out out′ j cs r → length cs ≤ k
+    → Pair out′ r m v w
+pair-after k m q a few = record { room = fits-after k m (q .room) few a; by = q .by; about = q .about }
+
+pub pair-first : {out : List ℕ} {j v w : ℕ} (k m : ℕ) → Pair out j (k + m) v w → Pair out j k v w
+pair-first k m q = record { room = record { fits = omega (arith, q .room .fits) }; by = q .by; about = q .about }
+
 pub part-after : {out out′ : List ℕ} {j r v s : ℕ} {x : Name} {y : Right} {cs : List Fields} (k m : ℕ) → Part out j (k + m) v s x y
     → Tells out out′ j cs r → length cs ≤ k → Part out′ r m v s x y
 part-after k m q a few =
@@ -128,13 +139,13 @@ pub tells-again : {out out′ : List ℕ} {j r w w′ : ℕ} (t : Bool) (v : ℕ
 tells-again t v e a = tells-as (ap (λ (u : ℕ). cond t (destroys v u ∷ creates v u ∷ []) []) e) a
 
 -- a name created, by its kind
-pub subject-room : {out : List ℕ} {v w : ℕ} (x : Name) → Pair out 0 1 v (columnOf x) → x ≡ Subject w → Room out 0 (creates v w)
-subject-room {w = w} x q e =
-    one-room 0 (q .room) (omega arith) (q .by) (let h : columnOf x ≡ w = ap columnOf e in omega (arith, h, q .about)) (omega arith) (omega arith)
+pub subject-pair : {out : List ℕ} {j v w : ℕ} (x : Name) → Pair out j 1 v (columnOf x) → x ≡ Subject w → Pair out j 1 v w
+subject-pair {w = w} x q e =
+    let h : columnOf x ≡ w = ap columnOf e in record { room = q .room; by = q .by; about = omega (arith, h, q .about) }
 
-pub plain-room : {out : List ℕ} {v o : ℕ} (x : Name) → Pair out 0 1 v (columnOf x) → x ≡ Name.Plain o → Room out 0 (fields 10 v 0 o 0)
+pub plain-room : {out : List ℕ} {j v o : ℕ} (x : Name) → Pair out j 1 v (columnOf x) → x ≡ Name.Plain o → Room out j (fields 10 v 0 o 0)
 plain-room {o = o} x q e =
-    one-room 0 (q .room) (omega arith) (q .by) (omega arith) (let h : columnOf x ≡ o = ap columnOf e in omega (arith, h, q .about)) (omega arith)
+    let h : columnOf x ≡ o = ap columnOf e in one-room (q .room) (omega arith) (q .by) (omega arith) (omega (arith, h, q .about)) (omega arith)
 
 pub tells-name : {out out′ : List ℕ} {j r : ℕ} {x z : Name} (v : ℕ) → x ≡ z → Tells out out′ j (createsName v z ∷ []) r
     → Tells out out′ j (createsName v x ∷ []) r

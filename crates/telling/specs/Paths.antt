@@ -13,10 +13,10 @@ use Rattle.matrix.specs.declared.Fields.{Fields}
 use Rattle.laws.specs.Tests.{or-left, or-right}
 use Rattle.route.specs.Parts.{destroys, destroysAll, among}
 use Rattle.ways.specs.Path.{listed}
-use Rattle.writing.specs.Put.{Room, putCommand, putAll}
+use Rattle.writing.specs.Put.{putCommand, putAll}
 use Rattle.writing.specs.Commands.{length-putAll}
 use Rattle.telling.specs.Tells.{Tells, Fits}
-use Rattle.telling.specs.Parts.{one-room}
+use Rattle.telling.specs.Parts.{Pair}
 
 -- room for a command by v about each of the first m subjects of a path
 pub record PathRoom (out : List ℕ) (v m : ℕ) : Type 0 where
@@ -47,10 +47,10 @@ pub reached-length : {out₀ out : List ℕ} {v : ℕ} {path : List ℕ} {m t : 
 reached-length {out₀} {out} {v} {path} {m} {t} h =
     sym (length-putAll out t (destroysAll v (listed path (m - t)))) ∙ ap length (h .left) ∙ length-putAll out₀ 0 (destroysAll v (listed path m))
 
-pub destroy-room : {out₀ out : List ℕ} {v : ℕ} {path : List ℕ} {m t : ℕ} {w : ℕ} → PathRoom out₀ v m → Reached out₀ out v path m t → t < m → w < 256
-    → Room out t (destroys v w)
-destroy-room q h b s =
-    one-room 0 (record { fits = omega (arith, q .room .fits, reached-length h) }) (omega arith) (omega (arith, q .by)) s (omega arith) (omega arith)
+pub destroy-pair : {out₀ out : List ℕ} {v : ℕ} {path : List ℕ} {m t : ℕ} {w : ℕ} → PathRoom out₀ v m → Reached out₀ out v path m t → t < m → w < 256
+    → Pair out t 1 v w
+destroy-pair q h b s =
+    record { room = record { fits = omega (arith, q .room .fits, reached-length h) }; by = omega (arith, q .by); about = s }
 
 pub reached-more : {out₀ out out′ : List ℕ} {v : ℕ} {path : List ℕ} {m t w r : ℕ} → Reached out₀ out v path m t → t < m
     → w ≡ getD path (m - 1 - t) 0 → Tells out out′ t (destroys v w ∷ []) r → Reached out₀ out′ v path m (t + 1)

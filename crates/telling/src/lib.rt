@@ -63,17 +63,44 @@ fn put_gift(out: &mut [u8], j: usize, v: usize, s: usize, x: Name, y: Right) -> 
     let code = giving_code(x, y);
     let o = states::column_of(x);
     let k = basic_number(y);
-    put_one(
-        out,
-        j,
-        Fields {
-            code: code,
-            i: v,
-            s: s,
-            o: o,
-            k: k,
-        },
-    )
+    let c = Fields {
+        code: code,
+        i: v,
+        s: s,
+        o: o,
+        k: k,
+    };
+    put_one(out, j, c)
+}
+
+// v destroys subject w.
+fn put_destroy(out: &mut [u8], j: usize, v: usize, w: usize) -> usize
+    requires { ⌜ Pair (now out) j 1 v w ⌝ }
+    ensures { λ r. ⌜ Tells (now (out .entry)) (now (out .exit)) j (destroys v w ∷ []) r ⌝ }
+{
+    let c = Fields {
+        code: 13,
+        i: v,
+        s: w,
+        o: 0,
+        k: 0,
+    };
+    put_one(out, j, c)
+}
+
+// v creates subject w.
+fn put_create(out: &mut [u8], j: usize, v: usize, w: usize) -> usize
+    requires { ⌜ Pair (now out) j 1 v w ⌝ }
+    ensures { λ r. ⌜ Tells (now (out .entry)) (now (out .exit)) j (creates v w ∷ []) r ⌝ }
+{
+    let c = Fields {
+        code: 12,
+        i: v,
+        s: w,
+        o: 0,
+        k: 0,
+    };
+    put_one(out, j, c)
 }
 
 // v destroys subject w and creates it again, where it is to be made again.
@@ -82,28 +109,8 @@ fn put_again(out: &mut [u8], j: usize, v: usize, w: usize, again: bool) -> usize
     ensures { λ r. ⌜ Tells (now (out .entry)) (now (out .exit)) j (cond again (destroys v w ∷ creates v w ∷ []) []) r ⌝ }
 {
     if again {
-        let next = put_one(
-            out,
-            j,
-            Fields {
-                code: 13,
-                i: v,
-                s: w,
-                o: 0,
-                k: 0,
-            },
-        );
-        return put_one(
-            out,
-            next,
-            Fields {
-                code: 12,
-                i: v,
-                s: w,
-                o: 0,
-                k: 0,
-            },
-        );
+        let next = put_destroy(out, j, v, w);
+        return put_create(out, next, v, w);
     }
     j
 }
@@ -114,17 +121,7 @@ fn put_created(out: &mut [u8], j: usize, v: usize, s: usize, absent: bool) -> us
     ensures { λ r. ⌜ Tells (now (out .entry)) (now (out .exit)) j (cond absent (creates v s ∷ []) []) r ⌝ }
 {
     if absent {
-        return put_one(
-            out,
-            j,
-            Fields {
-                code: 12,
-                i: v,
-                s: s,
-                o: 0,
-                k: 0,
-            },
-        );
+        return put_create(out, j, v, s);
     }
     j
 }
@@ -171,17 +168,14 @@ fn put_passed(out: &mut [u8], j: usize, i: usize, s: usize, x: Name, y: Right) -
     let code = passing_code(y);
     let o = states::column_of(x);
     let k = basic_number(y);
-    put_one(
-        out,
-        j,
-        Fields {
-            code: code,
-            i: i,
-            s: s,
-            o: o,
-            k: k,
-        },
-    )
+    let c = Fields {
+        code: code,
+        i: i,
+        s: s,
+        o: o,
+        k: k,
+    };
+    put_one(out, j, c)
 }
 
 // The list of an untrusted subject i with the star: s is created where it is absent, and i passes it the right.
@@ -199,28 +193,17 @@ fn put_name(out: &mut [u8], v: usize, x: Name) -> usize
     ensures { λ r. ⌜ Tells (now (out .entry)) (now (out .exit)) 0 (createsName v x ∷ []) r ⌝ }
 {
     match x {
-        Name::Subject(w) => put_one(
-            out,
-            0,
-            Fields {
-                code: 12,
-                i: v,
-                s: w,
-                o: 0,
-                k: 0,
-            },
-        ),
-        Name::Plain(o) => put_one(
-            out,
-            0,
-            Fields {
+        Name::Subject(w) => put_create(out, 0, v, w),
+        Name::Plain(o) => {
+            let c = Fields {
                 code: 10,
                 i: v,
                 s: 0,
                 o: o,
                 k: 0,
-            },
-        ),
+            };
+            put_one(out, 0, c)
+        }
     }
 }
 
@@ -258,17 +241,7 @@ pub fn put_destroys(out: &mut [u8], v: usize, path: &[u8; 64], m: usize) -> usiz
 {
     for t in 0..m {
         let w = subject(path[m - 1 - t]);
-        put_one(
-            out,
-            t,
-            Fields {
-                code: 13,
-                i: v,
-                s: w,
-                o: 0,
-                k: 0,
-            },
-        );
+        put_destroy(out, t, v, w);
     }
     m
 }

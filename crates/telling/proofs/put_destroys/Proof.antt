@@ -2,7 +2,7 @@
 use borrow.Author.Needs.{needs}
 use Prim.Native.Nat.{_-_}
 use native.Mathlib.Omega.{arith}
-use Rattle.telling.specs.Paths.{Reached, reached-none, reached-length, destroy-room, reached-more, reached-all}
+use Rattle.telling.specs.Paths.{Reached, reached-none, reached-length, destroy-pair, reached-more, reached-all}
 use Rattle.telling.proofs.put_destroys.Statement.{statement}
 use Rattle.telling.proofs.put_destroys.Tie as tie
 
@@ -27,8 +27,8 @@ element-copy-out-subject c = omega (arith, c .before .before .before .pre .short
 subject-requires : tie.Need-subject-requires Inv-loop μ-loop
 subject-requires c κs = search needs
 
-put-one-requires : tie.Need-put-one-requires Inv-loop μ-loop
-put-one-requires c κs = destroy-room (c .before .before .before .before .before .before .pre) (c .before .before .before .before .loop .inv) (c .before .before .before .loop-test .taken) (c .before .subject .ensures .1)
+put-destroy-requires : tie.Need-put-destroy-requires Inv-loop μ-loop
+put-destroy-requires c κs = destroy-pair (c .before .before .before .before .before .before .pre) (c .before .before .before .before .loop .inv) (c .before .before .before .loop-test .taken) (c .before .subject .ensures .1)
 
 add-t : tie.Need-add-t Inv-loop μ-loop
 add-t c = search needs
@@ -37,7 +37,7 @@ loop-less : tie.Need-loop-less Inv-loop μ-loop
 loop-less c = omega arith
 
 loop-again : tie.Need-loop-again Inv-loop μ-loop
-loop-again c = reached-more (c .before .before .before .before .before .before .before .loop .inv) (c .before .before .before .before .before .before .loop-test .taken) (c .before .before .before .before .subject .ensures .0) (c .before .before .put-one .ensures)
+loop-again c = reached-more (c .before .before .before .before .before .before .before .loop .inv) (c .before .before .before .before .before .before .loop-test .taken) (c .before .before .before .before .subject .ensures .0) (c .before .before .put-destroy .ensures)
 
 same-length : tie.Need-same-length Inv-loop μ-loop
 same-length c = reached-length (c .before .loop .inv)
@@ -56,7 +56,7 @@ put-destroys-spec =
     sub-subject-2
     element-copy-out-subject
     subject-requires
-    put-one-requires
+    put-destroy-requires
     add-t
     loop-less
     loop-again
