@@ -1,0 +1,3 @@
+pub mod Tells
+pub mod Parts
+pub mod Paths
