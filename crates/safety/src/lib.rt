@@ -31,7 +31,16 @@ fn leaks(out: &mut [u8], k: usize) -> Safety
 }
 
 // The list of an untrusted subject i with the star.
-fn by_star(b: &[u8], n: usize, p: usize, i: usize, s: usize, x: Name, y: Right, out: &mut [u8]) -> Safety
+fn by_star(
+    b: &[u8],
+    n: usize,
+    p: usize,
+    i: usize,
+    s: usize,
+    x: Name,
+    y: Right,
+    out: &mut [u8],
+) -> Safety
     requires { ⌜ Asks (now b) n p s x y (by-star i) (now out) × (i < n) ⌝ }
     ensures { λ r. ⌜ Told (stateOf (now (b .entry))) s x y (by-star i) (now (out .entry)) (now (out .exit)) r ⌝ }
 {
@@ -54,7 +63,16 @@ fn still_absent(b: &[u8], n: usize, p: usize, s: usize, x: Name) -> bool
 }
 
 // The list of an untrusted subject v that creates x.
-fn by_creation(b: &[u8], n: usize, p: usize, v: usize, s: usize, x: Name, y: Right, out: &mut [u8]) -> Safety
+fn by_creation(
+    b: &[u8],
+    n: usize,
+    p: usize,
+    v: usize,
+    s: usize,
+    x: Name,
+    y: Right,
+    out: &mut [u8],
+) -> Safety
     requires { ⌜ Asks (now b) n p s x y (by-creation v) (now out) × (v < n) ⌝ }
     ensures { λ r. ⌜ Told (stateOf (now (b .entry))) s x y (by-creation v) (now (out .entry)) (now (out .exit)) r ⌝ }
 {
@@ -76,7 +94,18 @@ fn gone(b: &[u8], n: usize, p: usize, s: usize, path: &[u8; 64], m: usize) -> bo
 }
 
 // The list of an untrusted subject v above x: the m subjects of the path are destroyed, and v gives s the right.
-fn from_above(b: &[u8], n: usize, p: usize, v: usize, path: &[u8; 64], m: usize, s: usize, x: Name, y: Right, out: &mut [u8]) -> Safety
+fn from_above(
+    b: &[u8],
+    n: usize,
+    p: usize,
+    v: usize,
+    path: &[u8; 64],
+    m: usize,
+    s: usize,
+    x: Name,
+    y: Right,
+    out: &mut [u8],
+) -> Safety
     requires { ⌜ Asks (now b) n p s x y (from-above v (listed (now path) m)) (now out) × PathOf (now path) n v m ⌝ }
     ensures { λ r. ⌜ Told (stateOf (now (b .entry))) s x y (from-above v (listed (now (path .entry)) m)) (now (out .entry)) (now (out .exit)) r ⌝ }
 {
@@ -91,7 +120,16 @@ fn from_above(b: &[u8], n: usize, p: usize, v: usize, path: &[u8; 64], m: usize,
 }
 
 // The answer where x exists.
-fn over(b: &[u8], n: usize, p: usize, trust: u64, s: usize, x: Name, y: Right, out: &mut [u8]) -> Safety
+fn over(
+    b: &[u8],
+    n: usize,
+    p: usize,
+    trust: u64,
+    s: usize,
+    x: Name,
+    y: Right,
+    out: &mut [u8],
+) -> Safety
     requires { ⌜ Asks (now b) n p s x y (wayOver (stateOf (now b)) (trustedBy trust) x) (now out) ⌝ }
     ensures { λ r. ⌜ Told (stateOf (now (b .entry))) s x y (wayOver (stateOf (now (b .entry))) (trustedBy trust) x) (now (out .entry)) (now (out .exit)) r ⌝ }
 {
@@ -104,7 +142,16 @@ fn over(b: &[u8], n: usize, p: usize, trust: u64, s: usize, x: Name, y: Right, o
 }
 
 // The answer where x is absent.
-fn made(b: &[u8], n: usize, p: usize, trust: u64, s: usize, x: Name, y: Right, out: &mut [u8]) -> Safety
+fn made(
+    b: &[u8],
+    n: usize,
+    p: usize,
+    trust: u64,
+    s: usize,
+    x: Name,
+    y: Right,
+    out: &mut [u8],
+) -> Safety
     requires { ⌜ Asks (now b) n p s x y (wayMade (stateOf (now b)) (trustedBy trust)) (now out) ⌝ }
     ensures { λ r. ⌜ Told (stateOf (now (b .entry))) s x y (wayMade (stateOf (now (b .entry))) (trustedBy trust)) (now (out .entry)) (now (out .exit)) r ⌝ }
 {
@@ -116,7 +163,16 @@ fn made(b: &[u8], n: usize, p: usize, trust: u64, s: usize, x: Name, y: Right, o
 }
 
 // The answer to a question on a valid record.
-fn decide(b: &[u8], n: usize, p: usize, trust: u64, s: usize, x: Name, y: Right, out: &mut [u8]) -> Safety
+fn decide(
+    b: &[u8],
+    n: usize,
+    p: usize,
+    trust: u64,
+    s: usize,
+    x: Name,
+    y: Right,
+    out: &mut [u8],
+) -> Safety
     requires { ⌜ Asks (now b) n p s x y (wayOf (stateOf (now b)) (trustedBy trust) s x y) (now out) ⌝ }
     ensures { λ r. ⌜ Told (stateOf (now (b .entry))) s x y (wayOf (stateOf (now (b .entry))) (trustedBy trust) s x y) (now (out .entry)) (now (out .exit)) r ⌝ }
 {

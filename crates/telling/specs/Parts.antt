@@ -1,7 +1,7 @@
 -- What writing the parts of a list asks of the caller, and the rooms for their commands.
 use Prim.Native.Nat.{ℕ, _+_, _≤_, _<_}
 use native.Mathlib.Omega.{arith}
-use mathlib.Core.Path.{_≡_, refl, sym, _∙_, ap}
+use mathlib.Core.Path.{_≡_, refl, sym, _∙_, ap, subst}
 use mathlib.Core.Bool.{Bool, true, false, cond, _&&_, _||_}
 use lib.Dec.{eqb}
 use mathlib.Core.List.{List, [], _∷_}
@@ -69,9 +69,22 @@ pub part-after : {out out′ : List ℕ} {j r v s : ℕ} {x : Name} {y : Right} 
 part-after k m q a few =
     record { room = fits-after k m (q .room) few a; by = q .by; to = q .to; over = q .over; number = q .number }
 
-pub after-again : {out out′ : List ℕ} {j r v s : ℕ} {x : Name} {y : Right} (t : Bool) (w m : ℕ) → Part out j (2 + m) v s x y
-    → Tells out out′ j (cond t (destroys v w ∷ creates v w ∷ []) []) r → Part out′ r m v s x y
-after-again {v = v} t w m q a = part-after 2 m q a (few-chosen t (destroys v w ∷ creates v w ∷ []))
+pub pair-over : {out : List ℕ} {j v s o : ℕ} {x : Name} {y : Right} (k m : ℕ) → Part out j (k + m) v s x y → o ≡ columnOf x → Pair out j k v o
+pair-over k m q e =
+    record { room = record { fits = omega (arith, q .room .fits) }; by = omega (arith, q .by); about = omega (arith, q .over, e) }
+
+-- where o is made again, the room for that, and what it leaves
+pub again-pair : {out : List ℕ} {j v s o : ℕ} {x : Name} {y : Right} (t : Bool) → Part out j (cond t 4 2) v s x y → o ≡ columnOf x → Pair out j (cond t 2 0) v o
+again-pair true q e = pair-over 2 2 q e
+again-pair false q e = pair-over 0 2 q e
+
+pub pair-chosen : {out : List ℕ} {j v w : ℕ} {t : Bool} → t ≡ true → Pair out j (cond t 2 0) v w → Pair out j 2 v w
+pair-chosen {out} {j} {v} {w} e q = subst (λ (t : Bool). Pair out j (cond t 2 0) v w) e q
+
+pub after-again : {out out′ : List ℕ} {j r v s : ℕ} {x : Name} {y : Right} (t : Bool) (w : ℕ) → Part out j (cond t 4 2) v s x y
+    → Tells out out′ j (cond t (destroys v w ∷ creates v w ∷ []) []) r → Part out′ r 2 v s x y
+after-again true w q a = part-after 2 2 q a (omega arith)
+after-again false w q a = part-after 0 2 q a (omega arith)
 
 pub after-created : {out out′ : List ℕ} {j r v s : ℕ} {x : Name} {y : Right} (t : Bool) (m : ℕ) → Part out j (1 + m) v s x y
     → Tells out out′ j (cond t (creates v s ∷ []) []) r → Part out′ r m v s x y
@@ -81,10 +94,6 @@ after-created {v = v} {s} t m q a = part-after 1 m q a (few-chosen t (creates v 
 pub pair-to : {out : List ℕ} {j v s : ℕ} {x : Name} {y : Right} (k m : ℕ) → Part out j (k + m) v s x y → Pair out j k v s
 pair-to k m q =
     record { room = record { fits = omega (arith, q .room .fits) }; by = omega (arith, q .by); about = omega (arith, q .to) }
-
-pub pair-over : {out : List ℕ} {j v s o : ℕ} {x : Name} {y : Right} (k m : ℕ) → Part out j (k + m) v s x y → o ≡ columnOf x → Pair out j k v o
-pair-over k m q e =
-    record { room = record { fits = omega (arith, q .room .fits) }; by = omega (arith, q .by); about = omega (arith, q .over, e) }
 
 -- ---- the fields
 

@@ -105,7 +105,7 @@ fn put_create(out: &mut [u8], j: usize, v: usize, w: usize) -> usize
 
 // v destroys subject w and creates it again, where it is to be made again.
 fn put_again(out: &mut [u8], j: usize, v: usize, w: usize, again: bool) -> usize
-    requires { ⌜ Pair (now out) j 2 v w ⌝ }
+    requires { ⌜ Pair (now out) j (cond again 2 0) v w ⌝ }
     ensures { λ r. ⌜ Tells (now (out .entry)) (now (out .exit)) j (cond again (destroys v w ∷ creates v w ∷ []) []) r ⌝ }
 {
     if again {
@@ -137,7 +137,7 @@ pub fn put_finish(
     absent: bool,
     again: bool,
 ) -> usize
-    requires { ⌜ Part (now out) j 4 v s x y ⌝ }
+    requires { ⌜ Part (now out) j (cond again 4 2) v s x y ⌝ }
     ensures { λ r. ⌜ Tells (now (out .entry)) (now (out .exit)) j (finish v s x y absent again) r ⌝ }
 {
     let o = states::column_of(x);
@@ -217,7 +217,7 @@ pub fn put_creation(
     absent: bool,
     held: bool,
 ) -> usize
-    requires { ⌜ Part (now out) 0 5 v s x y ⌝ }
+    requires { ⌜ Part (now out) 0 3 v s x y ⌝ }
     ensures { λ r. ⌜ Tells (now (out .entry)) (now (out .exit)) 0 (createsName v x ∷ cond held [] (finish v s x y absent false)) r ⌝ }
 {
     let next = put_name(out, v, x);

@@ -8,7 +8,7 @@ use Rattle.telling.proofs.put_creation.Statement.{statement}
 use Rattle.telling.proofs.put_creation.Tie as tie
 
 put-name-requires : tie.Need-put-name-requires
-put-name-requires c κs = pair-over 1 4 (c .before .before .pre) refl
+put-name-requires c κs = pair-over 1 2 (c .before .before .pre) refl
 
 same-length : tie.Need-same-length
 same-length c = search needs
@@ -17,7 +17,7 @@ returns : tie.Need-returns
 returns c = tells-only _ (c .if1 .taken) (c .before .before .before .put-name .ensures)
 
 put-finish-requires : tie.Need-put-finish-requires
-put-finish-requires c κs = part-after 1 4 (c .before .before .before .before .before .before .before .pre) (c .before .before .before .before .put-name .ensures) (omega arith)
+put-finish-requires c κs = part-after 1 2 (c .before .before .before .before .before .before .before .pre) (c .before .before .before .before .put-name .ensures) (omega arith)
 
 same-length-2 : tie.Need-same-length-2
 same-length-2 c = search needs
