@@ -1,3 +1,4 @@
 pub mod Asks
 pub mod Steps
 pub mod Turned
+pub mod Tellings

@@ -73,27 +73,41 @@ pub pair-over : {out : List ℕ} {j v s o : ℕ} {x : Name} {y : Right} (k m : �
 pair-over k m q e =
     record { room = record { fits = omega (arith, q .room .fits) }; by = omega (arith, q .by); about = omega (arith, q .over, e) }
 
--- where o is made again, the room for that, and what it leaves
-pub again-pair : {out : List ℕ} {j v s o : ℕ} {x : Name} {y : Right} (t : Bool) → Part out j (cond t 4 2) v s x y → o ≡ columnOf x → Pair out j (cond t 2 0) v o
-again-pair true q e = pair-over 2 2 q e
-again-pair false q e = pair-over 0 2 q e
-
-pub pair-chosen : {out : List ℕ} {j v w : ℕ} {t : Bool} → t ≡ true → Pair out j (cond t 2 0) v w → Pair out j 2 v w
-pair-chosen {out} {j} {v} {w} e q = subst (λ (t : Bool). Pair out j (cond t 2 0) v w) e q
-
-pub after-again : {out out′ : List ℕ} {j r v s : ℕ} {x : Name} {y : Right} (t : Bool) (w : ℕ) → Part out j (cond t 4 2) v s x y
-    → Tells out out′ j (cond t (destroys v w ∷ creates v w ∷ []) []) r → Part out′ r 2 v s x y
-after-again true w q a = part-after 2 2 q a (omega arith)
-after-again false w q a = part-after 0 2 q a (omega arith)
+-- a room for commands about s, and about x
+pub pair-to : {out : List ℕ} {j v s : ℕ} {x : Name} {y : Right} (k m : ℕ) → Part out j (k + m) v s x y → Pair out j k v s
+pair-to k m q =
+    record { room = record { fits = omega (arith, q .room .fits) }; by = omega (arith, q .by); about = omega (arith, q .to) }
 
 pub after-created : {out out′ : List ℕ} {j r v s : ℕ} {x : Name} {y : Right} (t : Bool) (m : ℕ) → Part out j (1 + m) v s x y
     → Tells out out′ j (cond t (creates v s ∷ []) []) r → Part out′ r m v s x y
 after-created {v = v} {s} t m q a = part-after 1 m q a (few-chosen t (creates v s ∷ []))
 
--- a room for commands about s, and about x
-pub pair-to : {out : List ℕ} {j v s : ℕ} {x : Name} {y : Right} (k m : ℕ) → Part out j (k + m) v s x y → Pair out j k v s
-pair-to k m q =
-    record { room = record { fits = omega (arith, q .room .fits) }; by = omega (arith, q .by); about = omega (arith, q .to) }
+-- where o is made again and s is created, the room for each, and what it leaves
+pub pair-chosen : {out : List ℕ} {j k v w : ℕ} {t : Bool} → t ≡ true → Pair out j (cond t k 0) v w → Pair out j k v w
+pair-chosen {out} {j} {k} {v} {w} e q = subst (λ (t : Bool). Pair out j (cond t k 0) v w) e q
+
+pub pair-weak : {out : List ℕ} {j v w : ℕ} (t : Bool) → Pair out j 1 v w → Pair out j (cond t 1 0) v w
+pair-weak true q = q
+pair-weak false q = record { room = record { fits = omega (arith, q .room .fits) }; by = q .by; about = q .about }
+
+pub part-weak : {out : List ℕ} {j v s : ℕ} {x : Name} {y : Right} (t : Bool) → Part out j 2 v s x y → Part out j (cond false 2 0 + cond t 2 1) v s x y
+part-weak true q = q
+part-weak false q =
+    record { room = record { fits = omega (arith, q .room .fits) }; by = q .by; to = q .to; over = q .over; number = q .number }
+
+pub after-again : {out out′ : List ℕ} {j r v s : ℕ} {x : Name} {y : Right} (t u : Bool) (w : ℕ) → Part out j (cond t 2 0 + cond u 2 1) v s x y
+    → Tells out out′ j (cond t (destroys v w ∷ creates v w ∷ []) []) r → Part out′ r (cond u 2 1) v s x y
+after-again true u w q a = part-after 2 (cond u 2 1) q a (omega arith)
+after-again false u w q a = part-after 0 (cond u 2 1) q a (omega arith)
+
+pub creating-pair : {out : List ℕ} {j v s : ℕ} {x : Name} {y : Right} (u : Bool) → Part out j (cond u 2 1) v s x y → Pair out j (cond u 1 0) v s
+creating-pair true q = pair-to 1 1 q
+creating-pair false q = pair-to 0 1 q
+
+pub after-creating : {out out′ : List ℕ} {j r v s : ℕ} {x : Name} {y : Right} (u : Bool) → Part out j (cond u 2 1) v s x y
+    → Tells out out′ j (cond u (creates v s ∷ []) []) r → Part out′ r 1 v s x y
+after-creating true q a = part-after 1 1 q a (omega arith)
+after-creating false q a = part-after 0 1 q a (omega arith)
 
 -- ---- the fields
 

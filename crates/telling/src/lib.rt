@@ -8,7 +8,7 @@ ghost use mathlib.Core.Path.{_≡_};
 ghost use mathlib.Core.Bool.{cond, false, _&&_};
 ghost use mathlib.Core.List.{[], _∷_, _++_};
 ghost use lib.Dec.{eqb};
-ghost use Prim.Native.Nat.{_≤_, _<_};
+ghost use Prim.Native.Nat.{_+_, _≤_, _<_};
 ghost use Rattle.matrix.specs.Names.{columnOf};
 ghost use Rattle.route.specs.Parts.{destroys, creates, createsName, givingCode, basicNumber, gives, finish, destroysAll, among};
 ghost use Rattle.ways.specs.Ways.{isOwn, passesRight, madeHeld};
@@ -117,7 +117,7 @@ fn put_again(out: &mut [u8], j: usize, v: usize, w: usize, again: bool) -> usize
 
 // v creates subject s, where it is absent.
 fn put_created(out: &mut [u8], j: usize, v: usize, s: usize, absent: bool) -> usize
-    requires { ⌜ Pair (now out) j 1 v s ⌝ }
+    requires { ⌜ Pair (now out) j (cond absent 1 0) v s ⌝ }
     ensures { λ r. ⌜ Tells (now (out .entry)) (now (out .exit)) j (cond absent (creates v s ∷ []) []) r ⌝ }
 {
     if absent {
@@ -137,7 +137,7 @@ pub fn put_finish(
     absent: bool,
     again: bool,
 ) -> usize
-    requires { ⌜ Part (now out) j (cond again 4 2) v s x y ⌝ }
+    requires { ⌜ Part (now out) j (cond again 2 0 + cond absent 2 1) v s x y ⌝ }
     ensures { λ r. ⌜ Tells (now (out .entry)) (now (out .exit)) j (finish v s x y absent again) r ⌝ }
 {
     let o = states::column_of(x);

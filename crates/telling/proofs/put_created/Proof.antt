@@ -1,11 +1,12 @@
 -- `telling::put_created` meets its contract.
 use Rattle.telling.specs.Tells.{tells-skipped, tells-chosen}
+use Rattle.telling.specs.Parts.{pair-chosen}
 use borrow.Author.Needs.{needs}
 use Rattle.telling.proofs.put_created.Statement.{statement}
 use Rattle.telling.proofs.put_created.Tie as tie
 
 put-create-requires : tie.Need-put-create-requires
-put-create-requires c κs = c .before .before .before .pre
+put-create-requires c κs = pair-chosen (c .before .if1 .taken) (c .before .before .before .pre)
 
 same-length : tie.Need-same-length
 same-length c = search needs

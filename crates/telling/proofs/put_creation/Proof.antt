@@ -2,7 +2,7 @@
 use native.Mathlib.Omega.{arith}
 use mathlib.Core.Path.{refl}
 use Rattle.telling.specs.Tells.{tells-only, tells-more}
-use Rattle.telling.specs.Parts.{part-after, pair-over}
+use Rattle.telling.specs.Parts.{part-after, part-weak, pair-over}
 use borrow.Author.Needs.{needs}
 use Rattle.telling.proofs.put_creation.Statement.{statement}
 use Rattle.telling.proofs.put_creation.Tie as tie
@@ -17,7 +17,7 @@ returns : tie.Need-returns
 returns c = tells-only _ (c .if1 .taken) (c .before .before .before .put-name .ensures)
 
 put-finish-requires : tie.Need-put-finish-requires
-put-finish-requires c κs = part-after 1 2 (c .before .before .before .before .before .before .before .pre) (c .before .before .before .before .put-name .ensures) (omega arith)
+put-finish-requires c κs = part-weak (c .before .before .before .before .before .before .before .args .absent) (part-after 1 2 (c .before .before .before .before .before .before .before .pre) (c .before .before .before .before .put-name .ensures) (omega arith))
 
 same-length-2 : tie.Need-same-length-2
 same-length-2 c = search needs

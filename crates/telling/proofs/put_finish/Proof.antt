@@ -1,6 +1,8 @@
 -- `telling::put_finish` meets its contract: the three parts of the definition one after another.
 use Rattle.telling.specs.Tells.{tells-then}
-use Rattle.telling.specs.Parts.{after-again, after-created, pair-to, again-pair, tells-again}
+use Prim.Native.Nat.{_+_}
+use mathlib.Core.Bool.{cond}
+use Rattle.telling.specs.Parts.{pair-over, creating-pair, after-again, after-creating, tells-again}
 use borrow.Author.Needs.{needs}
 use Rattle.telling.proofs.put_finish.Statement.{statement}
 use Rattle.telling.proofs.put_finish.Tie as tie
@@ -9,13 +11,17 @@ column-of-requires : tie.Need-column-of-requires
 column-of-requires c κs = search needs
 
 put-again-requires : tie.Need-put-again-requires
-put-again-requires c κs = again-pair (c .before .before .before .args .again) (c .before .before .before .pre) (c .before .column-of .ensures)
+put-again-requires c κs = pair-over (cond (c .before .before .before .args .again) 2 0) (cond (c .before .before .before .args .absent) 2 1) (c .before .before .before .pre) (c .before .column-of .ensures)
 
 put-created-requires : tie.Need-put-created-requires
-put-created-requires c κs = pair-to 1 1 (after-again (c .before .before .before .before .before .before .before .args .again) (c .before .before .before .before .before .column-of .result) (c .before .before .before .before .before .before .before .pre) (c .before .before .before .put-again .ensures))
+put-created-requires c κs =
+    let a = c .before .before .before .before .before .before .before .args in
+    creating-pair (a .absent) (after-again (a .again) (a .absent) (c .before .before .before .before .before .column-of .result) (c .before .before .before .before .before .before .before .pre) (c .before .before .before .put-again .ensures))
 
 put-gift-requires : tie.Need-put-gift-requires
-put-gift-requires c κs = after-created (c .before .before .before .before .before .before .before .before .before .before .before .args .absent) 1 (after-again (c .before .before .before .before .before .before .before .before .before .before .before .args .again) (c .before .before .before .before .before .before .before .before .before .column-of .result) (c .before .before .before .before .before .before .before .before .before .before .before .pre) (c .before .before .before .before .before .before .before .put-again .ensures)) (c .before .before .before .put-created .ensures)
+put-gift-requires c κs =
+    let a = c .before .before .before .before .before .before .before .before .before .before .before .args in
+    after-creating (a .absent) (after-again (a .again) (a .absent) (c .before .before .before .before .before .before .before .before .before .column-of .result) (c .before .before .before .before .before .before .before .before .before .before .before .pre) (c .before .before .before .before .before .before .before .put-again .ensures)) (c .before .before .before .put-created .ensures)
 
 same-length : tie.Need-same-length
 same-length c = search needs
