@@ -25,11 +25,16 @@ star-trusted u h f = ap (λ (e : Bool). not e && u) (sym f ∙ h)
 pub star-tested : {t e u : Bool} → t ≡ false → t ≡ e → (u₁ : Bool) → u ≡ u₁ → (not e && u₁) ≡ u
 star-tested h f u₁ g = ap (λ (e : Bool). not e && u₁) (sym f ∙ h) ∙ sym g
 
+-- for a right that is known
+pub star-is : (S : State) (trusted : ℕ → Bool) (x : Name) (n : ℕ) {y y₁ : Right} → y ≡ y₁
+    → least n (starHolder S trusted x y) ≡ least n (starHolder S trusted x y₁)
+star-is S trusted x n e = ap (λ (y : Right). least n (starHolder S trusted x y)) e
+
 -- a right that has no star
 pub no-star : (S : State) (trusted : ℕ → Bool) (x : Name) {y : Right} (y₁ : Right) (n : ℕ) → y ≡ y₁ → ((v : ℕ) → hasStar S y₁ v x ≡ false)
     → n ≡ least n (starHolder S trusted x y)
 no-star S trusted x y₁ n e h =
-    sym (ap (λ (y : Right). least n (starHolder S trusted x y)) e
+    sym (star-is S trusted x n e
     ∙ least-none n (starHolder S trusted x y₁)
     (none-any n (starHolder S trusted x y₁) (λ v l. ap (λ (u : Bool). not (trusted v) && u) (h v) ∙ none (trusted v))))
   where

@@ -1,13 +1,10 @@
 -- `climbing::star_holder` meets its contract: each arm is a case of the definition.
-use mathlib.Core.Path.{refl, sym, _∙_, ap}
-use Rattle.matrix.specs.declared.Right.{Right}
+use mathlib.Core.Path.{refl, sym, _∙_}
 use Rattle.matrix.specs.declared.Right.the-variants.{Own, Control}
-use Rattle.matrix.specs.Bounded.{least}
 use Rattle.matrix.specs.Reading.{stateOf}
 use Rattle.states.specs.Reads.{basic-small}
 use Rattle.question.specs.Trust.{trustedBy}
-use Rattle.ways.specs.Ways.{starHolder}
-use Rattle.climbing.specs.Targets.{no-star}
+use Rattle.climbing.specs.Targets.{no-star, star-is}
 use borrow.Author.Needs.{needs}
 use Rattle.climbing.proofs.star_holder.Statement.{statement}
 use Rattle.climbing.proofs.star_holder.Tie as tie
@@ -33,9 +30,7 @@ returns-2 c =
     let z = c .before .before .before .args in no-star (stateOf (z .b .now)) (trustedBy (z .trust)) (z .x) Control _ (c .enum-told2 .given .1) (λ v. refl)
 
 returns-3 : tie.Need-returns-3
-returns-3 c =
-    let z = c .before .before .before .before .before .args in
-    c .star-row .ensures ∙ sym (ap (λ (y : Right). least (z .n) (starHolder (stateOf (z .b .now)) (trustedBy (z .trust)) (z .x) y)) (c .before .before .y .given .1))
+returns-3 c = c .star-row .ensures ∙ sym (star-is (stateOf (c .before .before .before .before .before .args .b .now)) (trustedBy (c .before .before .before .before .before .args .trust)) (c .before .before .before .before .before .args .x) _ (c .before .before .y .given .1))
 
 pub star-holder-spec : {M : Type 1} → statement M
 star-holder-spec =
