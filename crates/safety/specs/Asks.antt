@@ -1,5 +1,5 @@
 -- What the functions that tell a way ask of their caller.
-use Prim.Native.Nat.{ℕ, _≤_, _<_}
+use Prim.Native.Nat.{ℕ, _+_, _≤_, _<_}
 use mathlib.Core.Path.{_≡_}
 use mathlib.Core.List.{List}
 use lib.ListN.{length}
@@ -12,13 +12,13 @@ use Rattle.question.specs.declared.Safety.{Safety}
 use Rattle.question.specs.declared.Safety.the-variants.{Leaks}
 use Rattle.question.specs.Asked.{listRoom}
 use Rattle.ways.specs.Ways.{Way, listOf}
-use Rattle.writing.specs.Put.{mostCommands, putHead}
+use Rattle.writing.specs.Put.{putHead}
 
--- a question of the record's names and rights, with room for the list of the way w
+-- a question of the record's names and rights, with room for n + 2 commands, which are enough for the list of the way w
 pub record Asks (b : List ℕ) (n p s : ℕ) (x : Name) (y : Right) (w : Way) (out : List ℕ) : Type 0 where
   pub bit : BitIn b n p y s x
-  pub few : length (listOf (stateOf b) s x y w) ≤ mostCommands
-  pub room : listRoom (length (listOf (stateOf b) s x y w)) ≤ length out
+  pub few : length (listOf (stateOf b) s x y w) ≤ n + 2
+  pub room : listRoom (n + 2) ≤ length out
 
 -- the head is written over the list, and leaks is answered
 pub record Headed (out out′ : List ℕ) (k : ℕ) (r : Safety) : Type 0 where

@@ -21,8 +21,12 @@ use Rattle.question.specs.declared.Safety.the-variants.{Leaks}
 use Rattle.safe.specs.Possible.{possible}
 use Rattle.ways.specs.Ways.{Way, held-now, by-star, by-creation, from-above, no-way, starHolder, untrustedIn, wayOver, wayMade, wayOf, listOf}
 use Rattle.writing.specs.Put.{putAll, putHead, putList}
+use Rattle.climbing.specs.declared.Climbed.{Climbed}
+use Rattle.climbing.specs.declared.Climbed.the-variants.{At}
+use Rattle.climbing.specs.Climbs.{Climbs, climbedTo}
+use Rattle.ways.specs.Path.{listed}
 use Rattle.told.specs.Told.{Told}
-use Rattle.safety.specs.Asks.{Asks, Headed}
+use Rattle.safety.specs.Asks.{Asks, Headed, PathOf}
 
 -- the same question with another name for its way
 pub asks-at : {b : List ℕ} {n p s : ℕ} {x : Name} {y : Right} {v w : Way} {out : List ℕ} → v ≡ w → Asks b n p s x y v out → Asks b n p s x y w out
@@ -98,3 +102,14 @@ unfolding putList
 headed-list out cs e f h =
     let k = f ∙ zero-add (length cs) in
     (h .buffer ∙ ap₂ (λ (l : List ℕ) (m : ℕ). putHead l m) e k, h .reply ∙ ap Leaks k)
+
+-- the way over an existing name, from the search for a way up
+module _ {b : List ℕ} {n : ℕ} {trusted : ℕ → Bool} {x : Name} {path : List ℕ} {r : Climbed} (h : Climbs b n trusted x path r) where
+  pub over-met : {v m : ℕ} → r ≡ At v m → wayOver (stateOf b) trusted x ≡ from-above v (listed path m)
+  over-met e = h .way ∙ ap (λ (r : Climbed). climbedTo path r) e
+
+  pub over-none : r ≡ Climbed.None → wayOver (stateOf b) trusted x ≡ no-way
+  over-none e = h .way ∙ ap (λ (r : Climbed). climbedTo path r) e
+
+  pub climbed-path : {v m : ℕ} → r ≡ At v m → PathOf path n v m
+  climbed-path {v} {m} e = record { size = h .size; subject = h .found .subject v m e; passed = h .found .passed v m e }

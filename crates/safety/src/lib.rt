@@ -11,6 +11,7 @@ ghost use lib.ListN.{length};
 ghost use Rattle.matrix.specs.Names.{sameName};
 ghost use Rattle.matrix.specs.State.{exists};
 ghost use Rattle.matrix.specs.Reading.{stateOf};
+ghost use Rattle.cells.specs.Station.{Station};
 ghost use Rattle.states.specs.Needs.{BitIn};
 ghost use Rattle.question.specs.Trust.{trustedBy};
 ghost use Rattle.question.specs.Asked.{Answers};
@@ -54,12 +55,15 @@ fn still_absent(b: &[u8], n: usize, p: usize, s: usize, x: Name) -> bool
     requires { ⌜ Station (now b) n p × (s < n) ⌝ }
     ensures { λ t. ⌜ t ≡ not (sameName (Name.Subject s) x || exists (stateOf (now (b .entry))) s) ⌝ }
 {
-    if let Name::Subject(w) = x {
-        if s == w {
-            return false;
+    match x {
+        Name::Subject(w) => {
+            if s == w {
+                return false;
+            }
+            !states::subject_exists(b, n, p, s)
         }
+        Name::Plain(_) => !states::subject_exists(b, n, p, s),
     }
-    !states::subject_exists(b, n, p, s)
 }
 
 // The list of an untrusted subject v that creates x.
