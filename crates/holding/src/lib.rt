@@ -52,7 +52,7 @@ pub fn right_of(code: usize) -> Right
 }
 
 // Whether the numbers of a question are those of a row, a column and a right of the record.
-fn question_fits(n: usize, p: usize, s: usize, o: usize, right: usize) -> bool
+pub fn question_fits(n: usize, p: usize, s: usize, o: usize, right: usize) -> bool
     requires { ⌜ (n ≤ mostSubjects) × (p ≤ mostPlain) ⌝ }
     ensures { λ t. ⌜ t ≡ withinQuestion n p s o right ⌝ }
 {

@@ -37,7 +37,7 @@ use Rattle.safety.specs.Asks.{Asks, Headed, PathOf}
 use Rattle.safety.specs.Steps.{headed-list}
 
 -- the number of a basic right is called by two names
-same-basic : (y : Right) → basicNumber y ≡ basicOf y
+pub same-basic : (y : Right) → basicNumber y ≡ basicOf y
 same-basic Right.Own = refl
 same-basic Right.Control = refl
 same-basic (Right.Basic k f) = refl

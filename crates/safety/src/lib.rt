@@ -5,14 +5,16 @@ use matrix::Name;
 use matrix::Right;
 use question::Safety;
 ghost use mathlib.Core.Path.{_≡_};
-ghost use mathlib.Core.Bool.{not, _||_};
-ghost use Prim.Native.Nat.{_<_};
+ghost use mathlib.Core.Bool.{not, _&&_, _||_};
+ghost use Prim.Native.Nat.{_^_, _≤_, _<_};
+ghost use lib.Dec.{ltb};
 ghost use lib.ListN.{length};
 ghost use Rattle.matrix.specs.Names.{sameName};
 ghost use Rattle.matrix.specs.State.{exists};
 ghost use Rattle.matrix.specs.Reading.{stateOf};
 ghost use Rattle.cells.specs.Station.{Station};
-ghost use Rattle.states.specs.Needs.{BitIn};
+ghost use Rattle.matrix.specs.Shape.{mostSubjects, mostPlain};
+ghost use Rattle.holding.specs.Held.{withinQuestion};
 ghost use Rattle.question.specs.Trust.{trustedBy};
 ghost use Rattle.question.specs.Asked.{Answers};
 ghost use Rattle.route.specs.Parts.{among};
@@ -194,4 +196,36 @@ fn decide(
         return over(b, n, p, trust, s, x, y, out);
     }
     made(b, n, p, trust, s, x, y, out)
+}
+
+// Whether the numbers of a question are within the bounds of a record.
+fn within_bounds(n: usize, p: usize, trust: u64, s: usize, o: usize, right: usize) -> bool
+    requires { ⌜ (n ≤ mostSubjects) × (p ≤ mostPlain) ⌝ }
+    ensures { λ t. ⌜ t ≡ (withinQuestion n p s o right && ltb trust (2 ^ n)) ⌝ }
+{
+    if holding::question_fits(n, p, s, o, right) {
+        return masks::trust_fits(trust, n);
+    }
+    false
+}
+
+// The safety question on any bytes and numbers.
+pub fn ask(b: &[u8], trust: u64, s: usize, o: usize, right: usize, out: &mut [u8]) -> Safety
+    ensures { λ r. ⌜ Answers (now (b .entry)) trust s o right (now (out .entry)) (now (out .exit)) r ⌝ }
+{
+    let turned = validity::refusal(b);
+    if turned != 0 {
+        return Safety::Refused(turned);
+    }
+    let n = opening::byte(b, 5);
+    let p = opening::byte(b, 6);
+    if !within_bounds(n, p, trust, s, o, right) {
+        return Safety::Refused(7);
+    }
+    if out.len() < 5 + 6 * (n + 2) {
+        return Safety::Refused(15);
+    }
+    let x = states::name_of(n, o);
+    let y = holding::right_of(right);
+    decide(b, n, p, trust, s, x, y, out)
 }

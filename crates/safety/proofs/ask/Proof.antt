@@ -1,0 +1,100 @@
+-- `safety::ask` meets its contract.
+use native.Mathlib.Omega.{arith}
+use mathlib.Core.Path.{_≡_, sym, _∙_}
+use borrow.Author.Tests.{not-true, not-false}
+use Rattle.matrix.specs.Record.{recordRefusal}
+use Rattle.matrix.specs.Shaped.{Octets}
+use Rattle.cells.specs.Station.{Station}
+use Rattle.cells.specs.Places.{subjects-few, plains-few}
+use Rattle.opening.specs.Opened.{station-of, long-enough}
+use Rattle.question.specs.Trust.{trustedBy}
+use Rattle.safety.specs.Turned.{turned-record}
+use Rattle.safety.specs.Whole.{asks-of, unfit, no-room, bit-asked, answered}
+use borrow.Author.Needs.{needs}
+use Rattle.safety.proofs.ask.Statement.{statement}
+use Rattle.safety.proofs.ask.Tie as tie
+
+refusal-requires : tie.Need-refusal-requires
+refusal-requires c κs = search needs
+
+-- where the record is not turned down
+right : (c : tie.Else1) → recordRefusal (c .before .before .before .before .args .b .now) ≡ 0
+right c = sym (c .before .refusal .ensures) ∙ c .if1 .left
+
+octets : (c : tie.Else1) → Octets (c .before .before .before .before .args .b .now)
+octets c = record { octet = λ j. c .before .before .before .shared-slice-known .given j .fits }
+
+opened : (c : tie.After-byte2) → Station (c .before .before .before .before .before .before .args .b .now) (c .before .byte .result) (c .byte2 .result)
+opened c = station-of (octets (c .before .before)) (right (c .before .before)) (c .before .byte .ensures) (c .byte2 .ensures)
+
+returns : tie.Need-returns
+returns c = turned-record _ _ _ _ _ _ (c .before .refusal .ensures) (c .if1 .taken)
+
+byte-requires : tie.Need-byte-requires
+byte-requires c κs = omega (arith, long-enough _ (right c))
+
+byte-requires-2 : tie.Need-byte-requires-2
+byte-requires-2 c κs = omega (arith, long-enough _ (right (c .before)))
+
+within-bounds-requires : tie.Need-within-bounds-requires
+within-bounds-requires c κs = (subjects-few _ _ _ (opened c), plains-few _ _ _ (opened c))
+
+returns-2 : tie.Need-returns-2
+returns-2 c =
+    let a = c .before .before .before .before .before .before .before .before .args in
+    unfit (right (c .before .before .before .before)) (opened (c .before .before)) (a .trust) (a .s) (a .o) (a .right) (a .out .now) (c .before .within-bounds .ensures) (not-true _ (c .if2 .taken))
+
+add-if3 : tie.Need-add-if3
+add-if3 c = omega (arith, subjects-few _ _ _ (opened (c .before .before)))
+
+mul-if3 : tie.Need-mul-if3
+mul-if3 c = omega (arith, subjects-few _ _ _ (opened (c .before .before)))
+
+add-if3-2 : tie.Need-add-if3-2
+add-if3-2 c = omega (arith, subjects-few _ _ _ (opened (c .before .before)))
+
+returns-3 : tie.Need-returns-3
+returns-3 c =
+    let a = c .before .before .before .before .before .before .before .before .before .args in
+    no-room (right (c .before .before .before .before .before)) (opened (c .before .before .before)) (a .trust) (a .s) (a .o) (a .right) (a .out .now) (c .before .before .within-bounds .ensures) (not-false _ (c .before .if2 .left)) (c .if3 .taken)
+
+name-of-requires : tie.Need-name-of-requires
+name-of-requires c κs = search needs
+
+right-of-requires : tie.Need-right-of-requires
+right-of-requires c κs = search needs
+
+decide-requires : tie.Need-decide-requires
+decide-requires c κs =
+    let a = c .before .before .before .before .before .before .before .before .before .before .before .before .args in
+    asks-of (right (c .before .before .before .before .before .before .before .before)) (opened (c .before .before .before .before .before .before)) (trustedBy (a .trust))
+    (bit-asked (right (c .before .before .before .before .before .before .before .before)) (opened (c .before .before .before .before .before .before)) (a .trust) (a .s) (a .o) (a .right) (a .out .now) (c .before .before .before .before .before .within-bounds .ensures) (not-false _ (c .before .before .before .before .if2 .left)) (c .before .before .name-of .ensures) (c .before .right-of .ensures) (c .before .before .before .if3 .left))
+    (c .before .before .before .if3 .left)
+
+same-length : tie.Need-same-length
+same-length c = search needs
+
+returns-4 : tie.Need-returns-4
+returns-4 c =
+    let a = c .before .before .before .before .before .before .before .before .before .before .before .before .before .before .before .args in
+    answered (right (c .before .before .before .before .before .before .before .before .before .before .before)) (opened (c .before .before .before .before .before .before .before .before .before)) (a .trust) (a .s) (a .o) (a .right) (a .out .now) (c .before .before .before .before .before .before .before .before .within-bounds .ensures) (not-false _ (c .before .before .before .before .before .before .before .if2 .left)) (c .before .before .before .before .before .name-of .ensures) (c .before .before .before .before .right-of .ensures) (c .before .before .before .before .before .before .if3 .left) (c .before .before .decide .ensures)
+
+pub ask-spec : {M : Type 1} → statement M
+ask-spec =
+    tie.close
+    (tie.spec
+    refusal-requires
+    returns
+    byte-requires
+    byte-requires-2
+    within-bounds-requires
+    returns-2
+    add-if3
+    mul-if3
+    add-if3-2
+    returns-3
+    name-of-requires
+    right-of-requires
+    decide-requires
+    same-length
+    returns-4)
