@@ -4,8 +4,10 @@ use matrix::Answer;
 use matrix::Fields;
 use matrix::Holding;
 use matrix::Outcome;
+use question::Safety;
 ghost use mathlib.Core.Path.{_≡_};
 ghost use Rattle.matrix.specs.Calls.{validAnswer, heldAnswer, commandAnswer, commandBytes, runAnswer, runBytes};
+ghost use Rattle.question.specs.Asked.{Answers};
 ghost use Rattle.station.specs.Given.{fieldsOf};
 
 // Whether a record is valid.
@@ -70,4 +72,11 @@ pub fn run(b: &mut [u8], l: &[u8]) -> Outcome
     let n = opening::byte(b, 5);
     let p = opening::byte(b, 6);
     runs::run_on(b, n, p, l)
+}
+
+// The safety question: safe, or leaks by a list that is written at the start of `out`, or refused by a number.
+pub fn safety(b: &[u8], trust: u64, s: u64, o: u64, right: u64, out: &mut [u8]) -> Safety
+    ensures { λ r. ⌜ Answers (now (b .entry)) trust s o right (now (out .entry)) (now (out .exit)) r ⌝ }
+{
+    safety::ask(b, trust, s as usize, o as usize, right as usize, out)
 }
