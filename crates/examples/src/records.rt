@@ -1,52 +1,92 @@
-// Rows 1 to 5: a record that every call but the validity call turns down.
-use crate::lines::ask_record;
-use crate::stations;
-ghost use Prim.Native.Nat.{_<_};
+// The records that are asked of: each a record of the paper, told by its length, with one byte replaced.
+use crate::lines::report;
+use crate::lines::say;
+use libc::STDOUT_FILENO;
+ghost use mathlib.Core.Path.{_≡_};
+ghost use Prim.Native.Nat.{_<_, _≤_};
+ghost use lib.ListN.{length};
+ghost use Rattle.io.specs.Counts.{Counts};
 
-// The calls that the others differ from: on A itself nothing is turned down.
-fn station_a() {
-    let mut b = stations::a();
-    ask_record(b"A", &stations::a(), &mut b);
-}
-
-fn row_1() {
-    let mut b = *b"\x01\x00\x00\x00\x04\x01";
-    ask_record(
-        b"row 1: 01 00 00 00 04 01",
-        b"\x01\x00\x00\x00\x04\x01",
-        &mut b,
-    );
-}
-
-// Station A with another byte at a place.
-fn changed(what: &[u8], at: usize, v: u8)
-    requires { ⌜ at < 31 ⌝ }
+// Station A, and one byte more. U owns 1, 1 owns 2 and 2 owns log 3.
+fn station_a() -> [u8; 32]
+    ensures { λ r. ⌜ 32 ≡ length r ⌝ }
 {
-    let before = stations::a_with(at, v);
-    let mut b = stations::a_with(at, v);
-    ask_record(what, &before, &mut b);
+    *b"\x01\x00\x00\x00\x1A\x03\x01\
+    \x00\x02\x00\x01\x00\x00\x00\x00\
+    \x00\x00\x00\x02\x00\x01\x00\x00\
+    \x00\x00\x00\x00\x00\x02\x00\x01\
+    \x00"
 }
 
-// Station A with another byte at a place, and one byte more.
-fn longer(what: &[u8], at: usize, v: u8)
+// Station B, and zeros. Only U exists.
+fn station_b() -> [u8; 32]
+    ensures { λ r. ⌜ 32 ≡ length r ⌝ }
+{
+    *b"\x01\x00\x00\x00\x0E\x02\x01\
+    \x00\x02\x00\x00\x00\x00\
+    \x00\x00\x00\x00\x00\x00\
+    \x00\x00\x00\x00\x00\x00\x00\x00\x00\x00\x00\x00\x00"
+}
+
+// The example of row 1, and zeros.
+fn six_bytes() -> [u8; 32]
+    ensures { λ r. ⌜ 32 ≡ length r ⌝ }
+{
+    let mut r = [0; 32];
+    r[0] = 1;
+    r[4] = 4;
+    r[5] = 1;
+    r
+}
+
+fn original(len: usize) -> [u8; 32]
+    ensures { λ r. ⌜ 32 ≡ length r ⌝ }
+{
+    if len == 6 {
+        return six_bytes();
+    }
+    if len == 19 {
+        return station_b();
+    }
+    station_a()
+}
+
+// The example of row 1 in its first 6 bytes, station B in its first 19, station A in its first 31, or in all 32 station A and one
+// byte more, each with another byte at a place. `Counts` is what lending those bytes asks.
+pub fn record(len: usize, at: usize, v: u8) -> [u8; 32]
     requires { ⌜ at < 32 ⌝ }
+    requires { ⌜ len ≤ 32 ⌝ }
+    ensures { λ r. ⌜ Counts len r ⌝ }
 {
-    let before = stations::a_longer_with(at, v);
-    let mut b = stations::a_longer_with(at, v);
-    ask_record(what, &before, &mut b);
+    let mut r = original(len);
+    r[at] = v;
+    r
 }
 
-pub fn all() {
-    station_a();
-    row_1();
-    changed(b"row 2: A, byte 0 = 02", 0, 2);
-    changed(b"row 3: A, byte 5 = 00", 5, 0);
-    longer(b"row 4: A and one byte more", 31, 0);
-    changed(b"row 5: A, byte 8 = 00", 8, 0);
-    longer(b"n and L wrong: A, byte 5 = 00, and one byte more", 5, 0);
-    longer(
-        b"L and matrix wrong: A, byte 8 = 00, and one byte more",
-        8,
-        0,
-    );
+fn say_station(len: usize) {
+    if len == 6 {
+        say(b": 01 00 00 00 04 01");
+    } else if len == 19 {
+        say(b": B");
+    } else if len == 31 {
+        say(b": A");
+    } else {
+        say(b": A and one byte more");
+    }
+}
+
+pub fn say_byte(at: usize, v: u8) {
+    report(b", byte ", at as u64);
+    say(b" = ");
+    io::print_hex(STDOUT_FILENO, v as u64, 2);
+}
+
+// The row, 0 where nothing is refused, and the record. Byte 0 of every original is 01, so it is given as replaced by 01 where no
+// byte is.
+pub fn say_record(row: u64, len: usize, at: usize, v: u8) {
+    report(b"row ", row);
+    say_station(len);
+    if at != 0 || v != 1 {
+        say_byte(at, v);
+    }
 }

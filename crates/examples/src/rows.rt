@@ -1,142 +1,172 @@
-// Rows 6 to 14: commands that are refused, and some that are accepted beside them.
+// Rows 1 to 14 of the refusal table, and commands that are accepted beside them.
 use crate::lines::ask_command;
 use crate::lines::ask_held;
-use crate::lines::ask_refused;
+use crate::lines::ask_run;
+use crate::lines::ask_valid;
 use crate::lines::compare;
-use crate::stations;
+use crate::lines::say;
+use crate::lines::say_equal;
+use crate::records::record;
+use crate::records::say_byte;
+use crate::records::say_record;
+ghost use Prim.Native.Nat.{_<_, _≤_};
 
-// A command that station A refuses.
-fn a_refuses(what: &[u8], code: u8, i: u8, s: u8, o: u8, k: u8) {
-    let mut b = stations::a();
-    ask_refused(what, &stations::a(), &mut b, code, i, s, o, k);
+// A command in a list of its own.
+fn ask_list(b: &mut [u8], code: u8, i: u8, s: u8, o: u8, k: u8) {
+    ask_run(b, &[1, 0, 0, 0, 6, 5, code, i, s, o, k]);
 }
 
-// A command that station B refuses.
-fn b_refuses(what: &[u8], code: u8, i: u8, s: u8, o: u8, k: u8) {
-    let mut b = stations::b();
-    ask_refused(what, &stations::b(), &mut b, code, i, s, o, k);
+// A command by itself.
+fn ask_alone(before: &[u8], b: &mut [u8], code: u64, i: u64, s: u64, o: u64, k: u64) {
+    ask_command(b, code, i, s, o, k);
+    compare(before, b);
 }
 
-fn table() {
-    a_refuses(b"row 6: A", 14, 0, 0, 0, 0);
-    a_refuses(b"row 7: A", 4, 0, 0, 4, 0);
-    b_refuses(b"row 8: B", 12, 1, 1, 0, 0);
-    a_refuses(b"row 9: A", 6, 2, 1, 3, 0);
-    b_refuses(b"row 10: B", 11, 0, 0, 2, 0);
-    a_refuses(b"row 11: A", 12, 0, 1, 0, 0);
-    a_refuses(b"row 12: A", 13, 0, 2, 0, 0);
-    a_refuses(b"row 13: A", 3, 0, 2, 1, 0);
+// A command by itself, and then in a list of its own.
+fn ask_both(before: &[u8], b: &mut [u8], code: u8, i: u8, s: u8, o: u8, k: u8) {
+    ask_alone(
+        before,
+        b,
+        code as u64,
+        i as u64,
+        s as u64,
+        o as u64,
+        k as u64,
+    );
+    say(b"; in a list");
+    ask_list(b, code, i, s, o, k);
+    compare(before, b);
+    say(b"\n");
 }
 
-// The bounds of refusal 7 on a held question.
-fn row_7_held() {
-    let b = stations::a();
-    ask_held(b"row 7: A", &b, 3, 0, 0);
-    ask_held(b"row 7: A", &b, 0, 4, 0);
-    ask_held(b"row 7: A", &b, 0, 0, 16);
+// Whether a record is valid, and whether a right is held.
+fn question(row: u64, len: usize, at: usize, v: u8, s: u64, o: u64, right: u64)
+    requires { ⌜ at < 32 ⌝ }
+    requires { ⌜ len ≤ 32 ⌝ }
+{
+    let b = record(len, at, v);
+    say_record(row, len, at, v);
+    ask_valid(&b[..len]);
+    ask_held(&b[..len], s, o, right);
+    say(b"\n");
 }
 
-// The first of the two sets control in the cell of row 0 and column 2, whose low byte is byte 12.
+// A command whose two answers leave the record as it was, or both change it in the same way.
+fn command(row: u64, len: usize, at: usize, v: u8, code: u8, i: u8, s: u8, o: u8, k: u8)
+    requires { ⌜ at < 32 ⌝ }
+    requires { ⌜ len ≤ 32 ⌝ }
+{
+    let before = record(len, at, v);
+    let mut b = record(len, at, v);
+    say_record(row, len, at, v);
+    ask_both(&before[..len], &mut b[..len], code, i, s, o, k);
+}
+
+// All that can be asked of a record: on A itself it is valid, subject 0 owns subject 1, and subject 1 may grant itself basic
+// right 0 over subject 2, which changes the record.
+fn all_of(row: u64, len: usize, at: usize, v: u8)
+    requires { ⌜ at < 32 ⌝ }
+    requires { ⌜ len ≤ 32 ⌝ }
+{
+    question(row, len, at, v, 0, 1, 0);
+    command(row, len, at, v, 4, 1, 1, 2, 0);
+}
+
+fn rows_1_to_5() {
+    all_of(0, 31, 0, 1);
+    all_of(1, 6, 0, 1);
+    all_of(2, 31, 0, 2);
+    all_of(3, 31, 5, 0);
+    all_of(4, 32, 0, 1);
+    all_of(5, 31, 8, 0);
+    // the lower of two numbers: n and L wrong, L and the matrix wrong
+    all_of(3, 32, 5, 0);
+    all_of(4, 32, 8, 0);
+}
+
+fn rows_6_to_13() {
+    command(6, 31, 0, 1, 14, 0, 0, 0, 0);
+    command(7, 31, 0, 1, 4, 0, 0, 4, 0);
+    command(8, 19, 0, 1, 12, 1, 1, 0, 0);
+    command(9, 31, 0, 1, 6, 2, 1, 3, 0);
+    command(10, 19, 0, 1, 11, 0, 0, 2, 0);
+    command(11, 31, 0, 1, 12, 0, 1, 0, 0);
+    command(12, 31, 0, 1, 13, 0, 2, 0, 0);
+    command(13, 31, 0, 1, 3, 0, 2, 1, 0);
+}
+
+// Row 7 of the held question, and commands.
+fn further() {
+    question(7, 31, 0, 1, 3, 0, 0);
+    question(7, 31, 0, 1, 0, 4, 0);
+    question(7, 31, 0, 1, 0, 0, 16);
+    // the lowest of several numbers: code 14 with i = 255, code 3 over an absent log, an absent i creating an existing s, and a
+    // walk that would meet o where i does not own o
+    command(6, 31, 0, 1, 14, 255, 0, 0, 0);
+    command(9, 31, 30, 0, 3, 1, 1, 3, 0);
+    command(8, 19, 0, 1, 12, 1, 0, 0, 0);
+    command(12, 31, 0, 1, 3, 1, 2, 1, 0);
+    // code 3 with s = o, and with s = i
+    command(13, 31, 0, 1, 3, 0, 1, 1, 0);
+    command(0, 31, 0, 1, 3, 1, 1, 2, 0);
+}
+
+// A number that a byte cannot hold is not cut to one that it can.
+fn large(row: u64, code: u64, i: u64, o: u64) {
+    let before = record(31, 0, 1);
+    let mut b = record(31, 0, 1);
+    say_record(row, 31, 0, 1);
+    ask_alone(&before[..31], &mut b[..31], code, i, 1, o, 0);
+    say(b"\n");
+}
+
+// A command, and whether s then holds a right over o.
+fn ask_then_held(b: &mut [u8], code: u64, i: u64, s: u64, o: u64, k: u64, right: u64) {
+    ask_command(b, code, i, s, o, k);
+    ask_held(b, s, o, right);
+}
+
+// A command on A with a byte v, after which A is to have the byte w there, and whether s then holds a right over o.
+fn changing(
+    row: u64,
+    at: usize,
+    v: u8,
+    w: u8,
+    code: u64,
+    i: u64,
+    s: u64,
+    o: u64,
+    k: u64,
+    right: u64,
+)
+    requires { ⌜ at < 32 ⌝ }
+{
+    let after = record(31, at, w);
+    let mut b = record(31, at, v);
+    say_record(row, 31, at, v);
+    ask_then_held(&mut b[..31], code, i, s, o, k, right);
+    say_byte(at, w);
+    say_equal(&after, &b);
+}
+
+// The first of the two commands gives subject 0 control over subject 2.
 fn row_14() {
-    let after = stations::a_with(12, 2);
-    let mut b = stations::a();
-    ask_command(b"row 14: A", &stations::a(), &mut b, 6, 1, 0, 2, 0);
-    compare(b"row 14: the record and A with byte 12 = 02", &b, &after);
-    ask_refused(b"row 14: again", &after, &mut b, 6, 1, 0, 2, 0);
+    changing(14, 12, 0x00, 0x02, 6, 1, 0, 2, 0, 1);
+    command(14, 31, 12, 0x02, 6, 1, 0, 2, 0);
 }
 
-// A number that a byte cannot hold is not cut.
-fn large() {
-    let mut b = stations::a();
-    ask_command(b"large: A", &stations::a(), &mut b, 4, 256, 0, 0, 0);
-    ask_command(b"large: A", &stations::a(), &mut b, 260, 1, 1, 2, 0);
-}
-
-// Station A with last byte 00, where log 3 is absent.
-fn absent_log() {
-    let before = stations::a_with(30, 0);
-    let mut b = stations::a_with(30, 0);
-    ask_refused(
-        b"kind before existence: A, last byte 00",
-        &before,
-        &mut b,
-        3,
-        1,
-        1,
-        3,
-        0,
-    );
-}
-
-// Several faults at once: the lowest number is answered.
-fn several() {
-    a_refuses(b"code before names: A", 14, 255, 0, 0, 0);
-    absent_log();
-    b_refuses(b"initiator before name to create: B", 12, 1, 0, 0, 0);
-    a_refuses(b"right before walk: A", 3, 1, 2, 1, 0);
-}
-
-fn transfers_of_own() {
-    let mut b = stations::a();
-    ask_refused(b"s = o: A", &stations::a(), &mut b, 3, 0, 1, 1, 0);
-    ask_command(b"s = i: A", &stations::a(), &mut b, 3, 1, 1, 2, 0);
-}
-
-// Subject 2 grants r and r* over its log to subject 1, and deletes r, and at last r* too. The cell of row 1 and column 3 has its
-// low byte at 22: 0C with both, 08 with r* alone.
-fn deleted(b: &mut [u8]) {
-    ask_command(b"r and r*: A", &stations::a(), b, 4, 2, 1, 3, 0);
-    ask_command(
-        b"r and r*: then",
-        &stations::a_with(22, 4),
-        b,
-        5,
-        2,
-        1,
-        3,
-        0,
-    );
-    ask_command(
-        b"r and r*: then",
-        &stations::a_with(22, 12),
-        b,
-        8,
-        2,
-        1,
-        3,
-        0,
-    );
-    compare(
-        b"r and r*: the record and A with byte 22 = 08",
-        b,
-        &stations::a_with(22, 8),
-    );
-}
-
-fn still_held() {
-    let mut b = stations::a();
-    deleted(&mut b);
-    ask_held(b"r and r*: r deleted", &b, 1, 3, 2);
-    ask_held(b"r and r*: r deleted", &b, 1, 3, 3);
-    ask_command(
-        b"r and r*: then",
-        &stations::a_with(22, 8),
-        &mut b,
-        9,
-        2,
-        1,
-        3,
-        0,
-    );
-    ask_held(b"r and r*: both deleted", &b, 1, 3, 2);
+// Subject 1 has r and r* over log 3, for basic right 1. Deleting r leaves r*, so r is still held; then r* is deleted too.
+fn deletes() {
+    changing(0, 22, 0x30, 0x20, 8, 2, 1, 3, 1, 4);
+    changing(0, 22, 0x20, 0x00, 9, 2, 1, 3, 1, 4);
 }
 
 pub fn all() {
-    table();
-    row_7_held();
+    rows_1_to_5();
+    rows_6_to_13();
     row_14();
-    several();
-    large();
-    transfers_of_own();
-    still_held();
+    further();
+    large(7, 4, 256, 1);
+    large(6, 260, 1, 2);
+    deletes();
 }
