@@ -1,5 +1,5 @@
-// Asks a public call and prints what was asked and what was answered, a part of a line each. Every number of an answer that is
-// printed is the answer's own. Whether a record changed is found by comparing all its bytes.
+// Asks a public call and prints what was asked and what was answered, each a part of a line. Every number of an answer that is
+// printed is the answer's own.
 use libc::STDOUT_FILENO;
 use matrix::Answer;
 use matrix::Holding;
@@ -13,11 +13,11 @@ pub fn report(text: &[u8], number: u64) {
     io::print_decimal(STDOUT_FILENO, number);
 }
 
-fn next(number: u64) {
-    report(b" ", number);
+fn next(number: u8) {
+    report(b" ", number as u64);
 }
 
-// Whether the bytes after a call are those before it.
+// Whether all bytes of a record after a call are those before it.
 pub fn compare(before: &[u8], after: &[u8]) {
     if check::same(before, after) {
         say(b", bytes unchanged");
@@ -26,16 +26,7 @@ pub fn compare(before: &[u8], after: &[u8]) {
     }
 }
 
-// Whether two records that were reached in different ways have the same bytes.
-pub fn say_equal(x: &[u8], y: &[u8]) {
-    if check::same(x, y) {
-        say(b", bytes equal\n");
-    } else {
-        say(b", bytes differ\n");
-    }
-}
-
-fn say_answer(a: Answer) {
+pub fn say_answer(a: Answer) {
     match a {
         Answer::Accepted(links) => report(b": accepted, links ", links as u64),
         Answer::Refused(number, links) => {
@@ -62,25 +53,27 @@ pub fn ask_valid(b: &[u8]) {
 }
 
 // The subject, the column and the code of the right.
-pub fn ask_held(b: &[u8], s: u64, o: u64, right: u64) {
-    report(b", held ", s);
+pub fn ask_held(b: &[u8], s: u8, o: u8, right: u8) {
+    say(b", held");
+    next(s);
     next(o);
     next(right);
-    say_holding(station::held(b, s, o, right));
+    say_holding(station::held(b, s as u64, o as u64, right as u64));
 }
 
 // The code, i, s, o and k.
-fn say_fields(code: u64, i: u64, s: u64, o: u64, k: u64) {
-    report(b": command ", code);
+fn say_fields(code: u8, i: u8, s: u8, o: u8, k: u8) {
+    say(b", command");
+    next(code);
     next(i);
     next(s);
     next(o);
     next(k);
 }
 
-pub fn ask_command(b: &mut [u8], code: u64, i: u64, s: u64, o: u64, k: u64) {
+pub fn ask_command(b: &mut [u8], code: u8, i: u8, s: u8, o: u8, k: u8) {
     say_fields(code, i, s, o, k);
-    say_answer(station::command(b, code, i, s, o, k));
+    say_answer(station::command(b, code as u64, i as u64, s as u64, o as u64, k as u64));
 }
 
 // The refusal is 0 where the run ended with the list.

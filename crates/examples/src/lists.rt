@@ -1,99 +1,93 @@
-// Row 16 of the refusal table, and list runs.
+// Row 16 of the refusal table, and list runs on station A.
 use crate::lines::ask_command;
 use crate::lines::ask_run;
 use crate::lines::compare;
+use crate::lines::report;
 use crate::lines::say;
-use crate::lines::say_equal;
 use crate::records::record;
 use crate::records::say_byte;
+ghost use mathlib.Core.Path.{_≡_};
+ghost use Prim.Native.Nat.{_<_, _≤_};
+ghost use lib.ListN.{length};
+ghost use Rattle.io.specs.Counts.{Counts};
 
-// A list run on a record.
-fn ask(before: &[u8], b: &mut [u8], list: &[u8]) {
-    ask_run(b, list);
+// Ten commands. On A the first two are accepted, the third is the second again, and the others would be accepted at first.
+fn ten() -> [u8; 65]
+    ensures { λ r. ⌜ 65 ≡ length r ⌝ }
+{
+    *b"\x01\x00\x00\x00\x3C\
+    \x05\x04\x01\x01\x02\x00\x05\x06\x01\x00\x02\x00\
+    \x05\x06\x01\x00\x02\x00\x05\x0B\x02\x00\x03\x00\
+    \x05\x0B\x02\x00\x03\x00\x05\x0B\x02\x00\x03\x00\
+    \x05\x0B\x02\x00\x03\x00\x05\x0B\x02\x00\x03\x00\
+    \x05\x0B\x02\x00\x03\x00\x05\x0B\x02\x00\x03\x00"
+}
+
+// The list of ten commands, to be lent up to a length, with an L below 256 and another byte at a place.
+fn list(len: usize, l: u8, at: usize, v: u8) -> [u8; 65]
+    requires { ⌜ at < 65 ⌝ }
+    requires { ⌜ len ≤ 65 ⌝ }
+    ensures { λ r. ⌜ Counts len r ⌝ }
+{
+    let mut r = ten();
+    r[4] = l;
+    r[at] = v;
+    r
+}
+
+fn say_list(row: u8, len: usize, l: u8, at: usize, v: u8) {
+    report(b"row ", row as u64);
+    report(b": A, list of ", len as u64);
+    report(b" bytes, L = ", l as u64);
+    say_byte(at, v);
+}
+
+fn ask(before: &[u8], b: &mut [u8], l: &[u8]) {
+    ask_run(b, l);
     compare(before, b);
     say(b"\n");
 }
 
-// A list run on station A.
-fn on_a(what: &[u8], list: &[u8]) {
+fn run(row: u8, len: usize, l: u8, at: usize, v: u8)
+    requires { ⌜ at < 65 ⌝ }
+    requires { ⌜ len ≤ 65 ⌝ }
+{
     let before = record(31, 0, 1);
-    let mut b = record(31, 0, 1);
-    say(what);
-    ask(&before[..31], &mut b[..31], list);
+    let mut b = before;
+    let t = list(len, l, at, v);
+    say_list(row, len, l, at, v);
+    ask(&before[..31], &mut b[..31], &t[..len]);
 }
 
-fn row_16() {
-    on_a(
-        b"row 16: A, list 01 00 00 00 01 05",
-        b"\x01\x00\x00\x00\x01\x05",
-    );
-    on_a(b"row 16: A, list 01 00 00 00", b"\x01\x00\x00\x00");
-    on_a(b"row 16: A, list 02 00 00 00 00", b"\x02\x00\x00\x00\x00");
-    on_a(b"row 16: A, list 01 00 00 00 06", b"\x01\x00\x00\x00\x06");
-    on_a(b"row 0: A, list 01 00 00 00 00", b"\x01\x00\x00\x00\x00");
-}
-
-// Ten records of the command by which subject 1 grants itself basic right 0 over subject 2, the tenth with a length byte as given.
-fn ten(what: &[u8], last: u8) {
-    let mut list = *b"\x01\x00\x00\x00\x3C\
-    \x05\x04\x01\x01\x02\x00\x05\x04\x01\x01\x02\x00\
-    \x05\x04\x01\x01\x02\x00\x05\x04\x01\x01\x02\x00\
-    \x05\x04\x01\x01\x02\x00\x05\x04\x01\x01\x02\x00\
-    \x05\x04\x01\x01\x02\x00\x05\x04\x01\x01\x02\x00\
-    \x05\x04\x01\x01\x02\x00\x05\x04\x01\x01\x02\x00";
-    list[59] = last;
-    on_a(what, &list);
-}
-
-// Grant r, grant control, destroy a subject that the initiator does not own, destroy the log. The third is refused; the fourth
-// would be accepted, and is not reached.
-fn stopped(b: &mut [u8]) {
-    ask_run(
-        b,
-        b"\x01\x00\x00\x00\x18\
-        \x05\x04\x01\x01\x02\x00\x05\x06\x01\x00\x02\x00\
-        \x05\x0D\x00\x02\x00\x00\x05\x0B\x02\x00\x03\x00",
-    );
-}
-
-// The first two of them by themselves, on another copy of the record.
-fn kept(b: &mut [u8], c: &mut [u8]) {
-    say(b"row 12: A, list of 4 1 1 2 0, 6 1 0 2 0, 13 0 2 0 0, 11 2 0 3 0");
-    stopped(b);
-    say(b"; the first two by themselves");
+// The list stops at its third command; the first two by themselves leave the same bytes.
+fn ask_kept(b: &mut [u8], c: &mut [u8], l: &[u8]) {
+    ask_run(b, l);
     ask_command(c, 4, 1, 1, 2, 0);
     ask_command(c, 6, 1, 0, 2, 0);
-    say_equal(b, c);
+    if check::same(b, c) {
+        say(b", bytes equal\n");
+    } else {
+        say(b", bytes differ\n");
+    }
 }
 
-fn stops() {
+fn kept() {
     let mut b = record(31, 0, 1);
-    let mut c = record(31, 0, 1);
-    kept(&mut b[..31], &mut c[..31]);
-}
-
-// A command twice: the second is refused, and the change of the first is kept.
-fn twice(after: &[u8], b: &mut [u8]) {
-    say(b"row 14: A, list of 6 1 0 2 0 twice");
-    ask_run(
-        b,
-        b"\x01\x00\x00\x00\x0C\
-        \x05\x06\x01\x00\x02\x00\x05\x06\x01\x00\x02\x00",
-    );
-    say_byte(12, 2);
-    say_equal(after, b);
-}
-
-fn row_14() {
-    let after = record(31, 12, 2);
-    let mut b = record(31, 0, 1);
-    twice(&after[..31], &mut b[..31]);
+    let mut c = b;
+    let t = ten();
+    say_list(14, 65, 60, 0, 1);
+    ask_kept(&mut b[..31], &mut c[..31], &t);
 }
 
 pub fn all() {
-    row_14();
-    row_16();
-    ten(b"row 0: A, list of ten", 5);
-    ten(b"row 16: A, list of ten, the tenth length byte 04", 4);
-    stops();
+    run(16, 6, 1, 0, 1);
+    run(16, 4, 0, 0, 1);
+    run(16, 5, 0, 0, 2);
+    run(16, 5, 6, 0, 1);
+    // the length byte of the tenth record
+    run(16, 65, 60, 59, 4);
+    run(0, 5, 0, 0, 1);
+    run(0, 17, 12, 0, 1);
+    run(14, 65, 60, 0, 1);
+    kept();
 }

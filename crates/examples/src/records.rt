@@ -32,11 +32,9 @@ fn station_b() -> [u8; 32]
 fn six_bytes() -> [u8; 32]
     ensures { λ r. ⌜ 32 ≡ length r ⌝ }
 {
-    let mut r = [0; 32];
-    r[0] = 1;
-    r[4] = 4;
-    r[5] = 1;
-    r
+    *b"\x01\x00\x00\x00\x04\x01\
+    \x00\x00\x00\x00\x00\x00\x00\x00\x00\x00\x00\x00\x00\
+    \x00\x00\x00\x00\x00\x00\x00\x00\x00\x00\x00\x00\x00"
 }
 
 fn original(len: usize) -> [u8; 32]
@@ -75,18 +73,17 @@ fn say_station(len: usize) {
     }
 }
 
+// A replaced byte. Byte 0 is 01 in every original, so it is given as replaced by 01 where no byte is.
 pub fn say_byte(at: usize, v: u8) {
-    report(b", byte ", at as u64);
-    say(b" = ");
-    io::print_hex(STDOUT_FILENO, v as u64, 2);
+    if at != 0 || v != 1 {
+        report(b", byte ", at as u64);
+        say(b" = ");
+        io::print_hex(STDOUT_FILENO, v as u64, 2);
+    }
 }
 
-// The row, 0 where nothing is refused, and the record. Byte 0 of every original is 01, so it is given as replaced by 01 where no
-// byte is.
-pub fn say_record(row: u64, len: usize, at: usize, v: u8) {
-    report(b"row ", row);
+pub fn say_record(row: u8, len: usize, at: usize, v: u8) {
+    report(b"row ", row as u64);
     say_station(len);
-    if at != 0 || v != 1 {
-        say_byte(at, v);
-    }
+    say_byte(at, v);
 }

@@ -1,10 +1,7 @@
--- `examples::records::record` meets its contract: a replaced byte leaves the length, so the bytes asked for are there.
--- Assumes nothing.
-use Prim.Native.Nat.{ℕ, _≤_}
-use mathlib.Core.Path.{_∙_, sym, subst}
-use lib.ListN.{length, set, length-set}
-use lib.Seq.{length-take-le}
+-- `examples::records::record` meets its contract. Assumes nothing.
+use lib.ListN.{set, length-set}
 use borrow.Author.Needs.{needs}
+use Rattle.examples.proofs.Counted.{counted}
 use Rattle.examples.proofs.records.record.Statement.{statement}
 use Rattle.examples.proofs.records.record.Tie as tie
 
@@ -16,9 +13,10 @@ array-write-r c = search needs
 
 returns : tie.Need-returns
 returns c =
-    let fits : c .before .args .len ≤ length (set (c .original .result) (c .before .args .at) (c .before .args .v)) =
-    subst (λ (m : ℕ). c .before .args .len ≤ m) (c .original .ensures ∙ sym (length-set (c .original .result) (c .before .args .at) (c .before .args .v))) (c .before .pre .1) in
-    (fits, sym (length-take-le (c .before .args .len) _ fits))
+    counted (c .before .args .len) 32 (c .original .result) (set (c .original .result) (c .before .args .at) (c .before .args .v))
+    (c .before .pre .1)
+    (c .original .ensures)
+    (length-set (c .original .result) (c .before .args .at) (c .before .args .v))
 
 pub record-spec : {M : Type 1} → statement M
 record-spec = tie.close (tie.spec original-requires array-write-r returns)
