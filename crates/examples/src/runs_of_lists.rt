@@ -11,7 +11,8 @@ ghost use Prim.Native.Nat.{_<_, _≤_};
 ghost use lib.ListN.{length};
 ghost use Rattle.io.specs.Counts.{Counts};
 
-// Ten commands. On A the first two are accepted, the third is the second again, and the others would be accepted at first.
+// Ten commands. On A the first two, grant r and grant control, are accepted and change the record. The third is the second
+// again, which is refused. The fourth, which destroys the log, would be accepted.
 fn ten() -> [u8; 65]
     ensures { λ r. ⌜ 65 ≡ length r ⌝ }
 {
@@ -80,12 +81,14 @@ fn kept() {
 }
 
 pub fn all() {
+    // 01 00 00 00 01 05, then a list that ends before L does, one of version 2, and one with nothing after L = 6
     run(16, 6, 1, 0, 1);
     run(16, 4, 0, 0, 1);
     run(16, 5, 0, 0, 2);
     run(16, 5, 6, 0, 1);
     // the length byte of the tenth record
     run(16, 65, 60, 59, 4);
+    // no command, the first two, and all ten
     run(0, 5, 0, 0, 1);
     run(0, 17, 12, 0, 1);
     run(14, 65, 60, 0, 1);
