@@ -1,0 +1,12 @@
+// Executes the examples of the refusal table, and what else the paper says of its two stations, through the public calls alone.
+// A line begins with the row of the table, 0 where nothing is turned down. A command is printed as code, i, s, o and k, and a held
+// question as s, o and the right's code. The file stdout has what the paper says of each.
+mod lines;
+mod records;
+mod rows;
+mod runs_of_lists;
+
+fn main() {
+    rows::all();
+    runs_of_lists::all();
+}

@@ -1,0 +1,109 @@
+// Rows 1 to 14 of the refusal table, and commands that are accepted beside them.
+use crate::lines::ask_command;
+use crate::lines::ask_held;
+use crate::lines::ask_run;
+use crate::lines::ask_valid;
+use crate::lines::compare;
+use crate::lines::say;
+use crate::lines::say_answer;
+use crate::records::record;
+use crate::records::say_record;
+ghost use Prim.Native.Nat.{_<_, _≤_};
+
+// A command in a list of its own.
+fn ask_list(b: &mut [u8], code: u8, i: u8, s: u8, o: u8, k: u8) {
+    say(b", in a list");
+    ask_run(b, &[1, 0, 0, 0, 6, 5, code, i, s, o, k]);
+}
+
+// A command by itself, and then in a list of its own.
+fn ask_changes(before: &[u8], b: &mut [u8], code: u8, i: u8, s: u8, o: u8, k: u8) {
+    ask_command(b, code, i, s, o, k);
+    compare(before, b);
+    ask_list(b, code, i, s, o, k);
+    compare(before, b);
+}
+
+// Every call: whether the record is valid, a command, by itself and in a list, and whether s then holds a right over o.
+fn ask_all(before: &[u8], b: &mut [u8], code: u8, i: u8, s: u8, o: u8, k: u8, right: u8) {
+    ask_valid(b);
+    ask_changes(before, b, code, i, s, o, k);
+    ask_held(b, s, o, right);
+    say(b"\n");
+}
+
+fn row(row: u8, len: usize, at: usize, v: u8, code: u8, i: u8, s: u8, o: u8, k: u8, right: u8)
+    requires { ⌜ at < 32 ⌝ }
+    requires { ⌜ len ≤ 32 ⌝ }
+{
+    let before = record(len, at, v);
+    let mut b = before;
+    say_record(row, len, at, v);
+    ask_all(&before[..len], &mut b[..len], code, i, s, o, k, right);
+}
+
+// On A itself subject 1 may grant itself basic right 0 over subject 2.
+fn rows_1_to_5() {
+    row(0, 31, 0, 1, 4, 1, 1, 2, 0, 2);
+    row(1, 6, 0, 1, 4, 1, 1, 2, 0, 2);
+    row(2, 31, 0, 2, 4, 1, 1, 2, 0, 2);
+    row(3, 31, 5, 0, 4, 1, 1, 2, 0, 2);
+    row(4, 32, 0, 1, 4, 1, 1, 2, 0, 2);
+    row(5, 31, 8, 0, 4, 1, 1, 2, 0, 2);
+    // the lower of two numbers: n and L wrong, L and the matrix wrong
+    row(3, 32, 5, 0, 4, 1, 1, 2, 0, 2);
+    row(4, 32, 8, 0, 4, 1, 1, 2, 0, 2);
+}
+
+fn rows_6_to_14() {
+    row(6, 31, 0, 1, 14, 0, 0, 0, 0, 1);
+    row(7, 31, 0, 1, 4, 0, 0, 4, 0, 0);
+    row(8, 19, 0, 1, 12, 1, 1, 0, 0, 0);
+    row(9, 31, 0, 1, 6, 2, 1, 3, 0, 1);
+    row(10, 19, 0, 1, 11, 0, 0, 2, 0, 0);
+    row(11, 31, 0, 1, 12, 0, 1, 0, 0, 1);
+    row(12, 31, 0, 1, 13, 0, 2, 0, 0, 0);
+    row(13, 31, 0, 1, 3, 0, 2, 1, 0, 0);
+    // twice, the second time in a list; then on the record that the first leaves, whose byte 12 has control for subject 0
+    row(14, 31, 0, 1, 6, 1, 0, 2, 0, 1);
+    row(14, 31, 12, 2, 6, 1, 0, 2, 0, 1);
+}
+
+fn further() {
+    // s and right out of bounds
+    row(7, 31, 0, 1, 4, 1, 3, 2, 0, 2);
+    row(7, 31, 0, 1, 4, 1, 1, 2, 0, 16);
+    // the lowest of several numbers: code 14 with i = 255, code 3 over an absent log, an absent i creating an existing s, and a
+    // walk that would meet o where i does not own o
+    row(6, 31, 0, 1, 14, 255, 0, 0, 0, 0);
+    row(9, 31, 30, 0, 3, 1, 1, 3, 0, 0);
+    row(8, 19, 0, 1, 12, 1, 0, 0, 0, 1);
+    row(12, 31, 0, 1, 3, 1, 2, 1, 0, 0);
+    // code 3 with s = o, and with s = i
+    row(13, 31, 0, 1, 3, 0, 1, 1, 0, 0);
+    row(0, 31, 0, 1, 3, 1, 1, 2, 0, 0);
+    // subject 1 has r and r* of basic right 1 over log 3: deleting r leaves r*, so r is still held until r* is deleted too
+    row(0, 31, 22, 0x30, 8, 2, 1, 3, 1, 4);
+    row(0, 31, 22, 0x20, 9, 2, 1, 3, 1, 4);
+}
+
+// A number that a byte cannot hold is not cut: with i = 0 the command would be accepted.
+fn ask_large(before: &[u8], b: &mut [u8]) {
+    say(b"row 7: A, command 4 256 1 1 0");
+    say_answer(station::command(b, 4, 256, 1, 1, 0));
+    compare(before, b);
+    say(b"\n");
+}
+
+fn large() {
+    let before = record(31, 0, 1);
+    let mut b = before;
+    ask_large(&before[..31], &mut b[..31]);
+}
+
+pub fn all() {
+    rows_1_to_5();
+    rows_6_to_14();
+    further();
+    large();
+}
