@@ -16,7 +16,7 @@ fn wide(x: u8) -> usize
 }
 
 // The number in the four bytes from `at` on.
-fn number(l: &[u8], at: usize) -> usize
+pub fn number(l: &[u8], at: usize) -> usize
     requires { ⌜ at + 4 ≤ length (now l) ⌝ }
     ensures { λ r. ⌜ r ≡ numberAt (now (l .entry)) at 4 ⌝ }
 {

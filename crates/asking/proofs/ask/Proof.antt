@@ -1,0 +1,78 @@
+-- `asking::ask` meets its contract.
+use native.Mathlib.Omega.{arith}
+use mathlib.Core.Path.{sym}
+use lib.Seq.{length-take-le}
+use Rattle.asking.specs.Input.{too-long, too-short, asked-so}
+use borrow.Author.Needs.{needs}
+use Rattle.asking.proofs.ask.Statement.{statement}
+use Rattle.asking.proofs.ask.Tie as tie
+
+returns : tie.Need-returns
+returns c = too-long _ _ (c .if1 .taken)
+
+returns-2 : tie.Need-returns-2
+returns-2 c = too-short _ _ (c .if2 .taken)
+
+mask-requires : tie.Need-mask-requires
+mask-requires c κs = search needs
+
+add-wide : tie.Need-add-wide
+add-wide c = search needs
+
+shared-slice-read-wide : tie.Need-shared-slice-read-wide
+shared-slice-read-wide c = search needs
+
+wide-requires : tie.Need-wide-requires
+wide-requires c κs = search needs
+
+add-wide-2 : tie.Need-add-wide-2
+add-wide-2 c = search needs
+
+shared-slice-read-wide-2 : tie.Need-shared-slice-read-wide-2
+shared-slice-read-wide-2 c = search needs
+
+wide-requires-2 : tie.Need-wide-requires-2
+wide-requires-2 c κs = search needs
+
+add-wide-3 : tie.Need-add-wide-3
+add-wide-3 c = search needs
+
+shared-slice-read-wide-3 : tie.Need-shared-slice-read-wide-3
+shared-slice-read-wide-3 c = search needs
+
+wide-requires-3 : tie.Need-wide-requires-3
+wide-requires-3 c κs = search needs
+
+slice-aggregate-safety : tie.Need-slice-aggregate-safety
+slice-aggregate-safety c = sym (length-take-le _ _ (omega arith))
+
+safety-requires : tie.Need-safety-requires
+safety-requires c κs = search needs
+
+same-length : tie.Need-same-length
+same-length c = search needs
+
+returns-3 : tie.Need-returns-3
+returns-3 c =
+    asked-so _ _ (c .before .before .before .before .before .before .before .before .before .before .before .before .if2 .left) (c .before .before .before .before .before .before .before .before .before .before .before .before .before .if1 .left) (c .before .before .before .before .before .before .before .before .before .before .before .mask .ensures) (c .before .before .before .before .before .before .before .before .before .wide .ensures .0) (c .before .before .before .before .before .before .before .wide2 .ensures .0) (c .before .before .before .before .before .wide3 .ensures .0) (c .before .before .safety .ensures)
+
+pub ask-spec : {M : Type 1} → statement M
+ask-spec =
+    tie.close
+    (tie.spec
+    returns
+    returns-2
+    mask-requires
+    add-wide
+    shared-slice-read-wide
+    wide-requires
+    add-wide-2
+    shared-slice-read-wide-2
+    wide-requires-2
+    add-wide-3
+    shared-slice-read-wide-3
+    wide-requires-3
+    slice-aggregate-safety
+    safety-requires
+    same-length
+    returns-3)

@@ -1,0 +1,33 @@
+-- "A program reads standard input, at most 65,536 bytes (more prints `refused 4`): a record, then as the last 11 bytes the mask (high
+-- byte first), s, o, right. Under 11 bytes prints `refused 1`."
+use Prim.Native.Nat.{ℕ, _+_, _-_, _≤_, _<_}
+use native.Mathlib.Omega.{arith}
+use mathlib.Core.Path.{_≡_, refl}
+use mathlib.Core.List.{List}
+use lib.ListN.{length, getD, take}
+use Rattle.matrix.specs.Bytes.{numberAt}
+use Rattle.question.specs.declared.Safety.{Safety}
+use Rattle.question.specs.declared.Safety.the-variants.{Refused}
+use Rattle.question.specs.Asked.{Answers}
+
+-- where the question starts
+abbrev pub tailAt : List ℕ → ℕ
+tailAt input = length input - 11
+
+pub record AnswersInput (input out out′ : List ℕ) (r : Safety) : Type 0 where
+  pub long : 65536 < length input → (r ≡ Refused 4) × (out′ ≡ out)
+  pub short : length input < 11 → (r ≡ Refused 1) × (out′ ≡ out)
+  pub asked : 11 ≤ length input → length input ≤ 65536
+      → Answers (take (tailAt input) input) (numberAt input (tailAt input) 8) (getD input (tailAt input + 8) 0) (getD input (tailAt input + 9) 0) (getD input (tailAt input + 10) 0) out out′ r
+
+module _ (input out : List ℕ) where
+  pub too-long : 65536 < length input → AnswersInput input out out (Refused 4)
+  too-long h = record { long = λ l. (refl, refl); short = λ l. absurd (omega arith); asked = λ l u. absurd (omega arith) }
+
+  pub too-short : length input < 11 → AnswersInput input out out (Refused 1)
+  too-short h = record { long = λ l. absurd (omega arith); short = λ l. (refl, refl); asked = λ l u. absurd (omega arith) }
+
+  pub asked-so : {out′ : List ℕ} {r : Safety} {mask s o right : ℕ} → 11 ≤ length input → length input ≤ 65536 → mask ≡ numberAt input (tailAt input) 8 → s ≡ getD input (tailAt input + 8) 0 → o ≡ getD input (tailAt input + 9) 0 → right ≡ getD input (tailAt input + 10) 0
+      → Answers (take (tailAt input) input) mask s o right out out′ r → AnswersInput input out out′ r
+  asked-so {out′} {r} l u e f g h a =
+      record { long = λ z. absurd (omega arith); short = λ z. absurd (omega arith); asked = λ y z. rw (← e, ← f, ← g, ← h) a }
