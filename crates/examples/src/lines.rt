@@ -13,7 +13,7 @@ pub fn report(text: &[u8], number: u64) {
     io::print_decimal(STDOUT_FILENO, number);
 }
 
-fn next(number: u8) {
+pub fn next(number: u8) {
     report(b" ", number as u64);
 }
 

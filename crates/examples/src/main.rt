@@ -2,6 +2,7 @@
 // A line begins with the row of the table, 0 where nothing is turned down. A command is printed as code, i, s, o and k, and a held
 // question as s, o and the right's code. The file stdout has what the paper says of each.
 mod lines;
+mod questions;
 mod records;
 mod rows;
 mod runs_of_lists;
@@ -9,4 +10,5 @@ mod runs_of_lists;
 fn main() {
     rows::all();
     runs_of_lists::all();
+    questions::all();
 }
