@@ -2,17 +2,10 @@
 
 use question::Safety;
 ghost use mathlib.Core.Path.{_≡_};
-ghost use Prim.Native.Nat.{_+_, _<_, _≤_};
-ghost use lib.ListN.{length, getD};
+ghost use Prim.Native.Nat.{_+_, _≤_};
+ghost use lib.ListN.{length};
 ghost use Rattle.matrix.specs.Bytes.{numberAt};
 ghost use Rattle.asking.specs.Input.{AnswersInput};
-
-// A byte as a number.
-fn wide(x: u8) -> u64
-    ensures { λ r. ⌜ (r ≡ x) × (r < 256) ⌝ }
-{
-    x as u64
-}
 
 // The trust mask, high byte first.
 fn mask(l: &[u8], at: usize) -> u64
@@ -37,8 +30,8 @@ pub fn ask(input: &[u8], out: &mut [u8]) -> Safety
     }
     let at = size - 11;
     let trust = mask(input, at);
-    let s = wide(input[at + 8]);
-    let o = wide(input[at + 9]);
-    let right = wide(input[at + 10]);
+    let s = opening::byte(input, at + 8) as u64;
+    let o = opening::byte(input, at + 9) as u64;
+    let right = opening::byte(input, at + 10) as u64;
     station::safety(&input[..at], trust, s, o, right, out)
 }

@@ -1,5 +1,5 @@
 -- The number with one bit set or cleared, as the code computes it.
-use Prim.Native.Nat.{ℕ, _+_, _-_, _*_, _/_, _%_, _^_, _≤_, _<_}
+use Prim.Native.Nat.{ℕ, _+_, _-_, _/_, _%_, _^_, _≤_, _<_}
 use native.Mathlib.Nat.{div-eq-of-lt}
 use native.Mathlib.Omega.{arith}
 use mathlib.Core.Path.{_≡_, refl, sym, _∙_}
@@ -17,12 +17,9 @@ use Rattle.codec.specs.Bits.{withBit}
 use Rattle.codec.specs.Cells.{cell-below}
 use Rattle.cells.specs.Station.{Cell}
 
--- 1 shifted by j
+-- the bits of a cell are small numbers
 pub power-small : (j : ℕ) → j < 16 → 2 ^ j ≤ 65536
 power-small j h = pow-mono {i = j} {j = 16} (omega arith)
-
-pub one-shifted : (j : ℕ) → j < 16 → 1 * 2 ^ j % 18446744073709551616 ≡ 2 ^ j
-one-shifted j h = omega (arith, power-small j h)
 
 -- a number whose bit j is set has room to clear it
 pub bit-within : (j v : ℕ) {t : Bool} → t ≡ bit j v → t ≡ true → 2 ^ j ≤ v

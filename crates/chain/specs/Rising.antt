@@ -25,8 +25,8 @@ use Rattle.owners.specs.Walk.{root-top}
 use Rattle.kept.specs.Parts.{Up}
 use Rattle.route.specs.Parts.{among}
 use Rattle.route.specs.Rise.{Risen, meets-at, none, rise, rises}
-use Rattle.chain.specs.Distinct.{among-cases, among-none, among-here, Distinct}
-use Rattle.chain.specs.Chain.{Chain, last, link, above-there, chain-distinct, chain-apart, chain-bound, chain-few, chain-fewer, member-above}
+use Rattle.chain.specs.Distinct.{among-cases, among-none, among-here}
+use Rattle.chain.specs.Chain.{Chain, last, link, above-there, chain-apart, chain-bound, chain-few, chain-fewer, member-above}
 
 -- One subject on the way: it is untrusted, or it is U, or the way goes on to its owner, or it has none.
 module _ (top : ℕ) (owns : ℕ → Name → Bool) (trusted : ℕ → Bool) (left w : ℕ) (passed : List ℕ) where
@@ -132,7 +132,6 @@ pub record Met (S : State) (trusted : ℕ → Bool) (o : Name) (v : ℕ) (ws : L
   pub above : (u : ℕ) → among u (v ∷ ws) ≡ true → Above (S .owns) o u
   pub existing : (u : ℕ) → among u (v ∷ ws) ≡ true → exists S u ≡ true
   pub apart : (u : ℕ) → among u (v ∷ ws) ≡ true → o ≢ Subject u
-  pub distinct : Distinct (v ∷ ws)
   pub below : (u : ℕ) → among u (v ∷ ws) ≡ true → u < S .top
   -- so they are at most as many as subjects may exist
   pub few : length ws + 1 ≤ S .top
@@ -151,7 +150,6 @@ rise-meets S V₁ trusted o w v ws own h =
       above = λ u m. member-above u (r .chain) m;
       existing = λ u m. above-there V₁ u (member-above u (r .chain) m);
       apart = λ u m. chain-apart V₁ u (r .chain) m;
-      distinct = chain-distinct V₁ (r .chain);
       below = λ u m. chain-bound V₁ u (r .chain) m;
       few = chain-few V₁ (r .chain);
       fewer = λ k. chain-fewer V₁ o k (r .chain);

@@ -3,18 +3,13 @@ use Prim.Native.Nat.{ℕ, suc, _+_, _*_, _/_, _%_, _^_, _≤_, _<_}
 use native.Mathlib.Nat.{mul-le-mul-left, mul-suc, lt-of-mul-lt-mul-left}
 use native.Mathlib.Omega.{arith}
 use mathlib.Core.Path.{_≡_, refl, sym, _∙_, ap}
-use mathlib.Core.Logic.{⊎-elim}
-use mathlib.Core.Bool.{true, false, cond, _&&_}
 use mathlib.Core.List.{List}
-use lib.Dec.{eqb}
 use lib.ListN.{length, getD}
 use lib.Arith.{digits-lt, digits-div, digits-mod}
-use borrow.Author.Tests.{eqb-true, eq-eqb}
 use Rattle.matrix.specs.Bytes.{numberAt}
 use Rattle.matrix.specs.Shape.{Shape, shapeOf, bitsOf, columns, cellPlace, sizeOf}
 use Rattle.matrix.specs.Reading.{cellAt, setCell}
 use Rattle.matrix.specs.Shaped.{Shaped, Octets}
-use Rattle.laws.specs.Tests.{way, clash, and-left, and-right, and-both}
 use Rattle.codec.specs.Numbers.{length-setNumber, getD-setNumber-other, numberAt-set-other, numberAt-set-same, octets-setNumber, numberAt-below, pow-bytes}
 
 -- ---- the places of the cells of a shape
@@ -125,17 +120,3 @@ cell-set-other b r c v w d h l ne = rw (shape-set b r c v) kept
         unfold setCell in
         numberAt-set-other b (cellPlace (shapeOf b) r c) (shapeOf b .width) v (cellPlace (shapeOf b) w d) (shapeOf b .width)
         (place-apart (shapeOf b) r c w d h l ne)
-
--- both in one: every cell of the record after a store
-pub cell-set : (b : List ℕ) (r c v w d : ℕ) → Shaped b → r < shapeOf b .n → c < columns (shapeOf b) → v < 2 ^ bitsOf (shapeOf b)
-    → d < columns (shapeOf b) → cellAt (setCell b r c v) w d ≡ cond (eqb d c && eqb w r) v (cellAt b w d)
-cell-set b r c v w d s h l k m = ⊎-elim here other (way (eqb d c && eqb w r))
-  where
-    here : (eqb d c && eqb w r) ≡ true → cellAt (setCell b r c v) w d ≡ cond (eqb d c && eqb w r) v (cellAt b w d)
-    here e =
-        let p : d ≡ c = eqb-true d c (and-left (eqb d c) (eqb w r) e) in
-        let q : w ≡ r = eqb-true w r (and-right (eqb d c) (eqb w r) e) in
-        rw e (ap (cellAt (setCell b r c v) w) p ∙ ap (λ (x : ℕ). cellAt (setCell b r c v) x c) q ∙ cell-set-same b r c v s h l k)
-
-    other : (eqb d c && eqb w r) ≡ false → cellAt (setCell b r c v) w d ≡ cond (eqb d c && eqb w r) v (cellAt b w d)
-    other e = rw e (cell-set-other b r c v w d l m (λ p q. clash (and-both (eq-eqb d c (sym q)) (eq-eqb w r (sym p))) e))

@@ -1,16 +1,16 @@
 -- A right and its code determine each other.
-use Prim.Native.Nat.{ℕ, zero, suc, _+_, _-_, _*_, _/_, _%_, _≤_, _<_}
+use Prim.Native.Nat.{ℕ, zero, suc, _+_, _-_, _*_, _/_, _%_, _<_}
 use native.Mathlib.Omega.{arith}
 use mathlib.Core.Path.{_≡_, refl, sym, _∙_, ap, subst}
 use mathlib.Core.Logic.{⊎-elim}
-use mathlib.Core.Bool.{true, false, cond, _&&_}
+use mathlib.Core.Bool.{true, false, cond}
 use lib.Dec.{eqb}
 use borrow.Author.Tests.{eqb-true, eqb-false, eq-eqb, ne-eqb}
 use Rattle.matrix.specs.declared.Form.{Form}
 use Rattle.matrix.specs.declared.Form.the-variants.{Plain, Starred}
 use Rattle.matrix.specs.declared.Right.{Right}
 use Rattle.matrix.specs.declared.Right.the-variants.{Own, Control, Basic}
-use Rattle.matrix.specs.Rights.{codeOf, rightOf, sameForm}
+use Rattle.matrix.specs.Rights.{codeOf, rightOf}
 use Rattle.matrix.specs.Touched.{sameRight}
 use Rattle.laws.specs.Tests.{way, same-test}
 use Rattle.laws.specs.Same.{sameRight-refl, sameRight-eq}
@@ -46,11 +46,6 @@ rightOf-codeOf (Basic k Starred) =
 pub codeOf-same : (y z : Right) → codeOf y ≡ codeOf z → y ≡ z
 codeOf-same y z h = sym (rightOf-codeOf y) ∙ ap rightOf h ∙ rightOf-codeOf z
 
--- the codes of own and control are below those of the basic rights
-pub codeOf-above : (k : ℕ) (f : Form) → 2 ≤ codeOf (Basic k f)
-codeOf-above k Plain = omega arith
-codeOf-above k Starred = omega arith
-
 -- a cell of w bytes has room for the basic rights below 4 w - 1
 pub codeOf-room : (w k : ℕ) (f : Form) → k < 4 * w - 1 → codeOf (Basic k f) < 8 * w
 codeOf-room w k Plain h = omega arith
@@ -62,6 +57,3 @@ codeOf-test z y =
     same-test (eqb (codeOf z) (codeOf y)) (sameRight z y)
     (λ h. subst (λ (u : Right). sameRight z u ≡ true) (codeOf-same z y (eqb-true (codeOf z) (codeOf y) h)) (sameRight-refl z))
     (λ h. eq-eqb (codeOf z) (codeOf y) (ap codeOf (sameRight-eq z y h)))
-
-pub codeOf-basic : (j : ℕ) (g : Form) (k : ℕ) (f : Form) → eqb (codeOf (Basic j g)) (codeOf (Basic k f)) ≡ (eqb j k && sameForm g f)
-codeOf-basic j g k f = codeOf-test (Basic j g) (Basic k f)

@@ -3,7 +3,7 @@
 use Prim.Native.Nat.{ℕ, _<_}
 use mathlib.Core.Path.{_≡_, sym, _∙_, ap, subst}
 use mathlib.Core.Logic.{_≢_, ⊎-elim}
-use mathlib.Core.Bool.{Bool, true, false, cond, not, _||_, true≢false}
+use mathlib.Core.Bool.{Bool, true, false, cond, not, _||_}
 use mathlib.Core.List.{[], _∷_, _++_}
 use borrow.Author.Tests.{ltb-true, ne-eqb}
 use Rattle.matrix.specs.declared.Name.{Name}
@@ -13,13 +13,12 @@ use Rattle.matrix.specs.declared.Form.the-variants.{Starred}
 use Rattle.matrix.specs.declared.Right.{Right}
 use Rattle.matrix.specs.declared.Right.the-variants.{Own, Control, Basic}
 use Rattle.matrix.specs.Names.{sameName, columnOf, named}
-use Rattle.matrix.specs.State.{State, held, exists, existsName}
+use Rattle.matrix.specs.State.{State, exists, existsName}
 use Rattle.matrix.specs.Owners.{owner, walk, meets}
 use Rattle.matrix.specs.Tests.{otherController}
 use Rattle.matrix.specs.Shape.{Shape, basicsOf}
 use Rattle.matrix.specs.Valid.{Valid}
 use Rattle.laws.specs.Tests.{clash, fails}
-use Rattle.laws.specs.Same.{sameName-refl, sameName-ne}
 use Rattle.kept.specs.Subjects.{destroyed-keeps}
 use Rattle.kept.specs.Cells.{put-new}
 use Rattle.frame.specs.Top.{controller-found}
@@ -123,22 +122,6 @@ againNeeded S s (Subject a) Control = otherController S (Subject a)
 againNeeded S s (Name.Plain a) Control = false
 againNeeded S s o (Basic k g) = false
 
--- Then the end of the list works for every right that s can have over o and does not hold.
-pub again-ready : {S : State} (v s : ℕ) (o : Name) (x : Right) (again : Bool) → Valid S → S .owns v o ≡ true → Gainable s o x
-    → held S x s o ≡ false → again ≡ againNeeded S s o x → Ready S s o x again
-again-ready v s (Subject a) Own true h own apart none e = apart
-again-ready v s (Subject a) Own false h own apart none e = sym e
-again-ready v s (Name.Plain a) Own true h own fit none e = absurd (true≢false e)
-again-ready v s (Name.Plain a) Own false h own fit none e = tt
-again-ready {S} v s (Subject a) Control true h own fit none e =
-    λ q. clash (has-held S Control s (Subject a) (subst (λ (n : ℕ). S .controls n (Subject a) ≡ true) q (h .column Own v (Subject a) own))) none
-again-ready v s (Subject a) Control false h own fit none e = sym e
-again-ready v s (Name.Plain a) Control again h own never none e = absurd never
-again-ready v s (Subject a) (Basic k g) true h own fit none e = absurd (true≢false e)
-again-ready v s (Subject a) (Basic k g) false h own fit none e = tt
-again-ready v s (Name.Plain a) (Basic k g) true h own fit none e = absurd (true≢false e)
-again-ready v s (Name.Plain a) (Basic k g) false h own fit none e = tt
-
 -- ---- o is absent
 
 -- v creates o; s, if it is absent still, is created; and v gives s the right
@@ -150,21 +133,6 @@ absent-runs {S} f v s o x absent h lv ls inside lk ev none e fit =
     reaches-step (create-accepted f v o lv inside ev none)
     (give-runs f v s o x absent (created-valid v o h ev none) lv ls inside lk (created-owned v o S)
     (e ∙ ap not (sym (created-exists v o S s))) (givable-created v s o x h ev none fit))
-
--- the two cases: o is another name, and o is s
-pub absent-other-runs : {S : State} (f : Shape) (v s : ℕ) (o : Name) (x : Right) (absent : Bool) → Valid S → v < f .n → s < f .n
-    → named (f .n) (f .p) o ≡ true → basicNumber x < basicsOf f → exists S v ≡ true → existsName S o ≡ false → o ≢ Subject s
-    → absent ≡ not (exists S s) → Gainable s o x → Reaches f S (createsName v o ∷ finish v s o x absent false) s o x
-absent-other-runs {S} f v s o x absent h lv ls inside lk ev none apart e fit =
-    absent-runs f v s o x absent h lv ls inside lk ev none
-    (e ∙ ap (λ (t : Bool). not (t || exists S s)) (sym (sameName-ne (Subject s) o (λ q. apart (sym q))))) fit
-
-pub absent-self-runs : {S : State} (f : Shape) (v s : ℕ) (o : Name) (x : Right) → Valid S → v < f .n → s < f .n
-    → named (f .n) (f .p) o ≡ true → basicNumber x < basicsOf f → exists S v ≡ true → existsName S o ≡ false → o ≡ Subject s
-    → Gainable s o x → Reaches f S (createsName v o ∷ finish v s o x false false) s o x
-absent-self-runs {S} f v s o x h lv ls inside lk ev none same fit =
-    absent-runs f v s o x false h lv ls inside lk ev none
-    (sym (ap (λ (t : Bool). not (t || exists S s)) (subst (λ (y : Name). sameName (Subject s) y ≡ true) (sym same) (sameName-refl (Subject s))))) fit
 
 -- Creating o is enough for own by v itself, and for control of a subject over itself.
 pub absent-own-runs : {S : State} (f : Shape) (v : ℕ) (o : Name) → v < f .n → named (f .n) (f .p) o ≡ true → exists S v ≡ true

@@ -1,6 +1,5 @@
 -- The initiators and the lengths of the ends of leaking lists.
-use Prim.Native.Nat.{ℕ, _+_, _≤_}
-use native.Mathlib.Omega.{arith}
+use Prim.Native.Nat.{ℕ, _+_}
 use mathlib.Core.Path.{_≡_, refl}
 use mathlib.Core.Bool.{Bool, true, false, cond}
 use mathlib.Core.List.{[], _∷_, _++_}
@@ -39,12 +38,6 @@ finish-length v s o x true true = refl
 finish-length v s o x false true = refl
 finish-length v s o x true false = refl
 finish-length v s o x false false = refl
-
-pub finish-few : (v s : ℕ) (o : Name) (x : Right) (absent again : Bool) → length (finish v s o x absent again) ≤ 4
-finish-few v s o x true true = omega arith
-finish-few v s o x false true = omega arith
-finish-few v s o x true false = omega arith
-finish-few v s o x false false = omega arith
 
 pub pass-length : (i s : ℕ) (o : Name) (k : ℕ) (g : Form) (absent : Bool)
     → length (cond absent (creates i s ∷ []) [] ++ (passes i s o k g ∷ [])) ≡ cond absent 2 1

@@ -24,7 +24,7 @@ use Rattle.matrix.specs.State.{State, has, put, clear}
 use Rattle.matrix.specs.Commands.{ruleOf, rules, decode}
 use Rattle.matrix.specs.Changes.{change, admit, inherit, inColumn, inCross}
 use Rattle.matrix.specs.Step.{refusal, next}
-use Rattle.matrix.specs.Shape.{Shape, shapeOf, bitsOf, basicsOf, columns}
+use Rattle.matrix.specs.Shape.{Shape, bitsOf, basicsOf, columns}
 use Rattle.matrix.specs.Shaped.{Within}
 use Rattle.matrix.specs.Calls.{rawOf, namesFit, refusalOn, nextOn, runFrom}
 use Rattle.laws.specs.Tests.{way, and-left, and-right}
@@ -108,11 +108,6 @@ right-fits f code k b = every-rule fits code k table (λ j e. tt)
     table : Every fits (rules k)
     table =
         (basic Plain, (basic Starred, (omega arith, (basic Plain, (basic Starred, (omega arith, (omega arith, (basic Plain, (basic Starred, (omega arith, (omega arith, (omega arith, (omega arith, tt)))))))))))))
-
--- the cells of every record have a byte at least
-pub width-room : (b : List ℕ) → 1 ≤ shapeOf b .width
-unfolding shapeOf
-width-room b = omega arith
 
 -- A command on a record stays within the record, accepted or refused.
 pub within-next : (f : Shape) (S : State) (c : Fields) → 1 ≤ f .width → Within f S → Within f (nextOn f S c)

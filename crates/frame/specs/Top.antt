@@ -1,9 +1,8 @@
 -- `top` is a device: in a valid state a search below `top` is one over all names.
 use Prim.Native.Nat.{ℕ, _<_}
-use native.Mathlib.Omega.{arith}
-use mathlib.Core.Path.{_≡_, refl, sym, _∙_, subst}
+use mathlib.Core.Path.{_≡_, refl, sym, subst}
 use mathlib.Core.Logic.{_↔_, _≢_}
-use mathlib.Core.Bool.{true, false, not, _&&_}
+use mathlib.Core.Bool.{true, not, _&&_}
 use borrow.Author.Tests.{not-true}
 use Rattle.matrix.specs.declared.Name.{Name}
 use Rattle.matrix.specs.declared.Name.the-variants.{Subject, Plain}
@@ -14,7 +13,7 @@ use Rattle.matrix.specs.State.{State, has, existsName}
 use Rattle.matrix.specs.Owners.{ownerOf}
 use Rattle.matrix.specs.Valid.{Valid}
 use Rattle.matrix.specs.Tests.{otherController}
-use Rattle.laws.specs.Tests.{clash, fails, and-left, and-right, and-both}
+use Rattle.laws.specs.Tests.{clash, and-left, and-right, and-both}
 use Rattle.laws.specs.Same.{sameName-refl, sameName-ne}
 use Rattle.laws.specs.Bounded.{any-hit, any-found}
 use Rattle.owners.specs.Framed.{valid-framed, owner-same}
@@ -36,10 +35,6 @@ object-exists {S} v o = (found, there)
 -- the owner that the walk follows is the owner
 pub owner-found : {S : State} → Valid S → (w s : ℕ) → S .owns w (Subject s) ≡ true → ownerOf (S .top) (S .owns) s ≡ w
 owner-found v w s h = sym (owner-same (valid-framed v) w s h)
-
--- and a search that ends at `top` says that there is none
-pub owner-none : {S : State} → Valid S → (s : ℕ) → ownerOf (S .top) (S .owns) s ≡ S .top → (w : ℕ) → S .owns w (Subject s) ≡ false
-owner-none {S} v s e w = fails (S .owns w (Subject s)) (λ h. let q : S .top ≡ w = sym e ∙ owner-found v w s h in let l : w < S .top = row-below v Own w (Subject s) h in omega arith)
 
 -- "none but o controls o"
 pub controller-found : {S : State} → Valid S → (x : Name) → (otherController S x ≡ true) ↔ ((w : ℕ) × (S .controls w x ≡ true) × (Subject w ≢ x))

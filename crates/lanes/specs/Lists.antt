@@ -38,13 +38,6 @@ stored-step m g old new v s h e =
     later : (j : ℕ) → m + 1 ≤ j → getD (set new m v) j 0 ≡ getD old j 0
     later j l = getD-set-other new m j v 0 (omega arith) ∙ s .above j (omega arith)
 
--- all is stored
-pub stored-all : (room m : ℕ) (g : ℕ → ℕ) (old new : List ℕ) → length old ≡ room → Stored m g old new → Holds room m g new
-stored-all room m g old new e s = record { size = s .size ∙ e; value = s .below }
-
-pub holds-same : (room m : ℕ) (g h : ℕ → ℕ) (l : List ℕ) → ((j : ℕ) → j < m → g j ≡ h j) → Holds room m g l → Holds room m h l
-holds-same room m g h l e s = record { size = s .size; value = λ j b. s .value j b ∙ e j b }
-
 -- the loop's end: what is stored below j is stored below m, where j has come to m
 pub stored-done : (j m : ℕ) (g : ℕ → ℕ) (old new : List ℕ) → j ≤ m → m ≤ j → Stored j g old new → Stored m g old new
 stored-done j m g old new h l s = subst (λ (i : ℕ). Stored i g old new) (omega arith) s

@@ -36,6 +36,9 @@ some-count (suc n) f h =
 pub count-none : (n : ℕ) (f : ℕ → Bool) → any n f ≡ false → count n f ≡ 0
 count-none n f h = let z : (1 ≤ count n f) → ⊥ = λ l. clash (count-some n f l) h in omega arith
 
+pub none-count : (n : ℕ) (f : ℕ → Bool) → count n f ≡ 0 → (i : ℕ) → i < n → f i ≡ false
+none-count n f h i l = fails (f i) (λ e. let s : 1 ≤ count n f = some-count n f (any-hit n f i l e) in omega arith)
+
 -- where at most one passes, two that pass are the same
 pub count-one : (n : ℕ) (f : ℕ → Bool) (i j : ℕ) → count n f ≤ 1 → i < n → j < n → f i ≡ true → f j ≡ true → i ≡ j
 count-one zero f i j h a b p q = absurd (not-suc-le-zero a)

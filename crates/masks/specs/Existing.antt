@@ -14,7 +14,7 @@ use Rattle.matrix.specs.Bytes.{bit, fromBits}
 use Rattle.matrix.specs.State.{exists}
 use Rattle.matrix.specs.Reading.{stateOf}
 use Rattle.laws.specs.Tests.{way}
-use Rattle.codec.specs.Bits.{fromBits-below, bit-fromBits, bit-beyond}
+use Rattle.codec.specs.Bits.{fromBits-below, bit-fromBits, bit-beyond, one-shifted}
 use Rattle.masks.specs.Marks.{MarksOf}
 
 -- m has the bits of the existing subjects below s, and no other
@@ -24,10 +24,6 @@ pub record Upto (b : List ℕ) (s m : ℕ) : Type 0 where
 pub upto-none : (b : List ℕ) → Upto b 0 0
 unfolding fromBits
 upto-none b = record { is = refl }
-
--- 1 shifted by s
-pub one-shifted : (s : ℕ) → s < 64 → 1 * 2 ^ s % 18446744073709551616 ≡ 2 ^ s
-one-shifted s h = omega (arith, pow-mono {i = suc s} {j = 64} (omega arith), pow-succ' 2 s)
 
 module _ {b : List ℕ} {s m : ℕ} (h : Upto b s m) where
   -- there is room for one bit more

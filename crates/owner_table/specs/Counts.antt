@@ -1,5 +1,5 @@
 -- Laws of counts, of the last that passes, and of numbers merged.
-use Prim.Native.Nat.{ℕ, zero, suc, _<_}
+use Prim.Native.Nat.{ℕ, zero, suc, _+_, _<_}
 use native.Mathlib.Nat.{not-suc-le-zero}
 use native.Mathlib.Omega.{arith}
 use mathlib.Core.Path.{_≡_, refl, sym, _∙_, subst}
@@ -8,35 +8,10 @@ use mathlib.Core.Bool.{Bool, true, false, not, _&&_}
 use lib.Dec.{eqb}
 use borrow.Author.Tests.{eq-eqb, ne-eqb}
 use Rattle.matrix.specs.Bounded.{any, count, least}
-use Rattle.laws.specs.Tests.{way, clash, fails}
+use Rattle.laws.specs.Tests.{way}
 use Rattle.laws.specs.Bounded.{below-suc, any-hit, none-any, count-same}
+use Rattle.laws.specs.Counting.{count-hit, count-miss, none-count}
 use Rattle.lanes.specs.Lanes.{lastOf}
-
--- the count one further, by whether that one passes
-pub count-hit : (n : ℕ) (f : ℕ → Bool) → f n ≡ true → count (suc n) f ≡ suc (count n f)
-unfolding count
-count-hit n f h = rw h (omega arith)
-
-pub count-miss : (n : ℕ) (f : ℕ → Bool) → f n ≡ false → count (suc n) f ≡ count n f
-unfolding count
-count-miss n f h = rw h (omega arith)
-
--- nothing passes where the count is 0
-pub count-none : (n : ℕ) (f : ℕ → Bool) → ((i : ℕ) → i < n → f i ≡ false) → count n f ≡ 0
-unfolding count
-count-none zero f h = refl
-count-none (suc n) f h = rw (count-none n f (λ i l. h i (omega arith)), h n (omega arith)) refl
-
-pub none-count : (n : ℕ) (f : ℕ → Bool) → count n f ≡ 0 → (i : ℕ) → i < n → f i ≡ false
-none-count zero f h i l = absurd (not-suc-le-zero l)
-none-count (suc n) f h i l = ⊎-elim (λ b. none-count n f (rest (way (f n))) i b) (λ q. subst (λ (j : ℕ). f j ≡ false) (sym q) here) (below-suc i n l)
-  where
-    here : f n ≡ false
-    here = fails (f n) (λ e. let c : count (suc n) f ≡ suc (count n f) = count-hit n f e in absurd (omega arith))
-
-    rest : (f n ≡ true) ⊎ (f n ≡ false) → count n f ≡ 0
-    rest (inl e) = absurd (clash e here)
-    rest (inr e) = sym (count-miss n f e) ∙ h
 
 -- where one passes, the others are one fewer
 pub count-besides : (n : ℕ) (f : ℕ → Bool) (s : ℕ) → s < n → f s ≡ true → count n f ≡ suc (count n (λ w. f w && not (eqb w s)))
@@ -59,8 +34,8 @@ count-besides (suc n) f s l h =
 
     earlier : s < n → count n f ≡ suc (count n g) → (f n ≡ true) ⊎ (f n ≡ false) → count (suc n) f ≡ suc (count (suc n) g)
     earlier b ih (inl e) =
-        let p : count (suc n) f ≡ suc (count n f) = count-hit n f e in
-        let q : count (suc n) g ≡ suc (count n g) = count-hit n g (apart n (omega arith) ∙ e) in
+        let p : count (suc n) f ≡ count n f + 1 = count-hit n f e in
+        let q : count (suc n) g ≡ count n g + 1 = count-hit n g (apart n (omega arith) ∙ e) in
         omega arith
     earlier b ih (inr e) =
         let p : count (suc n) f ≡ count n f = count-miss n f e in
@@ -69,7 +44,7 @@ count-besides (suc n) f s l h =
 
     here : s ≡ n → count (suc n) f ≡ suc (count (suc n) g)
     here q =
-        let p : count (suc n) f ≡ suc (count n f) = count-hit n f (subst (λ (j : ℕ). f j ≡ true) q h) in
+        let p : count (suc n) f ≡ count n f + 1 = count-hit n f (subst (λ (j : ℕ). f j ≡ true) q h) in
         let r : count (suc n) g ≡ count n g = count-miss n g (subst (λ (j : ℕ). g j ≡ false) q gone) in
         let t : count n f ≡ count n g = count-same n f g (λ i b. sym (apart i (omega arith))) in
         omega arith
@@ -101,7 +76,7 @@ last-least (suc n) f h = go (way (f n)) (last-least n f)
 
     go : (f n ≡ true) ⊎ (f n ≡ false) → (count n f ≡ 1 → Claim n) → Claim (suc n)
     go (inl e) ih =
-        let z : count n f ≡ 0 = (let p : count (suc n) f ≡ suc (count n f) = count-hit n f e in omega arith) in
+        let z : count n f ≡ 0 = (let p : count (suc n) f ≡ count n f + 1 = count-hit n f e in omega arith) in
         let a : any n f ≡ false = none-any n f (none-count n f z) in
         let q : least (suc n) f ≡ n = rw (a, e) refl in
         (rw (e, a) refl, rw q (omega arith), rw q e)

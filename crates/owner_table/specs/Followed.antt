@@ -8,10 +8,10 @@ use mathlib.Core.Bool.{Bool, true, false, not, _&&_, false≢true}
 use lib.Dec.{eqb}
 use borrow.Author.Tests.{eqb-true, eq-eqb, not-true}
 use Rattle.matrix.specs.Bounded.{any, count}
-use Rattle.laws.specs.Tests.{way, clash, holds, and-left, and-right, and-both}
+use Rattle.laws.specs.Tests.{way, clash, holds, fails-not, and-left, and-right, and-both}
 use Rattle.laws.specs.Bounded.{below-suc, any-found, any-none}
+use Rattle.laws.specs.Counting.{count-hit, count-miss}
 use Rattle.lanes.specs.LaneLaws.{count-le}
-use Rattle.owner_table.specs.Counts.{count-hit, count-miss}
 
 -- f applied j times
 unfoldable pub followed : (ℕ → ℕ) → ℕ → ℕ → ℕ
@@ -106,10 +106,7 @@ module _ (n : ℕ) (f : ℕ → ℕ) (keeps : (s : ℕ) → s < n → f s < n) (
       (not-true (there j s) (and-right (there (suc j) s) (not (there j s)) e)) (and-left (there (suc j) s) (not (there j s)) e)
 
   settles : (j : ℕ) → any n (fresh j) ≡ false → Settled j
-  settles j h s l e = eqb-true (followed f j s) 0 (holds (there j s) (λ t. clash (and-both (eq-eqb (followed f (suc j) s) 0 e) (false-not t)) (any-none n (fresh j) s h l)))
-    where
-      false-not : {t : Bool} → t ≡ false → not t ≡ true
-      false-not {t} e = rw e refl
+  settles j h s l e = eqb-true (followed f j s) 0 (holds (there j s) (λ t. clash (and-both (eq-eqb (followed f (suc j) s) 0 e) (fails-not t)) (any-none n (fresh j) s h l)))
 
   -- after j times no more come to 0, or at least j + 1 have
   progress : 0 < n → (j : ℕ) → Settled j ⊎ (j < count n (there j))

@@ -5,7 +5,6 @@ use mathlib.Core.List.{List}
 use lib.ListN.{length}
 use Rattle.matrix.specs.declared.Name.{Name}
 use Rattle.matrix.specs.declared.Right.{Right}
-use Rattle.matrix.specs.State.{State}
 use Rattle.matrix.specs.Reading.{stateOf}
 use Rattle.states.specs.Needs.{BitIn}
 use Rattle.question.specs.declared.Safety.{Safety}

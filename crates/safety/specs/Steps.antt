@@ -1,10 +1,9 @@
 -- The way of a question, test by test, and what is told of it.
 use Prim.Native.Nat.{ℕ, _+_, _≤_, _<_}
 use native.Mathlib.Nat.{zero-add}
-use native.Mathlib.Omega.{arith}
 use mathlib.Core.Path.{_≡_, refl, sym, _∙_, ap, ap₂, subst}
-use mathlib.Core.Bool.{Bool, true, false, cond, not, _&&_}
-use mathlib.Core.List.{List, [], _∷_}
+use mathlib.Core.Bool.{Bool, true, false}
+use mathlib.Core.List.{List, []}
 use lib.Dec.{ltb}
 use lib.ListN.{length}
 use borrow.Author.Tests.{lt-ltb, le-ltb}
@@ -12,14 +11,12 @@ use Rattle.matrix.specs.declared.Name.{Name}
 use Rattle.matrix.specs.declared.Right.{Right}
 use Rattle.matrix.specs.declared.Fields.{Fields}
 use Rattle.matrix.specs.Bounded.{least}
-use Rattle.matrix.specs.State.{State, held, exists, existsName}
+use Rattle.matrix.specs.State.{State, held, existsName}
 use Rattle.matrix.specs.Reading.{stateOf}
-use Rattle.cells.specs.Station.{Station}
-use Rattle.states.specs.Reads.{top-is}
 use Rattle.question.specs.declared.Safety.{Safety}
 use Rattle.question.specs.declared.Safety.the-variants.{Leaks}
 use Rattle.safe.specs.Possible.{possible}
-use Rattle.ways.specs.Ways.{Way, held-now, by-star, by-creation, from-above, no-way, starHolder, untrustedIn, wayOver, wayMade, wayOf, listOf}
+use Rattle.ways.specs.Ways.{Way, held-now, by-star, by-creation, from-above, no-way, starHolder, untrustedIn, wayOver, wayMade, wayOf}
 use Rattle.writing.specs.Put.{putAll, putHead, putList}
 use Rattle.climbing.specs.declared.Climbed.{Climbed}
 use Rattle.climbing.specs.declared.Climbed.the-variants.{At}

@@ -1,8 +1,7 @@
 -- What is told of a way, from the parts that were written.
 use Prim.Native.Nat.{ℕ, _+_, _≤_, _<_}
-use native.Mathlib.Nat.{zero-add}
 use native.Mathlib.Omega.{arith}
-use mathlib.Core.Path.{_≡_, refl, sym, _∙_, ap, ap₂, subst}
+use mathlib.Core.Path.{_≡_, refl, sym, _∙_, ap, ap₂}
 use mathlib.Core.Bool.{Bool, true, false, cond, not, _&&_, _||_}
 use mathlib.Core.List.{List, [], _∷_, _++_, append-nil}
 use lib.Dec.{eqb}
@@ -15,25 +14,21 @@ use Rattle.matrix.specs.declared.Fields.{Fields}
 use Rattle.matrix.specs.Names.{columnOf, sameName}
 use Rattle.matrix.specs.State.{State, exists}
 use Rattle.matrix.specs.Reading.{stateOf}
-use Rattle.cells.specs.Station.{Station}
 use Rattle.cells.specs.Places.{subjects-few, plains-few}
 use Rattle.codec.specs.Columns.{named-below}
-use Rattle.states.specs.Needs.{basicOf, BitIn}
+use Rattle.states.specs.Needs.{basicOf}
 use Rattle.question.specs.declared.Safety.{Safety}
 use Rattle.question.specs.declared.Safety.the-variants.{Leaks}
 use Rattle.question.specs.Asked.{listRoom}
 use Rattle.route.specs.Parts.{creates, createsName, finish, destroysAll, among, basicNumber}
 use Rattle.finish.specs.Finish.{againNeeded}
 use Rattle.finish.specs.Lists.{finish-length}
-use Rattle.chain.specs.Destroyed.{destroys-length}
-use Rattle.ways.specs.Ways.{Way, held-now, by-star, by-creation, from-above, no-way, listOf, madeHeld, isOwn, passesRight}
-use Rattle.ways.specs.Path.{listed}
-use Rattle.writing.specs.Put.{putAll, putHead, putList, HeadRoom, mostCommands}
-use Rattle.telling.specs.Tells.{Tells, Fits, tells-then, tells-length}
+use Rattle.ways.specs.Ways.{Way, held-now, by-star, by-creation, from-above, listOf, madeHeld, isOwn, passesRight}
+use Rattle.writing.specs.Put.{putAll, putList, HeadRoom}
+use Rattle.telling.specs.Tells.{Tells, tells-length}
 use Rattle.telling.specs.Parts.{Part}
-use Rattle.telling.specs.Paths.{PathRoom}
-use Rattle.told.specs.Told.{safetyOf, bufferOf, Told}
-use Rattle.safety.specs.Asks.{Asks, Headed, PathOf}
+use Rattle.told.specs.Told.{Told}
+use Rattle.safety.specs.Asks.{Asks, Headed}
 use Rattle.safety.specs.Steps.{headed-list}
 
 -- the number of a basic right is called by two names
@@ -111,12 +106,6 @@ module _ {b : List ℕ} {n p s : ℕ} {x : Name} {y : Right} {w : Way} {out : Li
       let r : listRoom (n + 2) ≤ length out = q .room in
       let h : n ≤ 64 = few-subjects in
       record { fits = omega arith; few = omega arith }
-
-  pub path-of : (v m : ℕ) → v < n → m ≤ n → PathRoom out v m
-  path-of v m l f =
-      let r : listRoom (n + 2) ≤ length out = q .room in
-      let h : n ≤ 64 = few-subjects in
-      record { room = record { fits = omega arith }; by = omega arith; short = omega arith }
 
   -- room for the head of a list of the way that was written whole
   pub head-by : {mid : List ℕ} {k : ℕ} {cs : List Fields} → cs ≡ listOf (stateOf b) s x y w → Tells out mid 0 cs k → HeadRoom mid k

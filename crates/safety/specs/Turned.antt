@@ -1,13 +1,13 @@
 -- A safety question that is turned down, and one that is decided.
 use Prim.Native.Nat.{ℕ, _+_, _≤_, _<_}
 use native.Mathlib.Omega.{arith}
-use mathlib.Core.Path.{_≡_, refl, sym, _∙_, ap, subst}
+use mathlib.Core.Path.{_≡_, refl, sym, _∙_, ap}
 use mathlib.Core.Bool.{Bool, true, false, cond, _&&_}
-use mathlib.Core.List.{List, [], _∷_}
+use mathlib.Core.List.{List, []}
 use lib.Dec.{eqb, leb}
 use lib.ListN.{length}
-use borrow.Author.Tests.{ne-eqb, eq-eqb, le-leb, lt-leb}
-use Rattle.matrix.specs.Tests.{test, firstFailed}
+use borrow.Author.Tests.{ne-eqb, le-leb, lt-leb}
+use Rattle.matrix.specs.Tests.{firstFailed}
 use Rattle.matrix.specs.Shape.{shapeOf}
 use Rattle.matrix.specs.Record.{recordRefusal}
 use Rattle.matrix.specs.Calls.{questionFits}

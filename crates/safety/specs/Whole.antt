@@ -15,7 +15,7 @@ use Rattle.matrix.specs.Shape.{Shape, shapeOf, basicsOf}
 use Rattle.matrix.specs.Reading.{stateOf}
 use Rattle.matrix.specs.Record.{recordRefusal}
 use Rattle.matrix.specs.Calls.{questionFits}
-use Rattle.laws.specs.Tests.{and-left, and-right}
+use Rattle.laws.specs.Tests.{and-left}
 use Rattle.codec.specs.RoundTrip.{within-read}
 use Rattle.owners.specs.Read.{valid-record}
 use Rattle.cells.specs.Station.{Station}

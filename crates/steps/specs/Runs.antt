@@ -14,13 +14,9 @@ use Rattle.matrix.specs.declared.Fields.{Fields}
 use Rattle.matrix.specs.State.{State, held}
 use Rattle.matrix.specs.Step.{refusal, next}
 use Rattle.matrix.specs.Shape.{Shape, basicsOf}
-use Rattle.matrix.specs.Shaped.{Within}
-use Rattle.matrix.specs.Valid.{Valid}
 use Rattle.matrix.specs.Calls.{Ran, rawOf, namesFit, refusalOn, nextOn, runFrom}
 use Rattle.laws.specs.Tests.{way, clash}
 use Rattle.laws.specs.Passed.{taken}
-use Rattle.kept.specs.Keeps.{on-keeps}
-use Rattle.frame.specs.Stays.{within-next}
 use Rattle.question.specs.Safe.{Safe, after, Begun}
 use Rattle.question.specs.Leaks.{LeaksBy, Untrusted}
 use Rattle.route.specs.RunsTo.{Accepts, RunsTo, done, step}
@@ -29,10 +25,6 @@ use Rattle.route.specs.RunsTo.{Accepts, RunsTo, done, step}
 pub runs-append : {f : Shape} {S T R : State} {cs ds : List Fields} → RunsTo f S cs T → RunsTo f T ds R → RunsTo f S (cs ++ ds) R
 runs-append done rest = rest
 runs-append (step a r) rest = step a (runs-append r rest)
-
--- one command
-pub runs-one : {f : Shape} {S T : State} {c : Fields} → Accepts f S c T → RunsTo f S (c ∷ []) T
-runs-one a = step a done
 
 -- such a list runs to its end
 pub runs-from : {f : Shape} {S T : State} {cs : List Fields} → RunsTo f S cs T → (j : ℕ)
@@ -53,21 +45,6 @@ run-runs f S (c ∷ cs) j h =
     (λ e. let g : runFrom (j + 1) f (nextOn f S c) cs .refusal ≡ 0 = rw e at h in
     rw e (step (record { accepted = eqb-true (refusalOn f S c) 0 e; leaves = refl }) (run-runs f (nextOn f S c) cs (j + 1) g)))
     (λ e. let g : refusalOn f S c ≡ 0 = rw e at h in absurd (eqb-false (refusalOn f S c) 0 e g)) (way (eqb (refusalOn f S c) 0))
-
--- a command that is accepted keeps validity and stays within the record
-pub accepts-valid : {f : Shape} {S T : State} {c : Fields} → Accepts f S c T → Valid S → Valid T
-accepts-valid {f} {S} {c = c} a h = rw (a .leaves) at (on-keeps f S c h)
-
-pub accepts-within : {f : Shape} {S T : State} {c : Fields} → 1 ≤ f .width → Accepts f S c T → Within f S → Within f T
-accepts-within {f} {S} {c = c} b a w = rw (a .leaves) at (within-next f S c b w)
-
-pub runs-valid : {f : Shape} {S T : State} {cs : List Fields} → RunsTo f S cs T → Valid S → Valid T
-runs-valid done h = h
-runs-valid (step a r) h = runs-valid r (accepts-valid a h)
-
-pub runs-within : {f : Shape} {S T : State} {cs : List Fields} → 1 ≤ f .width → RunsTo f S cs T → Within f S → Within f T
-runs-within b done w = w
-runs-within b (step a r) w = runs-within b r (accepts-within b a w)
 
 -- A command that is accepted on the record is accepted without the bounds on names as well, and leaves the same state.
 pub accepts-anywhere : {f : Shape} {S T : State} {c : Fields} → Accepts f S c T → next (basicsOf f) true S (rawOf f c) ≡ T

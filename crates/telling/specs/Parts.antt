@@ -47,10 +47,6 @@ pub one-room : {out : List ℕ} {j code i s o k : ℕ} → Fits out j 1 → code
     → Room out j (fields code i s o k)
 one-room f code i s o k = record { fits = omega (arith, f .fits); bytes = record { code = code; i = i; s = s; o = o; k = k } }
 
--- room for a command about a subject alone
-pub pair-room : {out : List ℕ} {j v w : ℕ} (code : ℕ) → Pair out j 1 v w → code < 256 → Room out j (fields code v w 0 0)
-pair-room code q h = one-room (q .room) h (q .by) (q .about) (omega arith) (omega arith)
-
 pub part-room : {out : List ℕ} {j v s : ℕ} {x : Name} {y : Right} {code o k : ℕ} → Part out j 1 v s x y → code < 256 → o ≡ columnOf x
     → k ≡ basicNumber y → Room out j (fields code v s o k)
 part-room q c e h =

@@ -1,34 +1,33 @@
 -- What is told is so: the answer to a question that is not turned down is the definition's.
-use Prim.Native.Nat.{ℕ, _+_, _*_, _≤_, _<_}
+use Prim.Native.Nat.{ℕ, _+_, _≤_, _<_}
 use native.Mathlib.Omega.{arith}
 use mathlib.Core.Path.{_≡_, refl, sym, _∙_, ap, subst}
-use mathlib.Core.Logic.{_⊎_, inl, inr}
-use mathlib.Core.Bool.{Bool, true, false}
+use mathlib.Core.Logic.{inl, inr}
+use mathlib.Core.Bool.{true}
 use mathlib.Core.List.{List}
-use lib.ListN.{length, take, drop}
+use lib.ListN.{length}
 use Rattle.matrix.specs.declared.Name.{Name}
 use Rattle.matrix.specs.declared.Right.{Right}
 use Rattle.matrix.specs.declared.Fields.{Fields}
 use Rattle.matrix.specs.Names.{nameOf, named}
 use Rattle.matrix.specs.Rights.{rightOf}
 use Rattle.matrix.specs.State.{State}
-use Rattle.matrix.specs.Shape.{Shape, shapeOf, basicsOf}
+use Rattle.matrix.specs.Shape.{shapeOf, basicsOf}
 use Rattle.matrix.specs.Reading.{stateOf}
 use Rattle.matrix.specs.Record.{recordRefusal}
-use Rattle.matrix.specs.CommandList.{wellFormed, commandsOf}
 use Rattle.codec.specs.RoundTrip.{within-read}
 use Rattle.owners.specs.Read.{valid-record, record-shaped}
 use Rattle.question.specs.declared.Safety.{Safety}
 use Rattle.question.specs.declared.Safety.the-variants.{Leaks}
 use Rattle.question.specs.Trust.{trustedBy}
 use Rattle.question.specs.Leaks.{LeaksBy}
-use Rattle.question.specs.Asked.{listRoom, SafeRecord, LeaksRecord, Written, Decided}
+use Rattle.question.specs.Asked.{listRoom, LeaksRecord, Written, Decided}
 use Rattle.route.specs.Parts.{basicNumber}
 use Rattle.ways.specs.Ways.{Way, held-now, by-star, by-creation, from-above, no-way, wayOf, listOf}
 use Rattle.decision.specs.Decides.{Says, decides}
 use Rattle.writing.specs.Put.{putList, mostCommands}
 use Rattle.writing.specs.Laws.{list-size, list-later, list-formed, list-commands}
-use Rattle.told.specs.Told.{safetyOf, bufferOf, Told}
+use Rattle.told.specs.Told.{bufferOf, Told}
 
 -- a question of names and a right of the record, with room for its list
 pub record Askable (b : List ℕ) (s o right : ℕ) (out : List ℕ) : Type 0 where

@@ -7,12 +7,13 @@ use mathlib.Core.Bool.{Bool, true, false, cond, not, _&&_, _||_, false≢true}
 use lib.Dec.{eqb, ltb, leb}
 use borrow.Author.Tests.{eqb-true, eqb-false, eq-eqb, ne-eqb, lt-ltb, le-ltb, leb-true, le-leb, not-true}
 use Rattle.matrix.specs.Bounded.{any, all, count, least}
-use Rattle.laws.specs.Tests.{way, clash, holds, same-test, and-left, and-right, and-both, or-left, or-right}
+use Rattle.laws.specs.Tests.{way, clash, holds, fails-not, same-test, and-left, and-right, and-both, or-left, or-right, or-other}
 use Rattle.laws.specs.Bounded.{all-each, each-all, any-none, none-any, least-none}
-use Rattle.owner_table.specs.Counts.{none-count, last-below, last-none, last-least}
+use Rattle.laws.specs.Counting.{none-count}
+use Rattle.owner_table.specs.Counts.{last-below, last-none, last-least}
 use Rattle.owner_table.specs.Followed.{followed, followed-same, longer, within}
 use Rattle.validity.specs.Fast.{ownerStep, zeroAbsent, plainFree, rootAlone, oneEach, ascends, fiveHold, subjectRight, plainRight, lastOwner, allAscend, testsPass}
-use Rattle.validity.specs.Sound.{Bits, Framed, false-not, other, five-framed, framed-absent, framed-plain, framed-root, framed-one}
+use Rattle.validity.specs.Sound.{Bits, Framed, five-framed, framed-absent, framed-plain, framed-root, framed-one}
 
 module _ (n p : ℕ) (O C Z : ℕ → ℕ → Bool) (bits : Bits O C Z) (some : 0 < n) where
   abbrev Here : Type 0
@@ -92,7 +93,7 @@ module _ (n p : ℕ) (O C Z : ℕ → ℕ → Bool) (bits : Bits O C Z) (some : 
   framed-plainly f i l = go (way (any n (λ w. O w (n + i))))
     where
       go : (any n (λ w. O w (n + i)) ≡ true) ⊎ (any n (λ w. O w (n + i)) ≡ false) → plainRight n O C Z (n + i) ≡ true
-      go (inl e) = rw e (false-not (none-any n _ (λ w m. f .plain (n + i) w (omega arith) (omega arith) m)))
+      go (inl e) = rw e (fails-not (none-any n _ (λ w m. f .plain (n + i) w (omega arith) (omega arith) m)))
       go (inr e) = rw e (each-all n _ (λ w m. f .unowned (n + i) w (omega arith) (omega arith) m e))
 
   -- ---- the owners of existing subjects
@@ -152,7 +153,7 @@ module _ (n p : ℕ) (O C Z : ℕ → ℕ → Bool) (bits : Bits O C Z) (some : 
     where
       go : (s : ℕ) → s < n → (C s s ≡ true) ⊎ (C s s ≡ false) → followed (lastOwner n O) 64 s ≡ 0
       go s l (inl e) =
-          let q : followed (ownerStep n O) n s ≡ 0 = eqb-true _ 0 (other (not (C s s)) _ (all-each n (λ s. not (C s s) || eqb (followed (ownerStep n O) n s) 0) h s l) (rw e refl)) in
+          let q : followed (ownerStep n O) n s ≡ 0 = eqb-true _ 0 (or-other {t = not (C s s)} (all-each n (λ s. not (C s s) || eqb (followed (ownerStep n O) n s) 0) h s l) (rw e refl)) in
           let t : n + (64 - n) ≡ 64 = omega arith in
           rw t at (longer n (lastOwner n O) last-inside (root-last f) n (64 - n) s (same-path f n s (l, e) ∙ q))
       go s l (inr e) = longer n (lastOwner n O) last-inside (root-last f) 1 63 s (absent-last f s l e)
@@ -165,7 +166,7 @@ module _ (n p : ℕ) (O C Z : ℕ → ℕ → Bool) (bits : Bits O C Z) (some : 
           or-right (not (C s s))
           (eq-eqb _ 0 (sym (same-path f n s (l, e)) ∙ within n (lastOwner n O) last-inside (root-last f) 64 s l
           (eqb-true _ 0 (all-each n (λ s. eqb (followed (lastOwner n O) 64 s) 0) h s l))))
-      go s l (inr e) = or-left _ (false-not e)
+      go s l (inr e) = or-left _ (fails-not e)
 
   -- The tests of one pass pass just where the five conditions hold.
   pub tests-five : n ≤ 64 → testsPass n p O C Z ≡ fiveHold n (n + p) O C Z

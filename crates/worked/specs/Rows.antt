@@ -1,9 +1,9 @@
 -- The rows of "Stations A and B" that are marked to be theorems, gathered under one proof: those about commands (crate frame), and
 -- those about the safety question. The safe ones go through the theorem that decides the question, the others are computed.
-use Prim.Native.Nat.{ℕ, _+_, _≤_, _<_}
+use Prim.Native.Nat.{ℕ, _<_}
 use native.Mathlib.Omega.{arith}
 use mathlib.Core.Path.{_≡_, refl, subst}
-use mathlib.Core.Bool.{Bool, true, false}
+use mathlib.Core.Bool.{true}
 use mathlib.Core.List.{List, [], _∷_}
 use Rattle.matrix.specs.declared.Fields.{Fields}
 use Rattle.matrix.specs.Bounded.{any, all, count, least}

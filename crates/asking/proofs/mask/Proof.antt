@@ -1,7 +1,7 @@
 -- `asking::mask` meets its contract.
 use Prim.Native.Nat.{ℕ, _+_, _*_, _≤_}
 use native.Mathlib.Omega.{arith}
-use mathlib.Core.Path.{_≡_, _∙_, ap₂}
+use mathlib.Core.Path.{_∙_, ap₂}
 use Rattle.matrix.specs.Shaped.{Octets}
 use Rattle.lists.specs.Forms.{four-below}
 use Rattle.asking.specs.Numbers.{eight-bytes}

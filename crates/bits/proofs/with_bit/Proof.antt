@@ -2,7 +2,8 @@
 use Prim.Native.Nat.{ℕ, _+_, _-_}
 use native.Mathlib.Omega.{arith}
 use mathlib.Core.Path.{sym, _∙_, ap}
-use Rattle.bits.specs.OneBit.{power-small, one-shifted, bit-within, with-bit-is}
+use Rattle.codec.specs.Bits.{one-shifted}
+use Rattle.bits.specs.OneBit.{power-small, bit-within, with-bit-is}
 use borrow.Author.Needs.{needs}
 use Rattle.bits.proofs.with_bit.Statement.{statement}
 use Rattle.bits.proofs.with_bit.Tie as tie
@@ -16,7 +17,7 @@ shl-result c = search needs
 sub-result : tie.Need-sub-result
 sub-result c =
     let a = c .before .before .before .args in
-    omega (arith, one-shifted (a .j) (c .before .before .before .pre .1), bit-within (a .j) (a .v) (c .before .before .bit-of .ensures) (c .before .if1 .taken))
+    omega (arith, one-shifted (a .j) (omega (arith, c .before .before .before .pre .1)), bit-within (a .j) (a .v) (c .before .before .bit-of .ensures) (c .before .if1 .taken))
 
 shl-result-2 : tie.Need-shl-result-2
 shl-result-2 c = search needs
@@ -24,7 +25,7 @@ shl-result-2 c = search needs
 add-result : tie.Need-add-result
 add-result c =
     let a = c .before .before .before .args in
-    omega (arith, one-shifted (a .j) (c .before .before .before .pre .1), power-small (a .j) (c .before .before .before .pre .1))
+    omega (arith, one-shifted (a .j) (omega (arith, c .before .before .before .pre .1)), power-small (a .j) (c .before .before .before .pre .1))
 
 returns : tie.Need-returns
 returns c =
@@ -34,13 +35,13 @@ returns c =
 returns-2 : tie.Need-returns-2
 returns-2 c =
     let a = c .before .before .before .args in
-    ap (λ (m : ℕ). a .v - m) (one-shifted (a .j) (c .before .before .before .pre .1))
+    ap (λ (m : ℕ). a .v - m) (one-shifted (a .j) (omega (arith, c .before .before .before .pre .1)))
     ∙ sym (with-bit-is (a .j) (a .v) (c .before .before .bit-of .ensures) (c .before .if1 .taken) (c .if2 .left))
 
 returns-3 : tie.Need-returns-3
 returns-3 c =
     let a = c .before .before .before .args in
-    ap (λ (m : ℕ). a .v + m) (one-shifted (a .j) (c .before .before .before .pre .1))
+    ap (λ (m : ℕ). a .v + m) (one-shifted (a .j) (omega (arith, c .before .before .before .pre .1)))
     ∙ sym (with-bit-is (a .j) (a .v) (c .before .before .bit-of .ensures) (c .before .if1 .left) (c .if3 .taken))
 
 returns-4 : tie.Need-returns-4

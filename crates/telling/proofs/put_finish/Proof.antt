@@ -1,6 +1,5 @@
 -- `telling::put_finish` meets its contract: the three parts of the definition one after another.
 use Rattle.telling.specs.Tells.{tells-then}
-use Prim.Native.Nat.{_+_}
 use mathlib.Core.Bool.{cond}
 use Rattle.telling.specs.Parts.{pair-over, creating-pair, after-again, after-creating, tells-again}
 use borrow.Author.Needs.{needs}

@@ -1,7 +1,5 @@
 -- `examples::questions::buffer` meets its contract. Assumes nothing.
 use mathlib.Core.Path.{refl}
-use mathlib.Core.List.{List}
-use Prim.Native.Nat.{ℕ}
 use lib.ListN.{replicate}
 use Rattle.examples.proofs.Counted.{counted}
 use Rattle.examples.proofs.questions.buffer.Statement.{statement}
