@@ -1,0 +1,39 @@
+-- `bunvespo::bunvespo_command` meets its contract.
+use Rattle.bunvespo.specs.Pairs.{commandPair}
+use Rattle.bunvespo.specs.Laws.{pair-of}
+use borrow.Author.Needs.{needs}
+use Rattle.bunvespo.proofs.bunvespo_command.Statement.{statement}
+use Rattle.bunvespo.proofs.bunvespo_command.Tie as tie
+
+command-requires : tie.Need-command-requires
+command-requires c κs = search needs
+
+enum-known-answer : tie.Need-enum-known-answer
+enum-known-answer c = search needs
+
+enum-known-answer-2 : tie.Need-enum-known-answer-2
+enum-known-answer-2 c = search needs
+
+same-length : tie.Need-same-length
+same-length c = search needs
+
+returns : tie.Need-returns
+returns c = (pair-of commandPair (c .before .before .before .before .before .command .ensures .0) (c .before .answer .given .1), c .before .before .before .before .before .command .ensures .1)
+
+same-length-2 : tie.Need-same-length-2
+same-length-2 c = search needs
+
+returns-2 : tie.Need-returns-2
+returns-2 c = (pair-of commandPair (c .before .before .before .before .before .command .ensures .0) (c .before .answer2 .given .1), c .before .before .before .before .before .command .ensures .1)
+
+pub bunvespo-command-spec : {M : Type 1} → statement M
+bunvespo-command-spec =
+    tie.close
+    (tie.spec
+    command-requires
+    enum-known-answer
+    enum-known-answer-2
+    same-length
+    returns
+    same-length-2
+    returns-2)

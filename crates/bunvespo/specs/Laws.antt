@@ -1,0 +1,54 @@
+-- Laws of the pairs: the pair of an answer that is known, and room for the number of commands in it.
+use Prim.Native.Nat.{ℕ, _+_, _≤_}
+use native.Mathlib.Omega.{arith}
+use mathlib.Core.Path.{_≡_, sym, _∙_, ap}
+use mathlib.Core.Logic.{_⊎_, inl, inr}
+use mathlib.Core.Bool.{Bool, true, false, true≢false}
+use mathlib.Core.List.{List}
+use lib.Dec.{eqb}
+use lib.ListN.{length, getD, take}
+use borrow.Author.Tests.{eqb-true, eqb-false}
+use Rattle.matrix.specs.Shape.{shapeOf}
+use Rattle.matrix.specs.Shaped.{Octets}
+use Rattle.matrix.specs.CommandList.{commandsOf}
+use Rattle.laws.specs.Tests.{way}
+use Rattle.question.specs.declared.Safety.{Safety}
+use Rattle.question.specs.declared.Safety.the-variants.{Safe, Leaks, Refused}
+use Rattle.question.specs.Asked.{listRoom, safetyRefusal, Written, Decided, Answers}
+use Rattle.bunvespo.specs.declared.Pair.{Pair}
+use Rattle.bunvespo.specs.Pairs.{safetyPair, AnswersPair}
+
+-- r is the answer a, and it is known to be q
+pub pair-of : {A B : Type 0} (f : A → B) {r a q : A} → r ≡ a → r ≡ q → f q ≡ f a
+pair-of f e h = ap f (sym h ∙ e)
+
+module _ {b : List ℕ} {mask s o right : ℕ} {out out′ : List ℕ} {r : Safety} (h : Answers b mask s o right out out′ r) where
+  pub answers-pair : {q : Safety} → r ≡ q → AnswersPair b mask s o right out out′ (safetyPair q)
+  answers-pair e = record { answer = r; answers = h; is = ap safetyPair (sym e) }
+
+  abbrev isLeak : Safety → Bool
+  isLeak Safe = false
+  isLeak (Leaks k) = true
+  isLeak (Refused k) = false
+
+  abbrev number : Safety → ℕ
+  number Safe = 0
+  number (Leaks k) = k
+  number (Refused k) = 0
+
+  -- the commands of a leak are at most n + 2, and n is a byte
+  pub few-commands : Octets b → (commands : ℕ) → r ≡ Leaks commands → commands ≤ 257
+  unfolding shapeOf
+  few-commands octets commands e = go (way (eqb (safetyRefusal b mask s o right (length out)) 0))
+    where
+      said : Decided b mask s o right out out′ r → commands ≤ 257
+      said (inl d) = absurd (true≢false (sym (ap isLeak e) ∙ ap isLeak (d .0)))
+      said (inr d) =
+          let same : commands ≡ d .0 = ap number (sym e ∙ d .1) in
+          let some : length (commandsOf (take (listRoom (d .0)) out′)) ≡ d .0 = d .2 .number in
+          let few : length (commandsOf (take (listRoom (d .0)) out′)) ≤ getD b 5 0 + 2 = d .2 .leaks .few in
+          omega (arith, octets .octet 5)
+
+      go : (eqb (safetyRefusal b mask s o right (length out)) 0 ≡ true) ⊎ (eqb (safetyRefusal b mask s o right (length out)) 0 ≡ false) → commands ≤ 257
+      go (inl q) = said (h .decided (eqb-true _ 0 q))
+      go (inr q) = absurd (true≢false (sym (ap isLeak e) ∙ ap isLeak (h .refused (eqb-false _ 0 q) .0)))
