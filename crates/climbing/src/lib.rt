@@ -9,10 +9,11 @@ ghost use mathlib.Core.Path.{_≡_};
 ghost use Prim.Native.Nat.{_<_};
 ghost use lib.ListN.{length};
 ghost use Rattle.matrix.specs.Bounded.{least};
-ghost use Rattle.matrix.specs.Owners.{walk, meets};
+ghost use Rattle.matrix.specs.Owners.{ownerOf, walk, meets};
 ghost use Rattle.matrix.specs.Reading.{stateOf};
 ghost use Rattle.cells.specs.Station.{Station};
 ghost use Rattle.states.specs.Needs.{basicOf, NameIn};
+ghost use Rattle.owner_table.specs.Tabled.{Tabled};
 ghost use Rattle.question.specs.Trust.{trustedBy};
 ghost use Rattle.safe.specs.Possible.{possible};
 ghost use Rattle.finish.specs.Finish.{againNeeded};
@@ -25,9 +26,32 @@ pub enum Climbed {
     None,
 }
 
+// The owner of subject v by the table of owners, or n if it has none. The table says nothing of a subject that nobody owns, so its entry
+// counts only where the bit is set.
+fn owner_of(b: &[u8], n: usize, p: usize, owners: &[u8; 128], v: usize) -> usize
+    requires { ⌜ Station (now b) n p × (v < n) × (length (now owners) ≡ 128) × Tabled (stateOf (now b)) (now owners) ⌝ }
+    ensures { λ r. ⌜ r ≡ ownerOf (stateOf (now (b .entry)) .top) (stateOf (now (b .entry)) .owns) v ⌝ }
+{
+    let entry = owners[2 * v + 1];
+    if n as u8 <= entry {
+        return n;
+    }
+    let w = entry as usize;
+    let owned = states::has_bit(b, n, p, Right::Own, w, Name::Subject(v));
+    if owned { w } else { n }
+}
+
 // The way up from subject w. The trusted subjects passed are kept in `path`, in the order in which they are met.
-fn rise_from(b: &[u8], n: usize, p: usize, trust: u64, w: usize, path: &mut [u8; 64]) -> Climbed
-    requires { ⌜ Station (now b) n p × (w < n) × (length (now path) ≡ 64) ⌝ }
+fn rise_from(
+    b: &[u8],
+    n: usize,
+    p: usize,
+    trust: u64,
+    w: usize,
+    owners: &[u8; 128],
+    path: &mut [u8; 64],
+) -> Climbed
+    requires { ⌜ Station (now b) n p × (w < n) × (length (now owners) ≡ 128) × Tabled (stateOf (now b)) (now owners) × (length (now path) ≡ 64) ⌝ }
     ensures { λ r. ⌜ Rises (now (b .entry)) n (trustedBy trust) w (now (path .exit)) r ⌝ }
 {
     let mut at = w;
@@ -43,7 +67,7 @@ fn rise_from(b: &[u8], n: usize, p: usize, trust: u64, w: usize, path: &mut [u8;
         if at == 0 {
             break 'up Climbed::None;
         }
-        let owner = cells::first_row(b, n, p, at, 0, n);
+        let owner = owner_of(b, n, p, owners, at);
         if n <= owner {
             break 'up Climbed::None;
         }
@@ -62,24 +86,33 @@ fn owner_rise(
     trust: u64,
     x: Name,
     w: usize,
+    owners: &[u8; 128],
     path: &mut [u8; 64],
 ) -> Climbed
-    requires { ⌜ NameIn (now b) n p x × (w < n) × (length (now path) ≡ 64) ⌝ }
+    requires { ⌜ NameIn (now b) n p x × (w < n) × (length (now owners) ≡ 128) × Tabled (stateOf (now b)) (now owners) × (length (now path) ≡ 64) ⌝ }
     ensures { λ r. ⌜ OwnerRises (now (b .entry)) n (trustedBy trust) x w (now (path .exit)) r ⌝ }
 {
     if !states::has_bit(b, n, p, Right::Own, w, x) {
         return Climbed::None;
     }
-    rise_from(b, n, p, trust, w, path)
+    rise_from(b, n, p, trust, w, owners, path)
 }
 
 // The way over an existing name x: that of its lowest owner whose way up meets an untrusted subject.
-pub fn way_up(b: &[u8], n: usize, p: usize, trust: u64, x: Name, path: &mut [u8; 64]) -> Climbed
-    requires { ⌜ NameIn (now b) n p x × (length (now path) ≡ 64) ⌝ }
+pub fn way_up(
+    b: &[u8],
+    n: usize,
+    p: usize,
+    trust: u64,
+    x: Name,
+    owners: &[u8; 128],
+    path: &mut [u8; 64],
+) -> Climbed
+    requires { ⌜ NameIn (now b) n p x × (length (now owners) ≡ 128) × Tabled (stateOf (now b)) (now owners) × (length (now path) ≡ 64) ⌝ }
     ensures { λ r. ⌜ Climbs (now (b .entry)) n (trustedBy trust) x (now (path .exit)) r ⌝ }
 {
     for w in 0..n {
-        let r = owner_rise(b, n, p, trust, x, w, path);
+        let r = owner_rise(b, n, p, trust, x, w, owners, path);
         let Climbed::None = r else {
             return r;
         };

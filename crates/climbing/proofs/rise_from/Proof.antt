@@ -5,27 +5,29 @@ use native.Mathlib.Omega.{arith}
 use borrow.Author.Tests.{not-true, not-false}
 use mathlib.Core.Path.{_≡_, sym, _∙_}
 use Rattle.cells.specs.Places.{subjects-few}
-use Rattle.states.specs.Reads.{owner-is, top-is}
+use Rattle.states.specs.Reads.{top-is}
 use Rattle.question.specs.Trust.{trustedBy}
 use Rattle.climbing.specs.Rising.{Rising, rising-none, rises-out, rises-met, rises-root, rises-unowned, rising-up}
 use Rattle.climbing.proofs.rise_from.Statement.{statement}
 use Rattle.climbing.proofs.rise_from.Tie as tie
 
 abbrev Inv-up : tie.InvT-up
-Inv-up b n p trust w path₀ at₀ m₀ left₀ path at m left =
+Inv-up b n p trust w owners path₀ at₀ m₀ left₀ path at m left =
     (at < n) × (m + left ≡ n) × Rising b n (trustedBy trust) w path at m left
 
 abbrev μ-up : tie.MeasureT-up
-μ-up b n p trust w path₀ at₀ m₀ left₀ path at m left = left
+μ-up b n p trust w owners path₀ at₀ m₀ left₀ path at m left = left
 
 up-holds : tie.Need-up-holds Inv-up μ-up
-up-holds c = (search needs, omega arith, rising-none _ _ _ (c .before .pre .0) (c .before .pre .2))
+up-holds c = (search needs, omega arith, rising-none _ _ _ (c .before .pre .0) (c .before .pre .4))
 
 is-trusted-requires : tie.Need-is-trusted-requires Inv-up μ-up
 is-trusted-requires c κs = omega (arith, subjects-few _ _ _ (c .before .before .before .pre .0))
 
-first-row-requires : tie.Need-first-row-requires Inv-up μ-up
-first-row-requires c κs = (c .before .before .before .before .before .before .pre .0, omega arith, omega arith)
+owner-of-requires : tie.Need-owner-of-requires Inv-up μ-up
+owner-of-requires c κs =
+    let q = c .before .before .before .before .before .before .pre in
+    (q .0, c .before .before .before .before .up .inv .0, q .2, q .3)
 
 cast-path : tie.Need-cast-path Inv-up μ-up
 cast-path c = record { fits = omega (arith, subjects-few _ _ _ (c .before .before .before .before .before .before .before .before .pre .0)) }
@@ -48,7 +50,7 @@ up-again c =
       c .if4 .left,
       omega arith,
       rising-up (c .before .before .before .before .before .before .up .inv .2) (c .before .before .before .before .before .if1 .left) (sym (c .before .before .before .before .is-trusted .ensures) ∙ not-false _ (c .before .before .before .if2 .left)) (c .before .before .if3 .left)
-          (owner-is (z .pre .0) (c .before .before .before .before .before .before .up .inv .0) (c .before .first-row .ensures)) (top-is _ _ _ (z .pre .0)) (c .if4 .left) (c .before .before .before .before .before .before .up .inv .0)
+          (c .before .owner-of .ensures) (top-is _ _ _ (z .pre .0)) (c .if4 .left) (c .before .before .before .before .before .before .up .inv .0)
           (omega (arith, subjects-few _ _ _ (z .pre .0))),
     )
 
@@ -65,7 +67,7 @@ returns-4 : tie.Need-returns-4 Inv-up μ-up
 returns-4 c =
     let z = c .before .before .before .before .before .before .before .before in
     rises-unowned (c .before .before .before .before .before .before .up .inv .2) (c .before .before .before .before .before .if1 .left) (sym (c .before .before .before .before .is-trusted .ensures) ∙ not-false _ (c .before .before .before .if2 .left)) (c .before .before .if3 .left)
-    (owner-is (z .pre .0) (c .before .before .before .before .before .before .up .inv .0) (c .before .first-row .ensures)) (top-is _ _ _ (z .pre .0)) (c .if4 .taken)
+    (c .before .owner-of .ensures) (top-is _ _ _ (z .pre .0)) (c .if4 .taken)
 
 pub rise-from-spec : {M : Type 1} → statement M
 rise-from-spec =
@@ -75,7 +77,7 @@ rise-from-spec =
     μ-up
     up-holds
     is-trusted-requires
-    first-row-requires
+    owner-of-requires
     cast-path
     element-write-path
     add-m

@@ -16,17 +16,19 @@ use Rattle.climbing.proofs.way_up.Statement.{statement}
 use Rattle.climbing.proofs.way_up.Tie as tie
 
 abbrev Inv-loop : tie.InvT-loop
-Inv-loop b n p trust x path₀ w₀ path w = (w ≤ n) × (length path ≡ 64) × (any w (riser (stateOf b) (trustedBy trust) x) ≡ false)
+Inv-loop b n p trust x owners path₀ w₀ path w = (w ≤ n) × (length path ≡ 64) × (any w (riser (stateOf b) (trustedBy trust) x) ≡ false)
 
 abbrev μ-loop : tie.MeasureT-loop
-μ-loop b n p trust x path₀ w₀ path w = n - w
+μ-loop b n p trust x owners path₀ w₀ path w = n - w
 
 loop-holds : tie.Need-loop-holds Inv-loop μ-loop
 unfolding any
-loop-holds c = (search needs, c .before .pre .1, refl)
+loop-holds c = (search needs, c .before .pre .3, refl)
 
 owner-rise-requires : tie.Need-owner-rise-requires Inv-loop μ-loop
-owner-rise-requires c κs = (c .before .before .before .before .pre .0, c .before .loop-test .taken, c .before .before .loop .inv .1)
+owner-rise-requires c κs =
+    let q = c .before .before .before .before .pre in
+    (q .0, c .before .loop-test .taken, q .1, q .2, c .before .before .loop .inv .1)
 
 enum-told : tie.Need-enum-told Inv-loop μ-loop
 enum-told c = search needs
