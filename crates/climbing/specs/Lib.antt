@@ -1,4 +1,5 @@
 pub mod Climbs
+pub mod Shut
 pub mod Rising
 pub mod Over
 pub mod Targets

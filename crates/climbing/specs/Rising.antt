@@ -9,18 +9,19 @@ use mathlib.Core.Bool.{Bool, true, false}
 use mathlib.Core.List.{List, [], _∷_}
 use lib.ListN.{length, getD, set, length-set}
 use lib.Seq.{getD-set-same, getD-set-other}
-use borrow.Author.Tests.{lt-ltb, le-ltb, eq-eqb, ne-eqb}
+use borrow.Author.Tests.{lt-ltb, ne-eqb}
 use Rattle.matrix.specs.Owners.{ownerOf}
 use Rattle.matrix.specs.Reading.{stateOf}
 use Rattle.laws.specs.Bounded.{below-suc}
 use Rattle.cells.specs.Station.{Station}
 use Rattle.states.specs.Reads.{top-is}
 use Rattle.route.specs.Rise.{rise}
-use Rattle.chain.specs.Rising.{riseIn, rise-here, rise-root, rise-up, rise-lost}
+use Rattle.chain.specs.Rising.{riseIn, rise-here, rise-up}
 use Rattle.ways.specs.Path.{listed}
 use Rattle.climbing.specs.declared.Climbed.{Climbed}
 use Rattle.climbing.specs.declared.Climbed.the-variants.{At, None}
 use Rattle.climbing.specs.Climbs.{risenTo, Found, Rises}
+use Rattle.climbing.specs.Shut.{Shut, Next}
 
 -- ---- the path
 
@@ -94,6 +95,10 @@ module _ {b : List ℕ} {n : ℕ} {trusted : ℕ → Bool} {w : ℕ} {path : Lis
   unfolding rise
   rises-out z = ended None tt (rw z refl)
 
+  -- the way up has come to a subject that is shut
+  pub rises-shut : Shut (stateOf b) trusted at → Rises b n trusted w path None
+  rises-shut s = ended None tt (s .never left (listed path m))
+
   one-more : (left ≡ 0 → ⊥) → riseIn (stateOf b) trusted left at (listed path m) ≡ riseIn (stateOf b) trusted (suc (left - 1)) at (listed path m)
   one-more k = let e : left ≡ suc (left - 1) = omega arith in ap (λ (l : ℕ). riseIn (stateOf b) trusted l at (listed path m)) e
 
@@ -102,30 +107,21 @@ module _ {b : List ℕ} {n : ℕ} {trusted : ℕ → Bool} {w : ℕ} {path : Lis
     rises-met t la lm =
         ended (At at m) (la, lm, h .entries) (one-more more ∙ rise-here (stateOf b .top) (stateOf b .owns) trusted (left - 1) at (listed path m) t)
 
-    module _ (t : trusted at ≡ true) where
-      pub rises-root : at ≡ 0 → Rises b n trusted w path None
-      rises-root z = ended None tt (one-more more ∙ rise-root (stateOf b .top) (stateOf b .owns) trusted (left - 1) at (listed path m) t (eq-eqb at 0 z))
-
-      -- r is what the search for the owner of `at` found
-      module _ (below : at ≡ 0 → ⊥) {r : ℕ} (found : r ≡ ownerOf (stateOf b .top) (stateOf b .owns) at) (bound : stateOf b .top ≡ n) where
-        pub rises-unowned : n ≤ r → Rises b n trusted w path None
-        rises-unowned l =
-            ended None tt
-            (one-more more
-            ∙ rise-lost (stateOf b .top) (stateOf b .owns) trusted (left - 1) at (listed path m) t (ne-eqb at 0 below)
-            (le-ltb (ownerOf (stateOf b .top) (stateOf b .owns) at) (stateOf b .top) (omega arith)))
-
-        pub rising-up : r < n → at < n → m < 64 → Rising b n trusted w (set path m at) r (m + 1) (left - 1)
-        rising-up l la lm =
-            let e : length path ≡ 64 = h .size in
-            let lp : m < length path = omega arith in
-            record {
-              rest =
-                  ap₂ (λ (o : ℕ) (ws : List ℕ). riseIn (stateOf b) trusted (left - 1) o ws) found (listed-more path m at lp)
-                  ∙ sym (rise-up (stateOf b .top) (stateOf b .owns) trusted (left - 1) at (listed path m) t (ne-eqb at 0 below)
-                  (lt-ltb (ownerOf (stateOf b .top) (stateOf b .owns) at) (stateOf b .top) (omega arith)))
-                  ∙ sym (one-more more)
-                  ∙ h .rest;
-              size = length-set path m at ∙ e;
-              entries = entries-more path n m at lp la (h .entries);
-            }
+    -- r is what the way up goes on to
+    pub rising-up : {closed r : ℕ} → trusted at ≡ true → Next (stateOf b) closed at r → stateOf b .top ≡ n → r < n → at < n → m < 64
+        → Rising b n trusted w (set path m at) r (m + 1) (left - 1)
+    rising-up {r = r} t next bound l la lm =
+        let e : length path ≡ 64 = h .size in
+        let lp : m < length path = omega arith in
+        let lr : r < stateOf b .top = omega arith in
+        let o : r ≡ ownerOf (stateOf b .top) (stateOf b .owns) at = next .up lr in
+        record {
+          rest =
+              ap₂ (λ (o : ℕ) (ws : List ℕ). riseIn (stateOf b) trusted (left - 1) o ws) o (listed-more path m at lp)
+              ∙ sym (rise-up (stateOf b .top) (stateOf b .owns) trusted (left - 1) at (listed path m) t (ne-eqb at 0 (next .below lr))
+              (lt-ltb (ownerOf (stateOf b .top) (stateOf b .owns) at) (stateOf b .top) (omega arith)))
+              ∙ sym (one-more more)
+              ∙ h .rest;
+          size = length-set path m at ∙ e;
+          entries = entries-more path n m at lp la (h .entries);
+        }

@@ -9,15 +9,17 @@ ghost use mathlib.Core.Path.{_≡_};
 ghost use Prim.Native.Nat.{_<_};
 ghost use lib.ListN.{length};
 ghost use Rattle.matrix.specs.Bounded.{least};
-ghost use Rattle.matrix.specs.Owners.{walk, meets};
+ghost use Rattle.matrix.specs.Owners.{ownerOf, walk, meets};
 ghost use Rattle.matrix.specs.Reading.{stateOf};
 ghost use Rattle.cells.specs.Station.{Station};
 ghost use Rattle.states.specs.Needs.{basicOf, NameIn};
+ghost use Rattle.owner_table.specs.Tabled.{Tabled};
 ghost use Rattle.question.specs.Trust.{trustedBy};
 ghost use Rattle.safe.specs.Possible.{possible};
 ghost use Rattle.finish.specs.Finish.{againNeeded};
 ghost use Rattle.ways.specs.Ways.{starHolder};
 ghost use Rattle.climbing.specs.Climbs.{Rises, OwnerRises, Climbs};
+ghost use Rattle.climbing.specs.Shut.{ShutAll, Next};
 
 // What the way up finds: the first untrusted subject and how many trusted ones were passed, or none.
 pub enum Climbed {
@@ -25,14 +27,55 @@ pub enum Climbed {
     None,
 }
 
-// The way up from subject w. The trusted subjects passed are kept in `path`, in the order in which they are met.
-fn rise_from(b: &[u8], n: usize, p: usize, trust: u64, w: usize, path: &mut [u8; 64]) -> Climbed
-    requires { ⌜ Station (now b) n p × (w < n) × (length (now path) ≡ 64) ⌝ }
-    ensures { λ r. ⌜ Rises (now (b .entry)) n (trustedBy trust) w (now (path .exit)) r ⌝ }
+// The owner of subject v by the table of owners, or n if it has none. The table says nothing of a subject that nobody owns, so its entry
+// counts only where the bit is set.
+fn owner_of(b: &[u8], n: usize, p: usize, owners: &[u8; 128], v: usize) -> usize
+    requires { ⌜ Station (now b) n p × (v < n) × (length (now owners) ≡ 128) × Tabled (stateOf (now b)) (now owners) ⌝ }
+    ensures { λ r. ⌜ r ≡ ownerOf (stateOf (now (b .entry)) .top) (stateOf (now (b .entry)) .owns) v ⌝ }
+{
+    let entry = owners[2 * v + 1];
+    if n as u8 <= entry {
+        return n;
+    }
+    let w = entry as usize;
+    let owned = states::has_bit(b, n, p, Right::Own, w, Name::Subject(v));
+    if owned { w } else { n }
+}
+
+// The owner to whom the way up goes on from subject v, or n where it ends: at U, at a member of `closed`, and without an owner.
+fn next_up(b: &[u8], n: usize, p: usize, owners: &[u8; 128], closed: u64, v: usize) -> usize
+    requires { ⌜ Station (now b) n p × (v < n) × (length (now owners) ≡ 128) × Tabled (stateOf (now b)) (now owners) ⌝ }
+    ensures { λ r. ⌜ Next (stateOf (now (b .entry))) closed v r ⌝ }
+{
+    if v == 0 {
+        return n;
+    }
+    if masks::has(closed, v) {
+        return n;
+    }
+    owner_of(b, n, p, owners, v)
+}
+
+// The way up from subject w. The trusted subjects passed are kept in `path`, in the order in which they are met. `closed` are subjects from
+// which the way up is known to meet no untrusted one: where this way ends at one of those, at U or without an owner, all whom it passed
+// join them. Where it may visit no more subjects, they don't: the owners may form a cycle.
+fn rise_from(
+    b: &[u8],
+    n: usize,
+    p: usize,
+    trust: u64,
+    w: usize,
+    owners: &[u8; 128],
+    closed: &mut u64,
+    path: &mut [u8; 64],
+) -> Climbed
+    requires { ⌜ Station (now b) n p × (w < n) × (length (now owners) ≡ 128) × Tabled (stateOf (now b)) (now owners) × ShutAll (stateOf (now b)) (trustedBy trust) (now closed) × (length (now path) ≡ 64) ⌝ }
+    ensures { λ r. ⌜ Rises (now (b .entry)) n (trustedBy trust) w (now (path .exit)) r × ShutAll (stateOf (now (b .entry))) (trustedBy trust) (now (closed .exit)) ⌝ }
 {
     let mut at = w;
     let mut m = 0;
     let mut left = n;
+    let mut seen = *closed;
     'up: loop {
         if left == 0 {
             break 'up Climbed::None;
@@ -40,14 +83,13 @@ fn rise_from(b: &[u8], n: usize, p: usize, trust: u64, w: usize, path: &mut [u8;
         if !masks::is_trusted(trust, at) {
             break 'up Climbed::At(at, m);
         }
-        if at == 0 {
-            break 'up Climbed::None;
-        }
-        let owner = cells::first_row(b, n, p, at, 0, n);
+        let owner = next_up(b, n, p, owners, *closed, at);
         if n <= owner {
+            *closed = seen;
             break 'up Climbed::None;
         }
         path[m] = at as u8;
+        seen = masks::added(seen, at);
         at = owner;
         m += 1;
         left -= 1;
@@ -62,24 +104,36 @@ fn owner_rise(
     trust: u64,
     x: Name,
     w: usize,
+    owners: &[u8; 128],
+    closed: &mut u64,
     path: &mut [u8; 64],
 ) -> Climbed
-    requires { ⌜ NameIn (now b) n p x × (w < n) × (length (now path) ≡ 64) ⌝ }
-    ensures { λ r. ⌜ OwnerRises (now (b .entry)) n (trustedBy trust) x w (now (path .exit)) r ⌝ }
+    requires { ⌜ NameIn (now b) n p x × (w < n) × (length (now owners) ≡ 128) × Tabled (stateOf (now b)) (now owners) × ShutAll (stateOf (now b)) (trustedBy trust) (now closed) × (length (now path) ≡ 64) ⌝ }
+    ensures { λ r. ⌜ OwnerRises (now (b .entry)) n (trustedBy trust) x w (now (path .exit)) r × ShutAll (stateOf (now (b .entry))) (trustedBy trust) (now (closed .exit)) ⌝ }
 {
     if !states::has_bit(b, n, p, Right::Own, w, x) {
         return Climbed::None;
     }
-    rise_from(b, n, p, trust, w, path)
+    rise_from(b, n, p, trust, w, owners, closed, path)
 }
 
-// The way over an existing name x: that of its lowest owner whose way up meets an untrusted subject.
-pub fn way_up(b: &[u8], n: usize, p: usize, trust: u64, x: Name, path: &mut [u8; 64]) -> Climbed
-    requires { ⌜ NameIn (now b) n p x × (length (now path) ≡ 64) ⌝ }
+// The way over an existing name x: that of its lowest owner whose way up meets an untrusted subject. `closed` gathers the subjects passed by
+// ways up that met none, so that no later way passes them again.
+pub fn way_up(
+    b: &[u8],
+    n: usize,
+    p: usize,
+    trust: u64,
+    x: Name,
+    owners: &[u8; 128],
+    path: &mut [u8; 64],
+) -> Climbed
+    requires { ⌜ NameIn (now b) n p x × (length (now owners) ≡ 128) × Tabled (stateOf (now b)) (now owners) × (length (now path) ≡ 64) ⌝ }
     ensures { λ r. ⌜ Climbs (now (b .entry)) n (trustedBy trust) x (now (path .exit)) r ⌝ }
 {
+    let mut closed: u64 = 0;
     for w in 0..n {
-        let r = owner_rise(b, n, p, trust, x, w, path);
+        let r = owner_rise(b, n, p, trust, x, w, owners, &mut closed, path);
         let Climbed::None = r else {
             return r;
         };

@@ -1,19 +1,19 @@
--- The bits of a conjunction, of a complement and of a half.
-use Prim.Native.Nat.{ℕ, zero, suc, min, _+_, _-_, _*_, _/_, _%_, _^_, _≤_, _<_}
-use native.Mathlib.Nat.{mod-lt, pow-succ', add-mul, min-le-left, lt-of-le-of-lt, sub-le, div-eq-of-lt}
+-- The bits of a conjunction, of a disjunction, of a complement, of a half and of a power of two.
+use Prim.Native.Nat.{ℕ, zero, suc, min, max, _+_, _-_, _*_, _/_, _%_, _^_, _≤_, _<_}
+use native.Mathlib.Nat.{mod-lt, pow-succ', add-mul, min-le-left, max-le, lt-of-le-of-lt, sub-le, div-eq-of-lt}
 use native.Mathlib.Numerals.{one-add}
 use native.Mathlib.Omega.{arith}
 use mathlib.Core.Path.{_≡_, refl, sym, _∙_, ap, ap₂, subst}
 use mathlib.Core.Logic.{⊎-elim}
-use mathlib.Core.Bool.{true, false, not, _&&_}
+use mathlib.Core.Bool.{true, false, not, _&&_, _||_}
 use lib.Dec.{eqb, ltb}
 use lib.Arith.{digits-mod}
-use lib.Bits.{bitAnd, and-shr, and-step}
+use lib.Bits.{bitAnd, bitOr, and-shr, and-step, or-shr, or-step}
 use lib.Pow.{pow-pos, shr-shr, shr-lt, split, ones-lt, le-ones, ones-split}
 use borrow.Author.Tests.{eqb-true, eqb-false, eq-eqb, ne-eqb, ltb-true, ltb-false}
 use Rattle.matrix.specs.Bytes.{bit}
 use Rattle.laws.specs.Tests.{way}
-use Rattle.codec.specs.Bits.{bit-here}
+use Rattle.codec.specs.Bits.{bit-zero, bit-here, bit-other}
 
 -- the bits of a half are the bits above the lowest
 pub bit-half : (j v : ℕ) → bit (suc j) v ≡ bit j (v / 2)
@@ -42,6 +42,44 @@ bit-and j u v =
     digit =
         let e : bitAnd u v / 2 ^ j ≡ bitAnd (u / 2 ^ j / 2) (v / 2 ^ j / 2) * 2 + min (u / 2 ^ j % 2) (v / 2 ^ j % 2) = and-shr u v j ∙ and-step (u / 2 ^ j) (v / 2 ^ j) in
         ap (λ (d : ℕ). d % 2) e ∙ digits-mod (bitAnd (u / 2 ^ j / 2) (v / 2 ^ j / 2)) (min-small (u / 2 ^ j) (v / 2 ^ j))
+
+-- the higher of two digits is set where one is
+one-set : (x y : ℕ) → x < 2 → y < 2 → eqb (max x y) 1 ≡ (eqb x 1 || eqb y 1)
+one-set zero zero h l = refl
+one-set zero (suc zero) h l = refl
+one-set (suc zero) zero h l = refl
+one-set (suc zero) (suc zero) h l = refl
+one-set zero (suc (suc y)) h l = absurd (omega arith)
+one-set (suc zero) (suc (suc y)) h l = absurd (omega arith)
+one-set (suc (suc x)) y h l = absurd (omega arith)
+
+max-small : (x y : ℕ) → max (x % 2) (y % 2) < 2
+max-small x y = let m : max (x % 2) (y % 2) ≤ 1 = max-le (omega arith) (omega arith) in omega arith
+
+pub bit-or : (j u v : ℕ) → bit j (bitOr u v) ≡ (bit j u || bit j v)
+unfolding bit
+bit-or j u v =
+    ap (λ (d : ℕ). eqb d 1) digit ∙ one-set (u / 2 ^ j % 2) (v / 2 ^ j % 2) (mod-lt (u / 2 ^ j) (omega arith)) (mod-lt (v / 2 ^ j) (omega arith))
+  where
+    digit : bitOr u v / 2 ^ j % 2 ≡ max (u / 2 ^ j % 2) (v / 2 ^ j % 2)
+    digit =
+        let e : bitOr u v / 2 ^ j ≡ bitOr (u / 2 ^ j / 2) (v / 2 ^ j / 2) * 2 + max (u / 2 ^ j % 2) (v / 2 ^ j % 2) = or-shr u v j ∙ or-step (u / 2 ^ j) (v / 2 ^ j) in
+        ap (λ (d : ℕ). d % 2) e ∙ digits-mod (bitOr (u / 2 ^ j / 2) (v / 2 ^ j / 2)) (max-small (u / 2 ^ j) (v / 2 ^ j))
+
+-- a power of two has one bit
+pub bit-power : (i j : ℕ) → bit i (2 ^ j) ≡ eqb i j
+bit-power i j = ap (bit i) one ∙ ⊎-elim here other (way (eqb i j))
+  where
+    one : 2 ^ j ≡ 1 * 2 ^ j + 0
+    one = omega arith
+
+    here : eqb i j ≡ true → bit i (1 * 2 ^ j + 0) ≡ eqb i j
+    here e = rw e (ap (λ (k : ℕ). bit k (1 * 2 ^ j + 0)) (eqb-true i j e) ∙ bit-here j 1 (pow-pos j))
+
+    other : eqb i j ≡ false → bit i (1 * 2 ^ j + 0) ≡ eqb i j
+    other e =
+        let z : 0 * 2 ^ j + 0 ≡ 0 = omega arith in
+        rw e (bit-other i j 1 0 (pow-pos j) refl e ∙ ap (bit i) z ∙ bit-zero i)
 
 -- two numbers whose sum is odd: one of them is odd, the other even
 odd-sum : (x y w : ℕ) → x + y ≡ 2 * w + 1 → eqb (x % 2) 1 ≡ not (eqb (y % 2) 1)

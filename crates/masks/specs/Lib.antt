@@ -4,3 +4,4 @@ pub mod Searches
 pub mod Counts
 pub mod Existing
 pub mod Untrusted
+pub mod Adding

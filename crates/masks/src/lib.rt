@@ -9,7 +9,7 @@ ghost use Rattle.matrix.specs.Bytes.{bit};
 ghost use Rattle.matrix.specs.State.{exists};
 ghost use Rattle.matrix.specs.Reading.{stateOf};
 ghost use Rattle.cells.specs.Station.{Station};
-ghost use Rattle.masks.specs.Marks.{MarksOf, LeftOut};
+ghost use Rattle.masks.specs.Marks.{MarksOf, LeftOut, Added};
 
 // The existing subjects of a record. No bit is set before its subject is reached, so adding it sets it.
 pub fn existing(b: &[u8], n: usize, p: usize) -> u64
@@ -70,10 +70,26 @@ pub fn trust_fits(trust: u64, n: usize) -> bool
     trust >> n == 0
 }
 
+// Whether subject s is a member of a set.
+pub fn has(set: u64, s: usize) -> bool
+    requires { ⌜ s < 64 ⌝ }
+    ensures { λ t. ⌜ t ≡ bit s set ⌝ }
+{
+    (set >> s) % 2 == 1
+}
+
+// A set with subject s added.
+pub fn added(set: u64, s: usize) -> u64
+    requires { ⌜ s < 64 ⌝ }
+    ensures { λ r. ⌜ Added set s r ⌝ }
+{
+    set | (1 << s)
+}
+
 // Whether subject s is trusted.
 pub fn is_trusted(trust: u64, s: usize) -> bool
     requires { ⌜ s < 64 ⌝ }
     ensures { λ t. ⌜ t ≡ bit s trust ⌝ }
 {
-    (trust >> s) % 2 == 1
+    has(trust, s)
 }

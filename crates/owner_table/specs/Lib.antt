@@ -1,3 +1,4 @@
 pub mod Counts
 pub mod Followed
 pub mod Table
+pub mod Tabled
