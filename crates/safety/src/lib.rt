@@ -5,7 +5,7 @@ use matrix::Name;
 use matrix::Right;
 use question::Safety;
 ghost use mathlib.Core.Path.{_≡_};
-ghost use mathlib.Core.Bool.{not, _&&_, _||_};
+ghost use mathlib.Core.Bool.{true, not, _&&_, _||_};
 ghost use Prim.Native.Nat.{_^_, _≤_, _<_};
 ghost use lib.Dec.{ltb};
 ghost use lib.ListN.{length};
@@ -22,6 +22,7 @@ ghost use Rattle.ways.specs.Ways.{by-star, by-creation, from-above, wayOver, wa
 ghost use Rattle.ways.specs.Path.{listed};
 ghost use Rattle.writing.specs.Put.{HeadRoom};
 ghost use Rattle.told.specs.Told.{Told};
+ghost use Rattle.validity.specs.OwnersTold.{OwnersTold};
 ghost use Rattle.safety.specs.Asks.{Asks, Headed, PathOf};
 
 // The head of a list of k commands is written, and the answer says that it leaks.
@@ -134,13 +135,14 @@ fn over(
     s: usize,
     x: Name,
     y: Right,
+    owners: &[u8; 128],
     out: &mut [u8],
 ) -> Safety
-    requires { ⌜ Asks (now b) n p s x y (wayOver (stateOf (now b)) (trustedBy trust) x) (now out) ⌝ }
+    requires { ⌜ Asks (now b) n p s x y (wayOver (stateOf (now b)) (trustedBy trust) x) (now out) × OwnersTold (now b) (now owners) true ⌝ }
     ensures { λ r. ⌜ Told (stateOf (now (b .entry))) s x y (wayOver (stateOf (now (b .entry))) (trustedBy trust) x) (now (out .entry)) (now (out .exit)) r ⌝ }
 {
     let mut path = [0u8; 64];
-    let r = climbing::way_up(b, n, p, trust, x, &mut path);
+    let r = climbing::way_up(b, n, p, trust, x, owners, &mut path);
     match r {
         Climbed::At(v, m) => from_above(b, n, p, v, &path, m, s, x, y, out),
         Climbed::None => Safety::Safe,
@@ -168,7 +170,7 @@ fn made(
     by_creation(b, n, p, v, s, x, y, out)
 }
 
-// The answer to a question on a valid record.
+// The answer to a question on a valid record, with the table of its owners.
 fn decide(
     b: &[u8],
     n: usize,
@@ -177,9 +179,10 @@ fn decide(
     s: usize,
     x: Name,
     y: Right,
+    owners: &[u8; 128],
     out: &mut [u8],
 ) -> Safety
-    requires { ⌜ Asks (now b) n p s x y (wayOf (stateOf (now b)) (trustedBy trust) s x y) (now out) ⌝ }
+    requires { ⌜ Asks (now b) n p s x y (wayOf (stateOf (now b)) (trustedBy trust) s x y) (now out) × OwnersTold (now b) (now owners) true ⌝ }
     ensures { λ r. ⌜ Told (stateOf (now (b .entry))) s x y (wayOf (stateOf (now (b .entry))) (trustedBy trust) s x y) (now (out .entry)) (now (out .exit)) r ⌝ }
 {
     if holding::is_held(b, n, p, y, s, x) {
@@ -193,7 +196,7 @@ fn decide(
         return by_star(b, n, p, i, s, x, y, out);
     }
     if states::name_exists(b, n, p, x) {
-        return over(b, n, p, trust, s, x, y, out);
+        return over(b, n, p, trust, s, x, y, owners, out);
     }
     made(b, n, p, trust, s, x, y, out)
 }
@@ -213,7 +216,8 @@ fn within_bounds(n: usize, p: usize, trust: u64, s: usize, o: usize, right: usiz
 pub fn ask(b: &[u8], trust: u64, s: usize, o: usize, right: usize, out: &mut [u8]) -> Safety
     ensures { λ r. ⌜ Answers (now (b .entry)) trust s o right (now (out .entry)) (now (out .exit)) r ⌝ }
 {
-    let turned = validity::refusal(b);
+    let mut owners = [0u8; 128];
+    let turned = validity::refusal_with(b, &mut owners);
     if turned != 0 {
         return Safety::Refused(turned);
     }
@@ -227,5 +231,5 @@ pub fn ask(b: &[u8], trust: u64, s: usize, o: usize, right: usize, out: &mut [u8
     }
     let x = states::name_of(n, o);
     let y = holding::right_of(right);
-    decide(b, n, p, trust, s, x, y, out)
+    decide(b, n, p, trust, s, x, y, &owners, out)
 }

@@ -1,7 +1,7 @@
 -- The tests of a whole record, from those that the code makes one after another.
 use Prim.Native.Nat.{ℕ, _+_, _-_, _*_, _≤_, _<_}
 use native.Mathlib.Omega.{arith}
-use mathlib.Core.Path.{_≡_, refl, sym, _∙_, ap}
+use mathlib.Core.Path.{_≡_, refl, sym, _∙_, ap, subst}
 use mathlib.Core.Bool.{Bool, true, false, _&&_}
 use mathlib.Core.List.{List}
 use lib.Dec.{eqb, leb}
@@ -17,23 +17,26 @@ use Rattle.laws.specs.Tests.{and-left, and-right}
 use Rattle.lanes.specs.Lists.{Holds}
 use Rattle.lanes.specs.Lanes.{merged, lastOf, Lanes}
 use Rattle.owner_table.specs.Followed.{followed}
-use Rattle.validity.specs.Fast.{testsPass}
+use Rattle.validity.specs.Fast.{lastOwner, testsPass}
 use Rattle.validity.specs.Cells.{ownBit, controlBit, zeroCell}
-use Rattle.validity.specs.Valid.{valid-tests}
+use Rattle.validity.specs.Valid.{valid-tests, valid-owner}
 use Rattle.columns.specs.Checks.{subjectTest, plainTest}
 use Rattle.owner_table.specs.Table.{ownerIn, Inside}
+use Rattle.owner_table.specs.Tabled.{Tabled}
 use Rattle.validity.specs.Passed.{all-passed, owners-inside}
 use Rattle.validity.specs.Header.{Headed, Whole}
+use Rattle.validity.specs.OwnersTold.{OwnersTold}
 
 -- lists of zeros, before the first row
-pub lanes-none : (b : List ℕ) (m w : ℕ) → m ≤ 512 → w ≤ 128 → Lanes b m w 0 (replicate 512 0) (replicate 128 0) (replicate 128 0) (replicate 128 0)
+pub lanes-none : (b : List ℕ) (m w : ℕ) {last : List ℕ} → m ≤ 512 → w ≤ 128 → last ≡ replicate 128 0
+    → Lanes b m w 0 (replicate 512 0) (replicate 128 0) (replicate 128 0) last
 unfolding merged count lastOf
-lanes-none b m w h l =
+lanes-none b m w h l e =
     record {
       saw = record { size = length-replicate {A = ℕ} 512 0; value = λ j g. getD-replicate 512 j 0 0 (omega arith) };
       owned = zeros;
       controlled = zeros;
-      owner = zeros;
+      owner = subst (Holds 128 w (λ j. 0)) (sym e) zeros;
     }
   where
     zeros : Holds 128 w (λ j. 0) (replicate 128 0)
@@ -63,15 +66,38 @@ module _ (b : List ℕ) (n p : ℕ) (seen own control last : List ℕ) (whole : 
   pub table-inside : Inside n (ownerIn last)
   table-inside = owners-inside b n (n + p) (2 * (n + p)) seen own control last lanes refl (omega arith) (whole .head .low)
 
+  -- in a valid matrix the table tells who owns each subject
+  table-told : validMatrix (shapeOf b) (stateOf b) ≡ true → Tabled (stateOf b) last
+  unfolding stateOf
+  table-told h =
+      let some : 0 < n = whole .head .low in
+      let most : n ≤ 64 = whole .head .high in
+      let e : n ≡ shapeOf b .n = whole .head .subjects in
+      let q : p ≡ shapeOf b .p = whole .head .plain in
+      record {
+        owner =
+            λ v w l m own.
+            valid-owner b octets (omega arith) (omega arith) h v w l m own
+            ∙ (λ i. lastOwner (sym e i) (ownBit b (2 * (sym e i + sym q i))) v)
+            ∙ sym (lanes .owner .value (2 * v + 1) (omega arith));
+      }
+
+  -- an answer, with the table
+  abbrev Judged : Bool → Type 0
+  Judged r = (r ≡ validMatrix (shapeOf b) (stateOf b)) × OwnersTold b last r
+
+  judged : (r : Bool) → r ≡ validMatrix (shapeOf b) (stateOf b) → Judged r
+  judged r e = (e, record { size = lanes .owner .size; told = λ h. table-told (sym e ∙ h) })
+
   -- a subject is wrong; a plain column is wrong; what is left is whether every owner is followed to U
-  pub subjects-wrong : S ≡ false → false ≡ validMatrix (shapeOf b) (stateOf b)
-  subjects-wrong h = let e : (S && P && R) ≡ false = rw h refl in sym e ∙ valid-whole
+  pub subjects-wrong : S ≡ false → Judged false
+  subjects-wrong h = let e : (S && P && R) ≡ false = rw h refl in judged false (sym e ∙ valid-whole)
 
-  pub plain-wrong : S ≡ true → P ≡ false → false ≡ validMatrix (shapeOf b) (stateOf b)
-  plain-wrong g h = let e : (S && P && R) ≡ false = rw (g, h) refl in sym e ∙ valid-whole
+  pub plain-wrong : S ≡ true → P ≡ false → Judged false
+  plain-wrong g h = let e : (S && P && R) ≡ false = rw (g, h) refl in judged false (sym e ∙ valid-whole)
 
-  pub owners-left : (r : Bool) → S ≡ true → P ≡ true → r ≡ R → r ≡ validMatrix (shapeOf b) (stateOf b)
-  owners-left r g h q = let e : (S && P && R) ≡ R = rw (g, h) refl in q ∙ sym e ∙ valid-whole
+  pub owners-left : (r : Bool) → S ≡ true → P ≡ true → r ≡ R → Judged r
+  owners-left r g h q = let e : (S && P && R) ≡ R = rw (g, h) refl in judged r (q ∙ sym e ∙ valid-whole)
 
 -- ---- the header
 

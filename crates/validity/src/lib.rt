@@ -2,32 +2,34 @@
 ghost use mathlib.Core.Path.{_≡_};
 ghost use mathlib.Core.Bool.{_&&_};
 ghost use Prim.Native.Nat.{_≤_};
-ghost use lib.Dec.{leb};
-ghost use lib.ListN.{length};
+ghost use lib.Dec.{eqb, leb};
+ghost use lib.ListN.{length, replicate};
 ghost use Rattle.matrix.specs.Bytes.{numberAt};
 ghost use Rattle.matrix.specs.Shape.{shapeOf, sized};
 ghost use Rattle.matrix.specs.Reading.{stateOf};
 ghost use Rattle.matrix.specs.Record.{validMatrix, recordRefusal};
 ghost use Rattle.validity.specs.Header.{Headed, Whole};
+ghost use Rattle.validity.specs.OwnersTold.{OwnersTold};
 
-// The matrix of a record of n subject names and p plain names is valid.
-fn valid(b: &[u8], n: usize, p: usize) -> bool
-    requires { ⌜ Whole (now b) n p ⌝ }
-    ensures { λ r. ⌜ r ≡ validMatrix (shapeOf (now (b .entry))) (stateOf (now (b .entry))) ⌝ }
+// The matrix of a record of n subject names and p plain names is valid. The table `owners`, of zeros at first, then tells who owns each
+// subject.
+fn valid(b: &[u8], n: usize, p: usize, owners: &mut [u8; 128]) -> bool
+    requires { ⌜ Whole (now b) n p × (now owners ≡ replicate 128 0) ⌝ }
+    ensures verdict { λ r. ⌜ r ≡ validMatrix (shapeOf (now (b .entry))) (stateOf (now (b .entry))) ⌝ }
+    ensures table { λ r. ⌜ OwnersTold (now (b .entry)) (now (owners .exit)) r ⌝ }
 {
     let mut seen = [0u8; 512];
     let mut own = [0u8; 128];
     let mut control = [0u8; 128];
-    let mut last = [0u8; 128];
     let m = 2 * (n + p);
-    rows::scan(&mut seen, &mut own, &mut control, &mut last, b, n, m, 2 * n);
+    rows::scan(&mut seen, &mut own, &mut control, owners, b, n, m, 2 * n);
     if !columns::subjects(b, &seen, &own, &control, n, m) {
         return false;
     }
     if !columns::plains(&seen, n, p) {
         return false;
     }
-    owner_table::rooted(&last, n)
+    owner_table::rooted(owners, n)
 }
 
 // n is 1 to 64, and p at most 192.
@@ -64,9 +66,11 @@ fn right_size(b: &[u8], n: usize, p: usize) -> bool
     }
 }
 
-// The refusal, 1 to 5, of a record, or 0 if it is valid.
-pub fn refusal(b: &[u8]) -> usize
-    ensures { λ r. ⌜ r ≡ recordRefusal (now (b .entry)) ⌝ }
+// The refusal, 1 to 5, of a record, or 0 if it is valid. The table `owners`, of zeros at first, then tells who owns each subject.
+pub fn refusal_with(b: &[u8], owners: &mut [u8; 128]) -> usize
+    requires { ⌜ now owners ≡ replicate 128 0 ⌝ }
+    ensures refusal { λ r. ⌜ r ≡ recordRefusal (now (b .entry)) ⌝ }
+    ensures table { λ r. ⌜ OwnersTold (now (b .entry)) (now (owners .exit)) (eqb r 0) ⌝ }
 {
     if b.len() < 7 {
         return 1;
@@ -82,5 +86,13 @@ pub fn refusal(b: &[u8]) -> usize
     if !right_size(b, n, p) {
         return 4;
     }
-    if valid(b, n, p) { 0 } else { 5 }
+    if valid(b, n, p, owners) { 0 } else { 5 }
+}
+
+// The refusal, 1 to 5, of a record, or 0 if it is valid.
+pub fn refusal(b: &[u8]) -> usize
+    ensures { λ r. ⌜ r ≡ recordRefusal (now (b .entry)) ⌝ }
+{
+    let mut owners = [0u8; 128];
+    refusal_with(b, &mut owners)
 }

@@ -1,34 +1,35 @@
 -- `safety::ask` meets its contract.
 use native.Mathlib.Omega.{arith}
 use mathlib.Core.Path.{_≡_, sym, _∙_}
-use borrow.Author.Tests.{not-true, not-false}
+use borrow.Author.Tests.{eq-eqb, not-true, not-false}
 use Rattle.matrix.specs.Record.{recordRefusal}
 use Rattle.matrix.specs.Shaped.{Octets}
 use Rattle.cells.specs.Station.{Station}
 use Rattle.cells.specs.Places.{subjects-few, plains-few}
 use Rattle.opening.specs.Opened.{station-of, long-enough}
 use Rattle.question.specs.Trust.{trustedBy}
+use Rattle.validity.specs.OwnersTold.{told-by}
 use Rattle.safety.specs.Turned.{turned-record}
 use Rattle.safety.specs.Whole.{asks-of, unfit, no-room, bit-asked, answered}
 use borrow.Author.Needs.{needs}
 use Rattle.safety.proofs.ask.Statement.{statement}
 use Rattle.safety.proofs.ask.Tie as tie
 
-refusal-requires : tie.Need-refusal-requires
-refusal-requires c κs = search needs
+refusal-with-requires : tie.Need-refusal-with-requires
+refusal-with-requires c κs = search needs
 
 -- where the record is not turned down
-right : (c : tie.Else1) → recordRefusal (c .before .before .before .before .args .b .now) ≡ 0
-right c = sym (c .before .refusal .ensures) ∙ c .if1 .left
+right : (c : tie.Else1) → recordRefusal (c .before .before .before .before .before .args .b .now) ≡ 0
+right c = sym (c .before .refusal-with .ensures .0) ∙ c .if1 .left
 
-octets : (c : tie.Else1) → Octets (c .before .before .before .before .args .b .now)
-octets c = record { octet = λ j. c .before .before .before .shared-slice-known .given j .fits }
+octets : (c : tie.Else1) → Octets (c .before .before .before .before .before .args .b .now)
+octets c = record { octet = λ j. c .before .before .before .before .shared-slice-known .given j .fits }
 
-opened : (c : tie.After-byte2) → Station (c .before .before .before .before .before .before .args .b .now) (c .before .byte .result) (c .byte2 .result)
+opened : (c : tie.After-byte2) → Station (c .before .before .before .before .before .before .before .args .b .now) (c .before .byte .result) (c .byte2 .result)
 opened c = station-of (octets (c .before .before)) (right (c .before .before)) (c .before .byte .ensures) (c .byte2 .ensures)
 
 returns : tie.Need-returns
-returns c = turned-record _ _ _ _ _ _ (c .before .refusal .ensures) (c .if1 .taken)
+returns c = turned-record _ _ _ _ _ _ (c .before .refusal-with .ensures .0) (c .if1 .taken)
 
 byte-requires : tie.Need-byte-requires
 byte-requires c κs = omega (arith, long-enough _ (right c))
@@ -41,7 +42,7 @@ within-bounds-requires c κs = (subjects-few _ _ _ (opened c), plains-few _ _ _ 
 
 returns-2 : tie.Need-returns-2
 returns-2 c =
-    let a = c .before .before .before .before .before .before .before .before .args in
+    let a = c .before .before .before .before .before .before .before .before .before .args in
     unfit (right (c .before .before .before .before)) (opened (c .before .before)) (a .trust) (a .s) (a .o) (a .right) (a .out .now) (c .before .within-bounds .ensures) (not-true _ (c .if2 .taken))
 
 add-if3 : tie.Need-add-if3
@@ -55,7 +56,7 @@ add-if3-2 c = omega (arith, subjects-few _ _ _ (opened (c .before .before)))
 
 returns-3 : tie.Need-returns-3
 returns-3 c =
-    let a = c .before .before .before .before .before .before .before .before .before .args in
+    let a = c .before .before .before .before .before .before .before .before .before .before .args in
     no-room (right (c .before .before .before .before .before)) (opened (c .before .before .before)) (a .trust) (a .s) (a .o) (a .right) (a .out .now) (c .before .before .within-bounds .ensures) (not-false _ (c .before .if2 .left)) (c .if3 .taken)
 
 name-of-requires : tie.Need-name-of-requires
@@ -66,24 +67,32 @@ right-of-requires c κs = search needs
 
 decide-requires : tie.Need-decide-requires
 decide-requires c κs =
-    let a = c .before .before .before .before .before .before .before .before .before .before .before .before .args in
-    asks-of (right (c .before .before .before .before .before .before .before .before)) (opened (c .before .before .before .before .before .before)) (trustedBy (a .trust))
-    (bit-asked (right (c .before .before .before .before .before .before .before .before)) (opened (c .before .before .before .before .before .before)) (a .trust) (a .s) (a .o) (a .right) (a .out .now) (c .before .before .before .before .before .within-bounds .ensures) (not-false _ (c .before .before .before .before .if2 .left)) (c .before .before .name-of .ensures) (c .before .right-of .ensures) (c .before .before .before .if3 .left))
-    (c .before .before .before .if3 .left)
+    let r = c .before .before in
+    let o = opened (r .before .before .before .before .before) in
+    let e1 = r .before .before .before .before .before .before .before in
+    let a = e1 .before .before .before .before .before .args in
+    let room = r .before .before .if3 .left in (
+      asks-of (right e1) o (trustedBy (a .trust))
+          (bit-asked (right e1) o (a .trust) (a .s) (a .o) (a .right) (a .out .now) (r .before .before .before .before .within-bounds .ensures) (not-false _ (r .before .before .before .if2 .left)) (r .before .name-of .ensures) (r .right-of .ensures) room)
+          room,
+      told-by (eq-eqb _ 0 (e1 .if1 .left)) (e1 .before .refusal-with .ensures .1),
+    )
 
 same-length : tie.Need-same-length
 same-length c = search needs
 
 returns-4 : tie.Need-returns-4
 returns-4 c =
-    let a = c .before .before .before .before .before .before .before .before .before .before .before .before .before .before .before .args in
-    answered (right (c .before .before .before .before .before .before .before .before .before .before .before)) (opened (c .before .before .before .before .before .before .before .before .before)) (a .trust) (a .s) (a .o) (a .right) (a .out .now) (c .before .before .before .before .before .before .before .before .within-bounds .ensures) (not-false _ (c .before .before .before .before .before .before .before .if2 .left)) (c .before .before .before .before .before .name-of .ensures) (c .before .before .before .before .right-of .ensures) (c .before .before .before .before .before .before .if3 .left) (c .before .before .decide .ensures)
+    let r = c .before .before .before .before .before in
+    let e1 = r .before .before .before .before .before .before .before in
+    let a = e1 .before .before .before .before .before .args in
+    answered (right e1) (opened (r .before .before .before .before .before)) (a .trust) (a .s) (a .o) (a .right) (a .out .now) (r .before .before .before .before .within-bounds .ensures) (not-false _ (r .before .before .before .if2 .left)) (r .before .name-of .ensures) (r .right-of .ensures) (r .before .before .if3 .left) (c .before .before .decide .ensures)
 
 pub ask-spec : {M : Type 1} → statement M
 ask-spec =
     tie.close
     (tie.spec
-    refusal-requires
+    refusal-with-requires
     returns
     byte-requires
     byte-requires-2

@@ -29,8 +29,8 @@ mul-scan c = search needs
 scan-requires : tie.Need-scan-requires
 scan-requires c κs =
     let s = c .before .before .before .before .before in
-    let h = whole-matrix (s .args .b .now) (s .args .n) (s .args .p) (s .pre) in
-    (h, lanes-none _ _ _ (h .bytes) (h .width))
+    let h = whole-matrix (s .args .b .now) (s .args .n) (s .args .p) (s .pre .0) in
+    (h, lanes-none _ _ _ (h .bytes) (h .width) (s .pre .1))
 
 subjects-requires : tie.Need-subjects-requires
 subjects-requires c κs = search needs
@@ -38,7 +38,7 @@ subjects-requires c κs = search needs
 returns : tie.Need-returns
 returns c =
     let f = c .before .before .before .before .before in
-    subjects-wrong _ _ _ _ _ _ _ (entry f .before .pre) (octets f) (f .scan .ensures) (sym (c .before .subjects .ensures) ∙ not-true _ (c .if1 .taken))
+    subjects-wrong _ _ _ _ _ _ _ (entry f .before .pre .0) (octets f) (f .scan .ensures) (sym (c .before .subjects .ensures) ∙ not-true _ (c .if1 .taken))
 
 plains-requires : tie.Need-plains-requires
 plains-requires c κs = search needs
@@ -47,21 +47,21 @@ returns-2 : tie.Need-returns-2
 returns-2 c =
     let e = c .before .before .before in
     let f = e .before .before .before .before .before in
-    plain-wrong _ _ _ _ _ _ _ (entry f .before .pre) (octets f) (f .scan .ensures) (sym (e .before .subjects .ensures) ∙ not-false _ (e .if1 .left))
+    plain-wrong _ _ _ _ _ _ _ (entry f .before .pre .0) (octets f) (f .scan .ensures) (sym (e .before .subjects .ensures) ∙ not-false _ (e .if1 .left))
     (sym (c .before .plains .ensures) ∙ not-true _ (c .if2 .taken))
 
 rooted-requires : tie.Need-rooted-requires
 rooted-requires c κs =
     let f = c .before .before .before .before .before .before .before .before .before in
     let s = entry f .before in
-    (s .pre .head .high, f .scan .ensures .owner .size, table-inside _ _ _ _ _ _ _ (s .pre) (octets f) (f .scan .ensures))
+    (s .pre .0 .head .high, f .scan .ensures .owner .size, table-inside _ _ _ _ _ _ _ (s .pre .0) (octets f) (f .scan .ensures))
 
 returns-3 : tie.Need-returns-3
 returns-3 c =
     let d = c .before .before in
     let e = d .before .before .before in
     let f = e .before .before .before .before .before in
-    owners-left _ _ _ _ _ _ _ (entry f .before .pre) (octets f) (f .scan .ensures) _ (sym (e .before .subjects .ensures) ∙ not-false _ (e .if1 .left))
+    owners-left _ _ _ _ _ _ _ (entry f .before .pre .0) (octets f) (f .scan .ensures) _ (sym (e .before .subjects .ensures) ∙ not-false _ (e .if1 .left))
     (sym (d .before .plains .ensures) ∙ not-false _ (d .if2 .left)) (c .rooted .ensures)
 
 pub valid-spec : {M : Type 1} → statement M

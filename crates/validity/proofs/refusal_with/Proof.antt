@@ -1,4 +1,4 @@
--- `validity::refusal` meets its contract. The tests 1 to 5, one after the other; each refusal by the law of its number.
+-- `validity::refusal_with` meets its contract. The tests 1 to 5, one after the other; each refusal by the law of its number.
 use native.Mathlib.Omega.{arith}
 use mathlib.Core.Path.{_≡_, sym, _∙_}
 use mathlib.Core.Bool.{true}
@@ -8,10 +8,11 @@ use mathlib.Core.List.{List}
 use lib.ListN.{getD}
 use Rattle.matrix.specs.Shape.{shapeOf, knownVersion, inRange, sized}
 use Rattle.validity.specs.Header.{Headed, refused-1, refused-2, refused-3, refused-4, refused-5, refused-none}
+use Rattle.validity.specs.OwnersTold.{unread, told-by}
 use Rattle.validity.specs.Whole.{version-read, version-wrong, range-read, headed, whole-read}
 use borrow.Author.Needs.{needs}
-use Rattle.validity.proofs.refusal.Statement.{statement}
-use Rattle.validity.proofs.refusal.Tie as tie
+use Rattle.validity.proofs.refusal_with.Statement.{statement}
+use Rattle.validity.proofs.refusal_with.Tie as tie
 
 -- the tests that are passed at each place, with the bytes that they are of
 abbrev bytes1 : tie.Else1 → List ℕ
@@ -39,13 +40,13 @@ sized-here : (c : tie.Else4) → sized (bytes4 c) ≡ true
 sized-here c = sym (c .before .right-size .ensures) ∙ not-false _ (c .if4 .left)
 
 returns : tie.Need-returns
-returns c = refused-1 _ (c .if1 .taken)
+returns c = (refused-1 _ (c .if1 .taken), unread _ _ (c .before .before .pre))
 
 shared-slice-read-if2 : tie.Need-shared-slice-read-if2
 shared-slice-read-if2 c = search needs
 
 returns-2 : tie.Need-returns-2
-returns-2 c = refused-2 _ (c .before .before .if1 .left) (version-wrong _ (c .if2 .taken))
+returns-2 c = (refused-2 _ (c .before .before .if1 .left) (version-wrong _ (c .if2 .taken)), unread _ _ (c .before .before .before .before .pre))
 
 shared-slice-read-n : tie.Need-shared-slice-read-n
 shared-slice-read-n c = search needs
@@ -64,8 +65,10 @@ in-range-requires c κs = search needs
 
 returns-3 : tie.Need-returns-3
 returns-3 c =
-    let e2 = c .before .before .before .before in
-    refused-3 _ (e2 .before .before .if1 .left) (version-here e2) (range-read _ _ _ (c .before .in-range .ensures) (not-true _ (c .if3 .taken)))
+    let e2 = c .before .before .before .before in (
+      refused-3 _ (e2 .before .before .if1 .left) (version-here e2) (range-read _ _ _ (c .before .in-range .ensures) (not-true _ (c .if3 .taken))),
+      unread _ _ (e2 .before .before .before .before .pre),
+    )
 
 right-size-requires : tie.Need-right-size-requires
 right-size-requires c κs = headed-here c
@@ -73,28 +76,36 @@ right-size-requires c κs = headed-here c
 returns-4 : tie.Need-returns-4
 returns-4 c =
     let e3 = c .before .before in
-    refused-4 _ (headed-here e3 .long) (version-here (e3 .before .before .before .before)) (range-here e3)
-    (sym (c .before .right-size .ensures) ∙ not-true _ (c .if4 .taken))
+    let e2 = e3 .before .before .before .before in (
+      refused-4 _ (headed-here e3 .long) (version-here e2) (range-here e3) (sym (c .before .right-size .ensures) ∙ not-true _ (c .if4 .taken)),
+      unread _ _ (e2 .before .before .before .before .pre),
+    )
 
 valid-requires : tie.Need-valid-requires
-valid-requires c κs = whole-read _ (headed-here (c .before .before)) (sized-here c)
+valid-requires c κs =
+    let e4 = c .before in
+    (whole-read _ (headed-here (e4 .before .before)) (sized-here e4), e4 .before .before .before .before .before .before .before .before .before .before .pre)
 
 returns-5 : tie.Need-returns-5
 returns-5 c =
-    let e4 = c .before .before in
+    let e4 = c .before .before .before in
     let e3 = e4 .before .before in
-    refused-none _ (headed-here e3 .long) (version-here (e3 .before .before .before .before)) (range-here e3) (sized-here e4)
-    (sym (c .before .valid .ensures) ∙ c .if5 .taken)
+    let v = c .before .valid .ensures in (
+      refused-none _ (headed-here e3 .long) (version-here (e3 .before .before .before .before)) (range-here e3) (sized-here e4) (sym (v .0) ∙ c .if5 .taken),
+      told-by (c .if5 .taken) (v .1),
+    )
 
 returns-6 : tie.Need-returns-6
 returns-6 c =
-    let e4 = c .before .before in
+    let e4 = c .before .before .before in
     let e3 = e4 .before .before in
-    refused-5 _ (headed-here e3 .long) (version-here (e3 .before .before .before .before)) (range-here e3) (sized-here e4)
-    (sym (c .before .valid .ensures) ∙ c .if5 .left)
+    let v = c .before .valid .ensures in (
+      refused-5 _ (headed-here e3 .long) (version-here (e3 .before .before .before .before)) (range-here e3) (sized-here e4) (sym (v .0) ∙ c .if5 .left),
+      told-by (c .if5 .left) (v .1),
+    )
 
-pub refusal-spec : {M : Type 1} → statement M
-refusal-spec =
+pub refusal-with-spec : {M : Type 1} → statement M
+refusal-with-spec =
     tie.close
     (tie.spec
     returns
