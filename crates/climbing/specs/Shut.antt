@@ -55,7 +55,8 @@ module _ (S : State) {trusted : ℕ → Bool} {v : ℕ} (t : trusted v ≡ true)
 
 -- ---- one step up
 
--- Where the way up from subject v goes on to r, that is its owner. Where r is no subject, the way ends at v, and v is shut if it is trusted.
+-- Where the way up from subject v goes on to r, that is its owner. Where r is no subject, the way ends at v: then v is shut if it is trusted
+-- and the members of `closed` are shut.
 pub record Next (S : State) (closed v r : ℕ) : Type 0 where
   pub below : r < S .top → v ≡ U → ⊥
   pub up : r < S .top → r ≡ ownerOf (S .top) (S .owns) v

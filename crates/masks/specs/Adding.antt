@@ -1,6 +1,6 @@
 -- A set that a subject is added to.
 use Prim.Native.Nat.{ℕ, _*_, _%_, _^_, _<_}
-use mathlib.Core.Path.{_≡_, _∙_, ap}
+use mathlib.Core.Path.{_∙_, ap}
 use mathlib.Core.Bool.{Bool, _||_}
 use lib.Bits.{bitOr}
 use Rattle.matrix.specs.Bytes.{bit}

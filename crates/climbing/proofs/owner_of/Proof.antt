@@ -36,13 +36,11 @@ has-bit-requires c κs =
 
 returns-2 : tie.Need-returns-2
 returns-2 c =
-    let q = c .before .before .before .before .before .pre in
-    entry-owns (q .3) _ (omega (arith, top-is _ _ _ (q .0))) (omega (arith, top-is _ _ _ (q .0))) (sym (c .before .has-bit .ensures) ∙ c .if2 .taken)
+    entry-owns (c .before .before .before .before .before .pre .3) _ (omega (arith, top-is _ _ _ (c .before .before .before .before .before .pre .0))) (omega (arith, top-is _ _ _ (c .before .before .before .before .before .pre .0))) (sym (c .before .has-bit .ensures) ∙ c .if2 .taken)
 
 returns-3 : tie.Need-returns-3
 returns-3 c =
-    let q = c .before .before .before .before .before .pre in
-    sym (entry-idle (q .3) _ (omega (arith, top-is _ _ _ (q .0))) (λ l. sym (c .before .has-bit .ensures) ∙ c .if2 .left) ∙ top-is _ _ _ (q .0))
+    sym (entry-idle (c .before .before .before .before .before .pre .3) _ (omega (arith, top-is _ _ _ (c .before .before .before .before .before .pre .0))) (λ l. sym (c .before .has-bit .ensures) ∙ c .if2 .left) ∙ top-is _ _ _ (c .before .before .before .before .before .pre .0))
 
 pub owner-of-spec : {M : Type 1} → statement M
 owner-of-spec =

@@ -10,13 +10,14 @@ has-bit-requires : tie.Need-has-bit-requires
 has-bit-requires c κs = search needs
 
 returns : tie.Need-returns
-returns c = let q = c .before .before .before .pre in (owner-not (sym (c .before .has-bit .ensures) ∙ not-true _ (c .if1 .taken)) (q .5), q .4)
+returns c = (owner-not (sym (c .before .has-bit .ensures) ∙ not-true _ (c .if1 .taken)) (c .before .before .before .pre .5), c .before .before .before .pre .4)
 
 rise-from-requires : tie.Need-rise-from-requires
 rise-from-requires c κs = search needs
 
 returns-2 : tie.Need-returns-2
-returns-2 c = let e = c .rise-from .ensures in (owner-rises (sym (c .before .before .before .before .has-bit .ensures) ∙ not-false _ (c .before .before .before .if1 .left)) (e .0), e .1)
+returns-2 c =
+    (owner-rises (sym (c .before .before .before .before .has-bit .ensures) ∙ not-false _ (c .before .before .before .if1 .left)) (c .rise-from .ensures .0), c .rise-from .ensures .1)
 
 pub owner-rise-spec : {M : Type 1} → statement M
 owner-rise-spec = tie.close (tie.spec has-bit-requires returns rise-from-requires returns-2)

@@ -1,6 +1,5 @@
 -- `climbing::rise_from` meets its contract. The loop's invariant: what is left of the way up is the whole way up, and those seen are shut if
 -- the subject come to is.
-use borrow.Author.Needs.{needs}
 use Prim.Native.Nat.{_+_, _<_}
 use native.Mathlib.Omega.{arith}
 use borrow.Author.Tests.{not-true, not-false}
