@@ -1,9 +1,10 @@
 -- What the code tests, in the terms of the lists that the pass over the rows has filled.
-use Prim.Native.Nat.{ℕ, _+_, _*_, _≤_, _<_}
+use Prim.Native.Nat.{ℕ, _+_, _*_, _%_, _≤_, _<_}
 use mathlib.Core.Path.{_≡_}
 use mathlib.Core.Bool.{Bool, cond, not, _&&_}
 use mathlib.Core.List.{List}
 use lib.Dec.{eqb, leb}
+use lib.Bits.{bitOr}
 use lib.ListN.{length, getD}
 use Rattle.matrix.specs.Bytes.{bit}
 use Rattle.lanes.specs.Lanes.{merged}
@@ -34,6 +35,10 @@ subjectTest b m seen own control s = subjectAt b m seen own control s (7 + s * m
 -- the plain column at the byte columns j and j + 1
 unfoldable pub plainTest : List ℕ → ℕ → Bool
 plainTest seen j = cond (bit 0 (getD seen (j + 1) 0)) (not (bit 1 (getD seen (j + 1) 0))) (zeroColumn seen j)
+
+-- what is wrong with a plain column that has these bits in its two bytes: nothing where it is owned and not controlled
+abbrev pub plainWrong : ℕ → ℕ → ℕ
+plainWrong high low = cond (eqb (low % 4) 1) 0 (bitOr high low)
 
 -- subject s, whose row of m bytes begins at `at`
 pub record Placed (b seen : List ℕ) (s at m : ℕ) : Type 0 where

@@ -2,16 +2,21 @@
 use Prim.Native.Nat.{ℕ, _+_, _*_, _/_, _%_, _≤_}
 use native.Mathlib.Omega.{arith}
 use mathlib.Core.Path.{_≡_, refl, sym, _∙_, ap, subst}
-use mathlib.Core.Bool.{Bool, true, false, not, _&&_}
+use mathlib.Core.Logic.{_⊎_, inl, inr}
+use mathlib.Core.Bool.{Bool, true, false, cond, not, _&&_}
 use mathlib.Core.List.{List}
 use lib.Dec.{eqb, leb}
 use lib.Bits.{bitOr}
 use lib.ListN.{getD}
-use borrow.Author.Tests.{eq-eqb, ne-eqb}
+use borrow.Author.Tests.{eqb-true, eqb-false, eq-eqb, ne-eqb}
+use Rattle.matrix.specs.Bounded.{all}
 use Rattle.matrix.specs.Bytes.{bit}
+use Rattle.laws.specs.Tests.{way, fails, and-right}
+use Rattle.laws.specs.Bounded.{all-same}
 use Rattle.lanes.specs.Lanes.{merged}
 use Rattle.lanes.specs.LaneLaws.{bit-low, bit-low-set, merged-step}
-use Rattle.columns.specs.Checks.{zeroFrom, zeroColumn, subjectAt, subjectTest, plainTest}
+use Rattle.lanes.specs.Zeros.{or-zero, merged-zero}
+use Rattle.columns.specs.Checks.{zeroFrom, zeroColumn, subjectAt, subjectTest, plainTest, plainWrong}
 
 -- bytes merged one after another
 pub merged-none : (f : ℕ → ℕ) → 0 ≡ merged 0 f
@@ -24,16 +29,38 @@ merged-more i f v e = ap (λ (x : ℕ). bitOr x (f i)) e ∙ merged-step i f
 pub merged-done : (i m : ℕ) (f : ℕ → ℕ) (v : ℕ) → i ≤ m → m ≤ i → v ≡ merged i f → eqb v 0 ≡ eqb (merged m f) 0
 merged-done i m f v h l e = subst (λ (j : ℕ). eqb v 0 ≡ eqb (merged j f) 0) (omega arith) (ap (λ (x : ℕ). eqb x 0) e)
 
--- a plain column that somebody owns, and one that nobody owns
-pub plain-owned : (seen : List ℕ) (j : ℕ) → getD seen (j + 1) 0 % 2 ≡ 1 → not (eqb (getD seen (j + 1) 0 / 2 % 2) 1) ≡ plainTest seen j
-unfolding plainTest bit
-plain-owned seen j h = let e : bit 0 (getD seen (j + 1) 0) ≡ true = bit-low-set (getD seen (j + 1) 0) h in rw e refl
+-- bit 1, as the code tests it
+bit-one-set : (v : ℕ) → v / 2 % 2 ≡ 1 → bit 1 v ≡ true
+unfolding bit
+bit-one-set v h = eq-eqb (v / 2 % 2) 1 h
 
-pub plain-unowned : (seen : List ℕ) (j : ℕ) → (getD seen (j + 1) 0 % 2 ≡ 1 → ⊥) → zeroColumn seen j ≡ plainTest seen j
+bit-one-clear : (v : ℕ) → (v / 2 % 2 ≡ 1 → ⊥) → bit 1 v ≡ false
+unfolding bit
+bit-one-clear v h = ne-eqb (v / 2 % 2) 1 h
+
+-- nothing is wrong with a plain column just where it passes its test
+plain-right : (seen : List ℕ) (j : ℕ) → eqb (plainWrong (getD seen j 0) (getD seen (j + 1) 0)) 0 ≡ plainTest seen j
 unfolding plainTest
-plain-unowned seen j h =
-    let e : bit 0 (getD seen (j + 1) 0) ≡ false = bit-low (getD seen (j + 1) 0) ∙ ne-eqb (getD seen (j + 1) 0 % 2) 1 h in
-    rw e refl
+plain-right seen j = go (way (eqb (low % 4) 1)) (way (eqb (low % 2) 1))
+  where
+    low : ℕ
+    low = getD seen (j + 1) 0
+
+    go : (eqb (low % 4) 1 ≡ true) ⊎ (eqb (low % 4) 1 ≡ false) → (eqb (low % 2) 1 ≡ true) ⊎ (eqb (low % 2) 1 ≡ false)
+        → eqb (plainWrong (getD seen j 0) low) 0 ≡ cond (bit 0 low) (not (bit 1 low)) (zeroColumn seen j)
+    go (inl e) f =
+        let q : low % 4 ≡ 1 = eqb-true (low % 4) 1 e in
+        rw (e, bit-low-set low (omega arith), bit-one-clear low (λ h. omega arith)) refl
+    go (inr e) (inl f) =
+        let ne : low % 4 ≡ 1 → ⊥ = eqb-false (low % 4) 1 e in
+        let q : low % 2 ≡ 1 = eqb-true (low % 2) 1 f in
+        rw (e, bit-low-set low q, bit-one-set low (omega arith), or-zero (getD seen j 0) low)
+        (fails (eqb (getD seen j 0) 0 && eqb low 0) (λ h. let z : low ≡ 0 = eqb-true low 0 (and-right (eqb (getD seen j 0) 0) _ h) in absurd (omega arith)))
+    go (inr e) (inr f) = rw (e, bit-low low ∙ f) (or-zero (getD seen j 0) low)
+
+pub plains-right : (seen : List ℕ) (n p : ℕ)
+    → eqb (merged p (λ i. plainWrong (getD seen (2 * (n + i)) 0) (getD seen (2 * (n + i) + 1) 0))) 0 ≡ all p (λ i. plainTest seen (2 * (n + i)))
+plains-right seen n p = merged-zero p _ ∙ all-same p _ _ (λ i l. plain-right seen (2 * (n + i)))
 
 -- an absent subject: U, one with something in its column, any other
 pub absent-root : (s : ℕ) (t : Bool) → s ≡ 0 → false ≡ (not (eqb s 0) && t)
@@ -44,15 +71,6 @@ absent-column s z y ne e = rw (ne-eqb s 0 ne, e) refl
 
 pub absent-row : (s : ℕ) (z y r : Bool) → (s ≡ 0 → ⊥) → z ≡ true → r ≡ y → r ≡ (not (eqb s 0) && (z && y))
 absent-row s z y r ne e q = rw (ne-eqb s 0 ne, e) q
-
--- bit 1, as the code tests it
-bit-one-set : (v : ℕ) → v / 2 % 2 ≡ 1 → bit 1 v ≡ true
-unfolding bit
-bit-one-set v h = eq-eqb (v / 2 % 2) 1 h
-
-bit-one-clear : (v : ℕ) → (v / 2 % 2 ≡ 1 → ⊥) → bit 1 v ≡ false
-unfolding bit
-bit-one-clear v h = ne-eqb (v / 2 % 2) 1 h
 
 -- a subject whose row begins at `at`: U, any other that exists, an absent one
 module _ (b : List ℕ) (m : ℕ) (seen own control : List ℕ) (s at : ℕ) (r : Bool) where

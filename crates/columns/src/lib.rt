@@ -6,7 +6,7 @@ ghost use lib.Dec.{eqb, leb};
 ghost use lib.ListN.{length};
 ghost use Rattle.matrix.specs.Bounded.{all};
 ghost use Rattle.lanes.specs.Lanes.{Matrix};
-ghost use Rattle.columns.specs.Checks.{zeroFrom, zeroColumn, subjectAt, subjectTest, plainTest, Placed};
+ghost use Rattle.columns.specs.Checks.{zeroFrom, zeroColumn, subjectAt, subjectTest, plainTest, plainWrong, Placed};
 
 // The m bytes from `at` on are all zero. All of them are looked at, so that the compiler may take many at once.
 fn zero_from(b: &[u8], at: usize, m: usize) -> bool
@@ -108,28 +108,22 @@ pub fn subjects(
     true
 }
 
-// A plain column: owned and controlled by nobody, or zero.
-fn plain(seen: &[u8; 512], j: usize) -> bool
-    requires { ⌜ (j + 1 < 512) × (length (now seen) ≡ 512) ⌝ }
-    ensures { λ r. ⌜ r ≡ plainTest (now (seen .entry)) j ⌝ }
+// What is wrong with a plain column that has these bits in its two bytes: it is owned and controlled by nobody, or zero.
+fn plain_wrong(high: u8, low: u8) -> u8
+    ensures { λ r. ⌜ r ≡ plainWrong high low ⌝ }
 {
-    let v = seen[j + 1];
-    if v % 2 == 1 {
-        (v >> 1) % 2 != 1
-    } else {
-        zero_column(seen, j)
-    }
+    if low % 4 == 1 { 0 } else { high | low }
 }
 
-// The p plain columns, after n columns of subjects.
+// The p plain columns, after n columns of subjects. All of them are looked at, so that the compiler may take many at once.
 pub fn plains(seen: &[u8; 512], n: usize, p: usize) -> bool
     requires { ⌜ (n + p ≤ 256) × (length (now seen) ≡ 512) ⌝ }
     ensures { λ r. ⌜ r ≡ all p (λ i. plainTest (now (seen .entry)) (2 * (n + i))) ⌝ }
 {
+    let mut wrong: u8 = 0;
     for i in 0..p {
-        if !plain(seen, 2 * (n + i)) {
-            return false;
-        }
+        let j = 2 * (n + i);
+        wrong = wrong | plain_wrong(seen[j], seen[j + 1]);
     }
-    true
+    wrong == 0
 }

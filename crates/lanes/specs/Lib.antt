@@ -1,5 +1,6 @@
 pub mod Lists
 pub mod Lanes
 pub mod LaneLaws
+pub mod Zeros
 pub mod RowLaws
 pub mod Passing

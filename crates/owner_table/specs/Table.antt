@@ -1,8 +1,14 @@
 -- Tables of owners: what each entry is come to by.
 use Prim.Native.Nat.{ℕ, _+_, _*_, _<_}
+use native.Mathlib.Omega.{arith}
 use mathlib.Core.Path.{_≡_, sym, _∙_, ap}
+use mathlib.Core.Bool.{Bool, true}
 use mathlib.Core.List.{List}
+use lib.Dec.{eqb}
 use lib.ListN.{length, getD}
+use borrow.Author.Tests.{eqb-true, eq-eqb}
+use Rattle.matrix.specs.Bounded.{all}
+use Rattle.laws.specs.Bounded.{all-same, all-each, each-all}
 use Rattle.lanes.specs.Lists.{Stored}
 use Rattle.owner_table.specs.Followed.{followed, followed-add, followed-below}
 
@@ -37,3 +43,15 @@ follows-twice n f j t old new k h e g =
 -- an entry of such a table is a subject
 pub follows-inside : (n : ℕ) (f : ℕ → ℕ) (j : ℕ) (t : List ℕ) → Inside n f → Follows n f j t → (s : ℕ) → s < n → getD t s 0 < n
 follows-inside n f j t k h s l = rw (h .value s l) (followed-below n f (k .below) j s l)
+
+-- where all have come to U, all have after twice as many
+pub rooted-twice : (n : ℕ) (f : ℕ → ℕ) (j : ℕ) → all n (λ s. eqb (followed f j s) 0) ≡ true → all n (λ s. eqb (followed f (j + j) s) 0) ≡ true
+rooted-twice n f j h = each-all n _ (λ s l. eq-eqb _ 0 (followed-add f j j s ∙ ap (λ (x : ℕ). followed f j x) (zeros s l) ∙ zeros 0 (omega arith)))
+  where
+    zeros : (s : ℕ) → s < n → followed f j s ≡ 0
+    zeros s l = eqb-true _ 0 (all-each n (λ s. eqb (followed f j s) 0) h s l)
+
+-- the test of a table, of what is come to by following
+pub follows-rooted : (n : ℕ) (f : ℕ → ℕ) (j : ℕ) (t : List ℕ) {r : Bool} → Follows n f j t → r ≡ all n (λ s. eqb (getD t s 0) 0)
+    → r ≡ all n (λ s. eqb (followed f j s) 0)
+follows-rooted n f j t h e = e ∙ all-same n _ _ (λ s l. ap (λ (x : ℕ). eqb x 0) (h .value s l))

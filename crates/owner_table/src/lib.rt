@@ -41,7 +41,8 @@ fn all_root(t: &[u8; 64], n: usize) -> bool
     true
 }
 
-// Following owners from any of the n subjects comes to U: after six doublings each entry has followed 64 owners.
+// Following owners from any of the n subjects comes to U: after six doublings each entry has followed 64 owners. Where all have come to U
+// before, the rest of the doublings is left out.
 pub fn rooted(last: &[u8; 128], n: usize) -> bool
     requires { ⌜ (n ≤ 64) × (length (now last) ≡ 128) × Inside n (ownerIn (now last)) ⌝ }
     ensures { λ r. ⌜ r ≡ all n (λ s. eqb (followed (ownerIn (now (last .entry))) 64 s) 0) ⌝ }
@@ -49,10 +50,19 @@ pub fn rooted(last: &[u8; 128], n: usize) -> bool
     let mut t = [0u8; 64];
     let mut u = [0u8; 64];
     owners(&mut t, last, n);
+    if all_root(&t, n) {
+        return true;
+    }
     double(&t, &mut u, n);
     double(&u, &mut t, n);
+    if all_root(&t, n) {
+        return true;
+    }
     double(&t, &mut u, n);
     double(&u, &mut t, n);
+    if all_root(&t, n) {
+        return true;
+    }
     double(&t, &mut u, n);
     double(&u, &mut t, n);
     all_root(&t, n)

@@ -16,7 +16,8 @@ use Rattle.validity.specs.Fast.{subjectRight, plainRight, lastOwner, all
 use Rattle.validity.specs.Cells.{ownBit, controlBit, zeroCell}
 use Rattle.columns.specs.Checks.{zeroFrom, zeroColumn, judged, subjectTest, plainTest}
 use Rattle.owner_table.specs.Table.{ownerIn, Inside}
-use Rattle.validity.specs.Merged.{merged-zero, merged-zeros, merged-bit, all-pairs}
+use Rattle.lanes.specs.Zeros.{merged-zero}
+use Rattle.validity.specs.Merged.{merged-zeros, merged-bit, all-pairs}
 
 module _ (b : List ℕ) (n k m : ℕ) (seen own control last : List ℕ) (lanes : Lanes b m (2 * n) n seen own control last)
     (width : m ≡ 2 * k) (inside : n ≤ k) where

@@ -1,35 +1,41 @@
--- `columns::plains` meets its contract. The invariant: the first i plain columns pass.
-use borrow.Author.Tests.{not-true, not-false}
+-- `columns::plains` meets its contract. The invariant: `wrong` is what is wrong with the first i plain columns, merged.
 use borrow.Author.Needs.{needs}
-use Prim.Native.Nat.{_+_, _*_, _-_, _≤_}
-use mathlib.Core.Path.{_≡_, sym, _∙_}
-use mathlib.Core.Bool.{true}
-use Rattle.matrix.specs.Bounded.{all}
-use Rattle.columns.specs.Checks.{plainTest}
-use Rattle.lanes.specs.Passing.{all-none, all-more, all-done, all-stop}
+use Prim.Native.Nat.{ℕ, _+_, _*_, _-_, _≤_}
+use mathlib.Core.Path.{_≡_, _∙_, ap}
+use lib.Bits.{bitOr}
+use lib.ListN.{getD}
+use Rattle.lanes.specs.Lanes.{merged}
+use Rattle.columns.specs.Checks.{plainWrong}
+use Rattle.columns.specs.Loops.{merged-none, merged-more, merged-done, plains-right}
 use Rattle.columns.proofs.plains.Statement.{statement}
 use Rattle.columns.proofs.plains.Tie as tie
 
 abbrev Inv-loop : tie.InvT-loop
-Inv-loop seen n p i₀ i = (i ≤ p) × (all i (λ k. plainTest seen (2 * (n + k))) ≡ true)
+Inv-loop seen n p wrong₀ i₀ wrong i = (i ≤ p) × (wrong ≡ merged i (λ k. plainWrong (getD seen (2 * (n + k)) 0) (getD seen (2 * (n + k) + 1) 0)))
 
 abbrev μ-loop : tie.MeasureT-loop
-μ-loop seen n p i₀ i = p - i
+μ-loop seen n p wrong₀ i₀ wrong i = p - i
 
 loop-holds : tie.Need-loop-holds Inv-loop μ-loop
-loop-holds c = (search needs, all-none _)
+loop-holds c = (search needs, merged-none _)
 
-add-plain : tie.Need-add-plain Inv-loop μ-loop
-add-plain c = search needs
+add-j : tie.Need-add-j Inv-loop μ-loop
+add-j c = search needs
 
-mul-plain : tie.Need-mul-plain Inv-loop μ-loop
-mul-plain c = search needs
+mul-j : tie.Need-mul-j Inv-loop μ-loop
+mul-j c = search needs
 
-plain-requires : tie.Need-plain-requires Inv-loop μ-loop
-plain-requires c κs = search needs
+element-copy-out-plain-wrong : tie.Need-element-copy-out-plain-wrong Inv-loop μ-loop
+element-copy-out-plain-wrong c = search needs
 
-returns : tie.Need-returns Inv-loop μ-loop
-returns c = all-stop (c .before .before .before .loop .i) _ _ (c .before .before .loop-test .taken) (sym (c .before .plain .ensures) ∙ not-true _ (c .if1 .taken))
+add-plain-wrong : tie.Need-add-plain-wrong Inv-loop μ-loop
+add-plain-wrong c = search needs
+
+element-copy-out-plain-wrong-2 : tie.Need-element-copy-out-plain-wrong-2 Inv-loop μ-loop
+element-copy-out-plain-wrong-2 c = search needs
+
+plain-wrong-requires : tie.Need-plain-wrong-requires Inv-loop μ-loop
+plain-wrong-requires c κs = search needs
 
 add-i : tie.Need-add-i Inv-loop μ-loop
 add-i c = search needs
@@ -39,12 +45,17 @@ loop-less c = search needs
 
 loop-again : tie.Need-loop-again Inv-loop μ-loop
 loop-again c =
-    let l = c .before .before .before .loop in
-    let s = c .before .before .before .before in
-    (search needs, all-more (l .i) (λ k. plainTest (s .args .seen .now) (2 * (s .args .n + k))) (l .inv .1) (sym (c .before .plain .ensures) ∙ not-false _ (c .if1 .left)))
+    let l = c .before .before .before .before .loop in
+    let a = c .before .before .before .before .before .args in (
+      search needs,
+      ap (λ (x : ℕ). bitOr (l .wrong) x) (c .plain-wrong .ensures)
+          ∙ merged-more (l .i) (λ k. plainWrong (getD (a .seen .now) (2 * (a .n + k)) 0) (getD (a .seen .now) (2 * (a .n + k) + 1) 0)) (l .wrong) (l .inv .1),
+    )
 
-returns-2 : tie.Need-returns-2 Inv-loop μ-loop
-returns-2 c = all-done _ _ _ (c .before .loop .inv .0) (c .loop-test .left) (c .before .loop .inv .1)
+returns : tie.Need-returns Inv-loop μ-loop
+returns c =
+    let a = c .before .before .args in
+    merged-done _ _ _ _ (c .before .loop .inv .0) (c .loop-test .left) (c .before .loop .inv .1) ∙ plains-right (a .seen .now) (a .n) (a .p)
 
 pub plains-spec : {M : Type 1} → statement M
 plains-spec =
@@ -53,11 +64,13 @@ plains-spec =
     Inv-loop
     μ-loop
     loop-holds
-    add-plain
-    mul-plain
-    plain-requires
-    returns
+    add-j
+    mul-j
+    element-copy-out-plain-wrong
+    add-plain-wrong
+    element-copy-out-plain-wrong-2
+    plain-wrong-requires
     add-i
     loop-less
     loop-again
-    returns-2)
+    returns)
