@@ -3,7 +3,7 @@
 use std::time::{Duration, Instant};
 
 /// Rounds of each side.
-const ROUNDS: usize = 151;
+const ROUNDS: usize = 301;
 
 /// How long a round should take: short, so that many rounds are not interrupted.
 const ROUND: Duration = Duration::from_micros(40);

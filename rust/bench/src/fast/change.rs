@@ -1,6 +1,7 @@
 //! The changes of accepted commands, in the record and in the tables.
 
 use super::station::{CONTROL, OWN, Station};
+use super::tables::OWN_CONTROL;
 
 /// The own and control bits in a cell's second byte.
 const OWN_LOW: u8 = OWN as u8;
@@ -58,27 +59,40 @@ impl Station<'_> {
     /// i gains own over all that s owns, and row and column s are cleared.
     pub(super) fn destroy_subject(&mut self, i: usize, s: usize) {
         self.hand_on(i, s);
-        let start = self.at(s, 0);
-        self.record[start..start + 2 * self.columns].fill(0);
         self.clear_column(s);
         self.tables.set_exists(s, false);
     }
 
-    /// i gains own over all that s owns, in the record and in the tables. A subject that s controlled has no other controller.
+    /// The rows of two different subjects.
+    fn two_rows(&mut self, i: usize, s: usize) -> (&mut [u8], &mut [u8]) {
+        let width = 2 * self.columns;
+        let (low, high) = self.record[7..].split_at_mut(i.max(s) * width);
+        let low = &mut low[i.min(s) * width..][..width];
+        let high = &mut high[..width];
+        if i < s { (low, high) } else { (high, low) }
+    }
+
+    /// i, which owns s, gains own over all that s owns, in the record and in the tables, and row s is cleared. A subject that s
+    /// controlled has no other controller. Bytes are taken as they lie, so that the compiler may take many at once; what that
+    /// writes into the tables' first byte of a column is not looked at.
     fn hand_on(&mut self, i: usize, s: usize) {
-        let (from, to) = (self.at(s, 0), self.at(i, 0));
-        for column in 0..self.columns {
-            let low = self.record[from + 2 * column + 1];
-            self.record[to + 2 * column + 1] |= low & OWN_LOW;
+        let subject_bytes = 2 * self.n;
+        let (_, from) = self.two_rows(i, s);
+        let mut lost = [0; 128];
+        lost[..subject_bytes].copy_from_slice(&from[..subject_bytes]);
+        for (owner, bits) in self.tables.owner.iter_mut().zip(lost) {
+            *owner = if bits & OWN_LOW != 0 { i as u8 } else { *owner };
         }
-        for column in 0..self.n {
-            let low = self.record[from + 2 * column + 1];
-            if low & OWN_LOW != 0 {
-                self.tables.set_owner(column, i);
-            }
-            if low & CONTROL_LOW != 0 && column != s {
-                self.tables.set_controlled(column, false);
-            }
+        for (tally, bits) in self.tables.tally.iter_mut().zip(lost) {
+            let control = bits & CONTROL_LOW != 0;
+            *tally = if control { OWN_CONTROL } else { *tally };
         }
+        let (to, from) = self.two_rows(i, s);
+        let cells = from.as_chunks().0.iter();
+        for (to, &from) in to.as_chunks_mut().0.iter_mut().zip(cells) {
+            let bits = u16::from_ne_bytes(*to) | u16::from_ne_bytes(from) & OWN.to_be();
+            *to = bits.to_ne_bytes();
+        }
+        from.fill(0);
     }
 }

@@ -1,88 +1,136 @@
-//! Byte lanes: 8 N bytes of a row at once, as N words. The operations are written so that the compiler uses vector registers.
+//! Byte lanes: 16 bytes of a row at once, in a vector register. SSE2, which every x86-64 has and the default target uses; left
+//! to itself the compiler shuffles lanes between rows and takes twice as long.
 
-use std::ops::{Add, BitAnd, BitOr, BitXor};
+use std::arch::x86_64::{
+    __m128i, _mm_add_epi8, _mm_and_si128, _mm_andnot_si128, _mm_cmpeq_epi8, _mm_cmpgt_epi16,
+    _mm_loadu_si128, _mm_max_epu8, _mm_movemask_epi8, _mm_or_si128, _mm_set1_epi8,
+    _mm_setzero_si128, _mm_slli_epi16, _mm_storeu_si128, _mm_xor_si128,
+};
+use std::ops::{Add, BitAnd, BitOr, BitOrAssign, BitXor};
+
+/// The bytes of a block.
+pub const BLOCK: usize = 16;
 
 /// Neighbouring bytes of a row, or sums of such bytes of several rows.
 #[derive(Clone, Copy)]
-pub struct Lanes<const N: usize>(pub [u64; N]);
+pub struct Lanes(__m128i);
 
-/// One word with the same byte in every lane.
-pub const fn every(byte: u8) -> u64 {
-    0x0101_0101_0101_0101 * byte as u64
-}
+impl Lanes {
+    /// The same byte in every lane.
+    #[inline(always)]
+    pub fn every(byte: u8) -> Lanes {
+        // SAFETY: every x86-64 has SSE2.
+        Lanes(unsafe { _mm_set1_epi8(byte as i8) })
+    }
 
-impl<const N: usize> Lanes<N> {
-    pub const ZERO: Lanes<N> = Lanes([0; N]);
+    #[inline(always)]
+    pub fn zero() -> Lanes {
+        // SAFETY: every x86-64 has SSE2.
+        Lanes(unsafe { _mm_setzero_si128() })
+    }
 
-    /// The 8 N bytes from `at` on.
+    /// The 16 bytes from `at` on.
     ///
     /// # Safety
-    /// `bytes` has at least `at + 8 N` bytes.
+    /// `bytes` has at least `at + 16` bytes.
     #[inline(always)]
-    pub unsafe fn load(bytes: &[u8], at: usize) -> Lanes<N> {
-        debug_assert!(at + 8 * N <= bytes.len());
-        // SAFETY: the caller says that these bytes are part of the slice; u64 has no invalid values.
-        Lanes(unsafe { bytes.as_ptr().add(at).cast::<[u64; N]>().read_unaligned() })
+    pub unsafe fn load(bytes: &[u8], at: usize) -> Lanes {
+        debug_assert!(at + BLOCK <= bytes.len());
+        // SAFETY: the caller says that these bytes are part of the slice.
+        Lanes(unsafe { _mm_loadu_si128(bytes.as_ptr().add(at).cast()) })
     }
 
-    /// Each word by a function.
+    /// The bytes of a block.
     #[inline(always)]
-    pub fn map(self, change: impl Fn(u64) -> u64) -> Lanes<N> {
-        let mut words = self.0;
-        for word in &mut words {
-            *word = change(*word);
-        }
-        Lanes(words)
-    }
-
-    #[inline(always)]
-    fn zip(self, other: Lanes<N>, join: impl Fn(u64, u64) -> u64) -> Lanes<N> {
-        let mut words = self.0;
-        for (word, with) in words.iter_mut().zip(other.0) {
-            *word = join(*word, with);
-        }
-        Lanes(words)
+    pub fn of(bytes: &[u8; BLOCK]) -> Lanes {
+        // SAFETY: there are 16 bytes.
+        unsafe { Lanes::load(bytes, 0) }
     }
 
     /// Writes the lanes as bytes from `at` on.
     #[inline(always)]
     pub fn store(self, bytes: &mut [u8], at: usize) {
-        let places = bytes[at..at + 8 * N].chunks_exact_mut(8);
-        for (place, word) in places.zip(self.0) {
-            place.copy_from_slice(&word.to_le_bytes());
-        }
+        let place = &mut bytes[at..at + BLOCK];
+        // SAFETY: the place has 16 bytes.
+        unsafe { _mm_storeu_si128(place.as_mut_ptr().cast(), self.0) }
+    }
+
+    /// The lanes that are not in a mask.
+    #[inline(always)]
+    pub fn outside(self, mask: Lanes) -> Lanes {
+        // SAFETY: every x86-64 has SSE2.
+        Lanes(unsafe { _mm_andnot_si128(mask.0, self.0) })
+    }
+
+    /// The cells, of two lanes each, whose low byte is above 0 as a signed number, the high byte being 0: a mask.
+    #[inline(always)]
+    pub fn cells_set(self) -> Lanes {
+        // SAFETY: as above.
+        Lanes(unsafe { _mm_cmpgt_epi16(self.0, _mm_setzero_si128()) })
+    }
+
+    /// The lanes that are at least those of another: a mask.
+    #[inline(always)]
+    pub fn at_least(self, other: Lanes) -> Lanes {
+        // SAFETY: as above.
+        Lanes(unsafe { _mm_cmpeq_epi8(_mm_max_epu8(self.0, other.0), self.0) })
+    }
+
+    /// Whether some lane isn't 0.
+    #[inline(always)]
+    pub fn any(self) -> bool {
+        // SAFETY: as above.
+        unsafe { _mm_movemask_epi8(_mm_cmpeq_epi8(self.0, _mm_setzero_si128())) != 0xFFFF }
+    }
+
+    /// Each lane, which has no bit but its lowest, moved up by so many bits, at most 7.
+    #[inline(always)]
+    pub fn raise<const BITS: i32>(self) -> Lanes {
+        // SAFETY: every x86-64 has SSE2.
+        Lanes(unsafe { _mm_slli_epi16::<BITS>(self.0) })
     }
 }
 
-impl<const N: usize> BitOr for Lanes<N> {
-    type Output = Lanes<N>;
+impl BitOr for Lanes {
+    type Output = Lanes;
     #[inline(always)]
-    fn bitor(self, other: Lanes<N>) -> Lanes<N> {
-        self.zip(other, |a, b| a | b)
+    fn bitor(self, other: Lanes) -> Lanes {
+        // SAFETY: every x86-64 has SSE2.
+        Lanes(unsafe { _mm_or_si128(self.0, other.0) })
     }
 }
 
-impl<const N: usize> BitAnd for Lanes<N> {
-    type Output = Lanes<N>;
+impl BitOrAssign for Lanes {
     #[inline(always)]
-    fn bitand(self, other: Lanes<N>) -> Lanes<N> {
-        self.zip(other, |a, b| a & b)
+    fn bitor_assign(&mut self, other: Lanes) {
+        *self = *self | other;
     }
 }
 
-impl<const N: usize> BitXor for Lanes<N> {
-    type Output = Lanes<N>;
+impl BitAnd for Lanes {
+    type Output = Lanes;
     #[inline(always)]
-    fn bitxor(self, other: Lanes<N>) -> Lanes<N> {
-        self.zip(other, |a, b| a ^ b)
+    fn bitand(self, other: Lanes) -> Lanes {
+        // SAFETY: every x86-64 has SSE2.
+        Lanes(unsafe { _mm_and_si128(self.0, other.0) })
     }
 }
 
-/// The sum of each lane. No lane may go above 255, as it would carry into the next.
-impl<const N: usize> Add for Lanes<N> {
-    type Output = Lanes<N>;
+impl BitXor for Lanes {
+    type Output = Lanes;
     #[inline(always)]
-    fn add(self, other: Lanes<N>) -> Lanes<N> {
-        self.zip(other, u64::wrapping_add)
+    fn bitxor(self, other: Lanes) -> Lanes {
+        // SAFETY: every x86-64 has SSE2.
+        Lanes(unsafe { _mm_xor_si128(self.0, other.0) })
+    }
+}
+
+/// The sum of each lane.
+impl Add for Lanes {
+    type Output = Lanes;
+    #[inline(always)]
+    fn add(self, other: Lanes) -> Lanes {
+        // SAFETY: every x86-64 has SSE2.
+        Lanes(unsafe { _mm_add_epi8(self.0, other.0) })
     }
 }

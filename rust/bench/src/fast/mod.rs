@@ -7,6 +7,7 @@ mod rooted;
 mod safety;
 mod scan;
 mod station;
+mod subjects;
 mod tables;
 mod witness;
 

@@ -1,8 +1,9 @@
 //! The validity of a record, by one pass over its rows in blocks of byte columns.
 
-use super::lanes::{Lanes, every};
+use super::lanes::{BLOCK, Lanes};
 use super::rooted::rooted;
-use super::tables::{OTHER_CONTROL, OWN_CONTROL, Tables};
+use super::subjects::subject_columns;
+use super::tables::Tables;
 
 /// The place of the first cell.
 const FIRST: usize = 7;
@@ -25,193 +26,71 @@ pub fn scan(record: &[u8], tables: &mut Tables) -> u64 {
     if length as usize != 2 + n * width || cells.len() != n * width {
         return 4;
     }
-    subject_columns(cells, n, width, tables);
+    if valid(cells, n, width, tables) { 0 } else { 5 }
+}
+
+/// Whether the n rows of `width` bytes are a valid matrix.
+#[inline(always)]
+fn valid(cells: &[u8], n: usize, width: usize, tables: &mut Tables) -> bool {
+    let subjects = subject_columns(cells, n, width, tables);
     plain_columns(cells, n, width, tables);
-    let fine = subjects_fit(cells, n, width, tables) && plains_fit(n, width, tables);
-    if fine && rooted(tables, n) { 0 } else { 5 }
+    let root = cells[1] & 2 != 0 && tables.tally[1] == 2;
+    root && !subjects.wrong.any()
+        && plains_fit(n, width, tables)
+        && (!subjects.absent.any() || zero_rows(cells, width))
+        && (!subjects.higher.any() || rooted(tables, n))
 }
 
-/// What is found of the byte columns of one block. `row` is the owner's row, bit by bit, where there is one owner: the bits
-/// set in some row whose number has that bit.
-struct Found<const N: usize> {
-    seen: Lanes<N>,
-    tally: Lanes<N>,
-    odd: Lanes<N>,
-    row: [Lanes<N>; 6],
-}
-
-impl<const N: usize> Found<N> {
-    /// The own and control bits of a row are added: own counts 1, control 2. The sum over 64 rows is at most 192.
-    #[inline(always)]
-    fn count(&mut self, v: Lanes<N>) {
-        self.tally = self.tally + v.map(|word| word & every(3));
-        self.odd = self.odd ^ v;
-    }
-
-    /// One row joins.
-    #[inline(always)]
-    fn one(&mut self, v: Lanes<N>, row: usize) {
-        self.count(v);
-        self.seen = self.seen | v;
-        for bit in 0..6 {
-            if row >> bit & 1 == 1 {
-                self.row[bit] = self.row[bit] | v;
-            }
-        }
-    }
-
-    /// The rows 8 g to 8 g + 7 join.
-    #[inline(always)]
-    fn eight(&mut self, v: [Lanes<N>; 8], group: usize) {
-        for lanes in v {
-            self.count(lanes);
-        }
-        let pairs = [v[0] | v[1], v[2] | v[3], v[4] | v[5], v[6] | v[7]];
-        let high = pairs[2] | pairs[3];
-        let all = pairs[0] | pairs[1] | high;
-        self.seen = self.seen | all;
-        self.row[0] = self.row[0] | v[1] | v[3] | (v[5] | v[7]);
-        self.row[1] = self.row[1] | pairs[1] | pairs[3];
-        self.row[2] = self.row[2] | high;
-        for bit in 0..3 {
-            if group >> bit & 1 == 1 {
-                self.row[3 + bit] = self.row[3 + bit] | all;
-            }
-        }
-    }
-
-    /// The owner's row as a byte in each lane.
-    #[inline(always)]
-    fn owner(&self) -> Lanes<N> {
-        let mut owner = Lanes::ZERO;
-        for (bit, lanes) in self.row.into_iter().enumerate() {
-            owner = owner | lanes.map(|word| (word & every(1)) << bit);
-        }
-        owner
-    }
-
-    /// Writes what was found into the tables, from byte column j on.
-    #[inline(always)]
-    fn store(&self, tables: &mut Tables, j: usize) {
-        self.seen.store(&mut tables.seen, j);
-        self.tally.store(&mut tables.tally, j);
-        self.odd.store(&mut tables.odd, j);
-        self.owner().store(&mut tables.owner, j);
-    }
-}
-
-/// The n rows of the byte columns from j on.
+/// The bits set in some row of the 16 N byte columns from j on, written into the table.
 ///
 /// # Safety
-/// `cells` is n rows of `width` bytes, and j + 8 N is at most `width`.
+/// `cells` is n rows of `width` bytes, and j + 16 N is at most `width`.
 #[inline(always)]
-unsafe fn block<const N: usize>(cells: &[u8], n: usize, width: usize, j: usize) -> Found<N> {
-    let zero = Lanes::ZERO;
-    let mut found = Found {
-        seen: zero,
-        tally: zero,
-        odd: zero,
-        row: [zero; 6],
-    };
-    // SAFETY: a row below n ends within the cells, and so do the block's bytes of it.
-    let lanes = |row: usize| unsafe { Lanes::load(cells, row * width + j) };
-    for group in 0..n / 8 {
-        let first = 8 * group;
-        let v = [0, 1, 2, 3, 4, 5, 6, 7].map(|r| lanes(first + r));
-        found.eight(v, group);
-    }
-    for row in n / 8 * 8..n {
-        found.one(lanes(row), row);
-    }
-    found
-}
-
-/// The tables of the subject columns. A last block that would go beyond the row begins earlier and repeats some columns.
-#[inline(always)]
-fn subject_columns(cells: &[u8], n: usize, width: usize, tables: &mut Tables) {
-    if width < 16 {
-        return narrow(cells, n, width, tables);
-    }
-    for j in (0..2 * n).step_by(16) {
-        let j = j.min(width - 16);
-        // SAFETY: the cells are n rows of `width` bytes, and the block ends within a row.
-        let found = unsafe { block::<2>(cells, n, width, j) };
-        found.store(tables, j);
-    }
-}
-
-/// The tables of a record whose rows are shorter than a block: each row is copied to a block of zeros.
-fn narrow(cells: &[u8], n: usize, width: usize, tables: &mut Tables) {
-    let mut copy = [0; 16 * 8];
-    for (to, row) in copy.chunks_exact_mut(16).zip(cells.chunks_exact(width)) {
-        to[..width].copy_from_slice(row);
-    }
-    // SAFETY: rows of under 16 bytes are rows of under 8 cells, so that n is below 8 and the copy has n rows of 16 bytes.
-    let found = unsafe { block::<2>(&copy, n, 16, 0) };
-    found.store(tables, 0);
-}
-
-/// The bits set in some row of the byte columns from j on.
-///
-/// # Safety
-/// `cells` is n rows of `width` bytes, and j + 8 N is at most `width`.
-#[inline(always)]
-unsafe fn union<const N: usize>(cells: &[u8], n: usize, width: usize, j: usize) -> Lanes<N> {
-    let mut seen = Lanes::ZERO;
+unsafe fn union<const N: usize>(
+    cells: &[u8],
+    n: usize,
+    width: usize,
+    j: usize,
+    tables: &mut Tables,
+) {
+    let mut seen = [Lanes::zero(); N];
     for row in 0..n {
-        // SAFETY: a row below n ends within the cells, and so do the block's bytes of it.
-        seen = seen | unsafe { Lanes::load(cells, row * width + j) };
+        let at = row * width + j;
+        for (part, lanes) in seen.iter_mut().enumerate() {
+            // SAFETY: a row below n ends within the cells, and so do the block's bytes of it.
+            *lanes |= unsafe { Lanes::load(cells, at + BLOCK * part) };
+        }
     }
-    seen
+    for (part, lanes) in seen.iter().enumerate() {
+        lanes.store(&mut tables.seen, j + BLOCK * part);
+    }
 }
 
 /// The bits seen in the plain columns, which begin at byte column 2 n.
 #[inline(always)]
 fn plain_columns(cells: &[u8], n: usize, width: usize, tables: &mut Tables) {
-    if width < 16 {
+    if width < BLOCK {
         return;
     }
     let mut j = 2 * n;
-    while j + 64 <= width {
+    while j + 8 * BLOCK <= width {
         // SAFETY: the cells are n rows of `width` bytes, and the block ends within a row.
-        let seen: Lanes<8> = unsafe { union(cells, n, width, j) };
-        seen.store(&mut tables.seen, j);
-        j += 64;
+        unsafe { union::<8>(cells, n, width, j, tables) };
+        j += 8 * BLOCK;
     }
     while j < width {
-        let start = j.min(width - 16);
+        let start = j.min(width - BLOCK);
         // SAFETY: as above.
-        let seen: Lanes<2> = unsafe { union(cells, n, width, start) };
-        seen.store(&mut tables.seen, start);
-        j = start + 16;
+        unsafe { union::<1>(cells, n, width, start, tables) };
+        j = start + BLOCK;
     }
 }
 
-/// Whether the row of an absent subject is all zero.
-fn zero_row(row: &[u8]) -> bool {
-    row.iter().fold(0, |any, byte| any | byte) == 0
-}
-
-/// Every subject: U exists with no owner and no other controller; any other exists with one owner and at most one other
-/// controller, or is absent with a column and a row of zeros. A subject that exists controls itself, so of the sums below 3
-/// is one owner and one controller, 2 is one controller, and 5 is one owner and two controllers or, with control odd, three
-/// owners and one controller.
-#[inline(always)]
-fn subjects_fit(cells: &[u8], n: usize, width: usize, tables: &Tables) -> bool {
-    let mut fine = cells[1] & 2 != 0 && tables.tally[1] == 2;
-    for s in 1..n {
-        let low = 2 * s + 1;
-        let start = s * width;
-        if cells[start + low] & 2 != 0 {
-            let tally = tables.tally[low];
-            let two = tally == OTHER_CONTROL && tables.odd[low] & 2 == 0;
-            fine &= two || tally == OWN_CONTROL;
-        } else {
-            fine &= tables.seen[low] | tables.seen[low - 1] == 0;
-            fine &= zero_row(&cells[start..start + width]);
-        }
-    }
-    fine
+/// Whether the rows of absent subjects are all zero.
+fn zero_rows(cells: &[u8], width: usize) -> bool {
+    let rows = cells.chunks_exact(width).enumerate();
+    let mut absent = rows.filter(|(s, row)| row[2 * s + 1] & 2 == 0);
+    absent.all(|(_, row)| row.iter().fold(0, |any, byte| any | byte) == 0)
 }
 
 /// Every plain column: an owner and no control, or all zero.

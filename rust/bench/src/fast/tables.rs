@@ -9,15 +9,13 @@ pub struct Tables {
     pub seen: [u8; 512],
     /// Over subject columns: the number of owners plus twice the number of controllers.
     pub tally: [u8; SUBJECT_BYTES],
-    /// Over subject columns: the bits set in an odd number of rows.
-    pub odd: [u8; SUBJECT_BYTES],
     /// Over subject columns: the owner's row where there is one owner.
     pub owner: [u8; SUBJECT_BYTES],
 }
 
 /// The tally of an existing subject: one owner and itself as controller; and with another controller too.
 pub const OWN_CONTROL: u8 = 3;
-pub const OTHER_CONTROL: u8 = 5;
+const OTHER_CONTROL: u8 = 5;
 
 impl Tables {
     #[inline(always)]
@@ -25,7 +23,6 @@ impl Tables {
         Tables {
             seen: [0; 512],
             tally: [0; SUBJECT_BYTES],
-            odd: [0; SUBJECT_BYTES],
             owner: [0; SUBJECT_BYTES],
         }
     }
