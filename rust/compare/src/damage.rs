@@ -3,7 +3,11 @@
 use crate::matrix::{CONTROL, OWN, clear, existing_subjects, is_set, set, sizes};
 use crate::random::Random;
 
-type Damage = fn(&mut Vec<u8>, &mut Random);
+/// A damage that keeps the length.
+type Damage = fn(&mut [u8], &mut Random);
+
+/// A damage that changes the length.
+type DamageOfLength = fn(&mut Vec<u8>, &mut Random);
 
 /// Damages of the matrix, for a record with a good header and length.
 const OF_MATRIX: [Damage; 13] = [
@@ -22,35 +26,39 @@ const OF_MATRIX: [Damage; 13] = [
     set_last_cell,
 ];
 
-/// Damages of the header and the length.
-const OF_FORM: [Damage; 10] = [
-    cut_below_header,
-    cut,
-    extend,
+/// Damages of the header, and of any byte, for a record of 7 bytes at least.
+const OF_HEADER: [Damage; 6] = [
     change_version,
     leave_range,
     change_sizes,
     keep_cell_count,
     change_count,
-    change_count_and_length,
     change_byte,
 ];
 
-/// Damages a valid record: mostly once, in the matrix or in the form, sometimes several times.
+/// Damages of the length, for a record of 7 bytes at least.
+const OF_LENGTH: [DamageOfLength; 4] = [cut_below_header, cut, extend, change_count_and_length];
+
+/// Damages a valid record: mostly once, in the matrix or elsewhere, sometimes several times.
 pub fn damage(record: &mut Vec<u8>, random: &mut Random) {
     let of_matrix = random.pick(&[1, 1, 1, 0, 2]);
     for _ in 0..of_matrix {
         random.pick(&OF_MATRIX)(record, random);
     }
-    let of_form = if of_matrix == 0 {
+    let elsewhere = if of_matrix == 0 {
         1 + random.below(3)
     } else {
         random.pick(&[0, 0, 0, 1])
     };
-    for _ in 0..of_form {
-        // A damage of the form reads the header, so a record that lost it is left as it is.
-        if record.len() >= 7 {
-            random.pick(&OF_FORM)(record, random);
+    for _ in 0..elsewhere {
+        // A record that was cut below its header is left as it is.
+        if record.len() < 7 {
+            return;
+        }
+        if random.below(10) < 6 {
+            random.pick(&OF_HEADER)(record, random);
+        } else {
+            random.pick(&OF_LENGTH)(record, random);
         }
     }
 }
@@ -64,17 +72,17 @@ fn any_column(record: &[u8], random: &mut Random) -> u64 {
     random.below(n + p)
 }
 
-fn own_universal_subject(record: &mut Vec<u8>, random: &mut Random) {
+fn own_universal_subject(record: &mut [u8], random: &mut Random) {
     let owner = random.pick(&existing_or_zero(record));
     set(record, owner, 0, OWN);
 }
 
-fn control_universal_subject(record: &mut Vec<u8>, random: &mut Random) {
+fn control_universal_subject(record: &mut [u8], random: &mut Random) {
     let controller = random.pick(&existing_or_zero(record));
     set(record, controller, 0, CONTROL);
 }
 
-fn remove_universal_subject(record: &mut Vec<u8>, _: &mut Random) {
+fn remove_universal_subject(record: &mut [u8], _: &mut Random) {
     clear(record, 0, 0, CONTROL);
 }
 
@@ -89,14 +97,14 @@ fn existing_or_zero(record: &[u8]) -> Vec<u64> {
 }
 
 /// A second owner of an existing subject, or of U a first.
-fn add_owner(record: &mut Vec<u8>, random: &mut Random) {
+fn add_owner(record: &mut [u8], random: &mut Random) {
     let existing = existing_or_zero(record);
     let (owner, owned) = (random.pick(&existing), random.pick(&existing));
     set(record, owner, owned, OWN);
 }
 
 /// An existing subject gets another owner in place of its own, which makes a cycle where that one is below it.
-fn move_owner(record: &mut Vec<u8>, random: &mut Random) {
+fn move_owner(record: &mut [u8], random: &mut Random) {
     let existing = existing_or_zero(record);
     let (owner, owned) = (random.pick(&existing), random.pick(&existing));
     if owned != 0 {
@@ -111,19 +119,19 @@ fn remove_owners_of(record: &mut [u8], owned: u64) {
     }
 }
 
-fn remove_owner(record: &mut Vec<u8>, random: &mut Random) {
+fn remove_owner(record: &mut [u8], random: &mut Random) {
     let column = any_column(record, random);
     remove_owners_of(record, column);
 }
 
-fn own_itself(record: &mut Vec<u8>, random: &mut Random) {
+fn own_itself(record: &mut [u8], random: &mut Random) {
     let s = random.pick(&existing_or_zero(record));
     remove_owners_of(record, s);
     set(record, s, s, OWN);
 }
 
 /// Two controllers of a subject, which are too many unless one is the subject itself.
-fn add_controllers(record: &mut Vec<u8>, random: &mut Random) {
+fn add_controllers(record: &mut [u8], random: &mut Random) {
     let existing = existing_or_zero(record);
     let s = random.pick(&existing);
     for _ in 0..2 {
@@ -132,13 +140,13 @@ fn add_controllers(record: &mut Vec<u8>, random: &mut Random) {
 }
 
 /// A subject becomes absent while its owner still owns it.
-fn remove_own_control(record: &mut Vec<u8>, random: &mut Random) {
+fn remove_own_control(record: &mut [u8], random: &mut Random) {
     let s = random.pick(&existing_or_zero(record));
     clear(record, s, s, CONTROL);
 }
 
 /// A right in the row or the column of an absent subject, or in the column of an absent plain object.
-fn fill_absent_names(record: &mut Vec<u8>, random: &mut Random) {
+fn fill_absent_names(record: &mut [u8], random: &mut Random) {
     let (s, column) = (any_subject(record, random), any_column(record, random));
     let code = random.below(16);
     match random.below(3) {
@@ -154,7 +162,7 @@ fn fill_absent_names(record: &mut Vec<u8>, random: &mut Random) {
     }
 }
 
-fn control_plain_object(record: &mut Vec<u8>, random: &mut Random) {
+fn control_plain_object(record: &mut [u8], random: &mut Random) {
     let (n, p) = sizes(record);
     if p > 0 {
         let (row, plain) = (any_subject(record, random), n + random.below(p));
@@ -162,12 +170,12 @@ fn control_plain_object(record: &mut Vec<u8>, random: &mut Random) {
     }
 }
 
-fn flip_bit(record: &mut Vec<u8>, random: &mut Random) {
+fn flip_bit(record: &mut [u8], random: &mut Random) {
     let byte = 7 + random.below(record.len() as u64 - 7) as usize;
     record[byte] ^= 1 << random.below(8);
 }
 
-fn set_last_cell(record: &mut Vec<u8>, random: &mut Random) {
+fn set_last_cell(record: &mut [u8], random: &mut Random) {
     let last = record.len() - 1 - random.below(2) as usize;
     record[last] ^= 1 << random.below(8);
 }
@@ -189,12 +197,12 @@ fn extend(record: &mut Vec<u8>, random: &mut Random) {
     record.extend((0..by).map(|_| random.next() as u8));
 }
 
-fn change_version(record: &mut Vec<u8>, random: &mut Random) {
+fn change_version(record: &mut [u8], random: &mut Random) {
     record[0] = random.pick(&[0, 2, 3, 0x81, 0xFF]);
 }
 
 /// n 0 or over 64, or p over 192.
-fn leave_range(record: &mut Vec<u8>, random: &mut Random) {
+fn leave_range(record: &mut [u8], random: &mut Random) {
     match random.below(2) {
         0 => record[5] = random.pick(&[0, 65, 66, 128, 129, 255]),
         _ => record[6] = random.pick(&[193, 194, 255]),
@@ -202,7 +210,7 @@ fn leave_range(record: &mut Vec<u8>, random: &mut Random) {
 }
 
 /// Other sizes within their ranges, which the length does not fit.
-fn change_sizes(record: &mut Vec<u8>, random: &mut Random) {
+fn change_sizes(record: &mut [u8], random: &mut Random) {
     match random.below(3) {
         0 => record[5] = 1 + random.below(64) as u8,
         1 => record[6] = random.below(193) as u8,
@@ -211,7 +219,7 @@ fn change_sizes(record: &mut Vec<u8>, random: &mut Random) {
 }
 
 /// One row of as many cells as there were, so that the length still fits where the cells are at most 193.
-fn keep_cell_count(record: &mut Vec<u8>, _: &mut Random) {
+fn keep_cell_count(record: &mut [u8], _: &mut Random) {
     let (n, p) = sizes(record);
     let cells = n * (n + p);
     if (1..=193).contains(&cells) {
@@ -220,7 +228,7 @@ fn keep_cell_count(record: &mut Vec<u8>, _: &mut Random) {
     }
 }
 
-fn change_count(record: &mut Vec<u8>, random: &mut Random) {
+fn change_count(record: &mut [u8], random: &mut Random) {
     let count = u32::from_be_bytes([record[1], record[2], record[3], record[4]]);
     let bit = random.below(32);
     let changed = random.pick(&[
@@ -245,7 +253,7 @@ fn change_count_and_length(record: &mut Vec<u8>, random: &mut Random) {
     record[1..5].copy_from_slice(&((length - 5) as u32).to_be_bytes());
 }
 
-fn change_byte(record: &mut Vec<u8>, random: &mut Random) {
+fn change_byte(record: &mut [u8], random: &mut Random) {
     let byte = random.below(record.len() as u64) as usize;
     record[byte] = random.next() as u8;
 }

@@ -1,6 +1,8 @@
 //! Numbers, commands, lists and questions: likely ones, random ones, and ones made to be wrong at a bound.
 
-use reference::{LIST_MAXIMUM, Station, allowed, buffer_minimum, change, decode, write_list};
+use reference::{
+    LIST_MAXIMUM, Name, Station, U, allowed, buffer_minimum, change, decode, write_list,
+};
 
 use crate::facts::Facts;
 use crate::random::Random;
@@ -71,11 +73,15 @@ fn with_unused_zero([code, i, s, o, k]: [u64; 5]) -> [u64; 5] {
     [code, i, s, o, k]
 }
 
-/// A list of commands for a station: mostly accepted ones, sometimes with refused ones between them, as many as asked.
-pub fn commands_in_turn(station: &Station, count: u64, random: &mut Random) -> Vec<[u8; 5]> {
+/// As many commands for a station as asked: accepted ones, and of the refused ones met between them so many in a hundred.
+fn commands_in_turn(
+    station: &Station,
+    count: u64,
+    refused_in_hundred: u64,
+    random: &mut Random,
+) -> Vec<[u8; 5]> {
     let mut station = station.clone();
     let mut commands = Vec::new();
-    let refused_in_hundred = random.pick(&[0, 0, 2, 20]);
     while (commands.len() as u64) < count {
         let facts = Facts::of(&station);
         let mut fields = byte_command(&station, &facts, random);
@@ -104,22 +110,26 @@ pub fn list(station: &Station, random: &mut Random) -> Vec<u8> {
         2 => 1 + random.below(40),
         _ => 1 + random.below(8),
     };
-    let mut list = write_list(&commands_in_turn(station, count, random));
+    let refused_in_hundred = random.pick(&[0, 0, 5, 50]);
+    let commands = commands_in_turn(station, count, refused_in_hundred, random);
+    let mut list = write_list(&commands);
     if random.one_in(4) {
         damage_list(&mut list, random);
     }
     list
 }
 
-/// A list of about the most commands that a list may have: one below, the most, and one beyond.
+/// A list of about the most commands that a list may have: one below, the most, and one beyond. All are accepted, or the
+/// last is refused, or its length byte is wrong, for which the list is refused before the first one runs.
 pub fn longest_list(station: &Station, random: &mut Random) -> Vec<u8> {
     let most = LIST_MAXIMUM as u64 / 6;
-    let count = random.pick(&[most - 1, most, most, most + 1]);
-    let mut list = write_list(&commands_in_turn(station, count, random));
-    if random.one_in(4) {
-        // The length byte of the last command: refused before the first one runs.
-        let last = list.len() - 6;
-        list[last] = 6;
+    let count = random.pick(&[most - 1, most, most, most, most + 1]);
+    let mut list = write_list(&commands_in_turn(station, count, 0, random));
+    let last = list.len() - 6;
+    match random.below(4) {
+        0 => list[last] = 6,
+        1 => list[last + 1] = 14,
+        _ => (),
     }
     list
 }
@@ -153,13 +163,13 @@ fn damage_list(list: &mut Vec<u8>, random: &mut Random) {
     }
 }
 
-/// s, o and a right: mostly within their bounds.
-pub fn held_question(n: u64, p: u64, random: &mut Random) -> [u64; 3] {
-    let mut numbers = [
-        random.below(n.max(1)),
-        random.below((n + p).max(1)),
-        random.below(16),
-    ];
+/// s, o and a right: of a bit that is set, or any within their bounds; sometimes with one of them made extreme.
+pub fn held_question(station: &Station, random: &mut Random) -> [u64; 3] {
+    let (n, p) = (station.n, station.p);
+    let mut numbers = [random.below(n), random.below(n + p), random.below(16)];
+    if random.one_in(3) {
+        numbers = set_bit(station, random);
+    }
     if random.one_in(5) {
         let at = random.below(3) as usize;
         numbers[at] = extreme(numbers[at], n, p, random);
@@ -167,14 +177,26 @@ pub fn held_question(n: u64, p: u64, random: &mut Random) -> [u64; 3] {
     numbers
 }
 
+/// The row, the column and the code of a bit that is set, or of the one below it, so that a plain basic right is also
+/// asked where the starred bit alone is set.
+fn set_bit(station: &Station, random: &mut Random) -> [u64; 3] {
+    let cells = station.state.cells().count() as u64;
+    let at = random.below(cells) as usize;
+    let (name, row, cell) = station.state.cells().nth(at).expect("U controls itself");
+    let (Name::Subject(column) | Name::Plain(column)) = name;
+    let codes: Vec<u64> = (0..16).filter(|code| cell.0 >> code & 1 == 1).collect();
+    let code = random.pick(&codes);
+    [row, column, code.saturating_sub(random.below(2))]
+}
+
 /// A trust mask: none, all, all but one, U alone, or any subjects trusted; sometimes with bits from n on.
 fn trust(n: u64, random: &mut Random) -> u64 {
-    let all = u64::MAX >> (64 - n.clamp(1, 64));
+    let all = u64::MAX >> (64 - n);
     let within = match random.below(6) {
         0 => 0,
         1 => all,
         2 => all & !1,
-        3 => all & !(1 << random.below(n.clamp(1, 64))),
+        3 => all & !(1 << random.below(n)),
         4 => random.next() & all,
         _ => (random.next() | random.next()) & all,
     };
@@ -186,9 +208,32 @@ fn trust(n: u64, random: &mut Random) -> u64 {
 }
 
 /// The trust mask, s, o and a right.
-pub fn safety_question(n: u64, p: u64, random: &mut Random) -> [u64; 4] {
-    let [s, o, right] = held_question(n, p, random);
-    [trust(n, random), s, o, right]
+pub fn safety_question(station: &Station, random: &mut Random) -> [u64; 4] {
+    if random.one_in(6) {
+        return deep_question(station, random);
+    }
+    let [s, o, right] = held_question(station, random);
+    [trust(station.n, random), s, o, right]
+}
+
+/// A question whose leak takes many commands: o is deep below U, and all or nearly all others are trusted.
+fn deep_question(station: &Station, random: &mut Random) -> [u64; 4] {
+    let links = |s: &u64| station.state.walk(*s, Name::Subject(U)).links;
+    let subjects = (0..station.n).filter(|s| station.state.exists(Name::Subject(*s)));
+    let deepest = subjects.max_by_key(links).expect("U exists");
+    let owned = station.state.owned_by(deepest);
+    let o = match owned.first() {
+        Some(Name::Plain(column)) if random.one_in(2) => *column,
+        _ => deepest,
+    };
+    let all = u64::MAX >> (64 - station.n);
+    let untrusted = 1 | 1 << (random.below(station.n) * random.below(2));
+    [
+        all & !untrusted,
+        random.below(station.n),
+        o,
+        random.below(4),
+    ]
 }
 
 /// A length of the output buffer: the least, one less, one more, or another.

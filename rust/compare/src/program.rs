@@ -4,7 +4,7 @@ use std::fmt;
 use std::io::Write;
 use std::process::{Command, Stdio};
 
-use reference::{Safety, buffer_minimum, leaks_by, write_list};
+use reference::{Safety, buffer_minimum, leaks_by, read, write_list};
 
 use crate::check::hex;
 use crate::damage::damage;
@@ -146,10 +146,11 @@ fn generated(random: &mut Random) -> Vec<u8> {
         _ => (1 + random.below(5), random.below(5)),
     };
     let mut input = valid_record(n, p, random);
+    let station = read(&input).expect("the record was built to be valid");
+    let [trust, s, o, right] = inputs::safety_question(&station, random);
     if random.one_in(3) {
         damage(&mut input, random);
     }
-    let [trust, s, o, right] = inputs::safety_question(n, p, random);
     input.extend(trust.to_be_bytes());
     input.extend([s as u8, o as u8, right as u8]);
     if random.one_in(20) {

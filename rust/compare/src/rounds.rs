@@ -14,7 +14,7 @@ use crate::small::{self, Searches, not_valid};
 
 /// How many rounds there are to one with the longest lists, and to one with all questions of a small station.
 const ROUNDS_TO_LONGEST_LIST: u64 = 500;
-const ROUNDS_TO_SMALL_STATION: u64 = 200;
+const ROUNDS_TO_SMALL_STATION: u64 = 250;
 
 /// The size of a round's record: in 64 times 193 rounds every size occurs.
 fn size_of_round(round: u64) -> (u64, u64) {
@@ -58,17 +58,16 @@ fn station_of(record: &[u8]) -> Result<Station, Difference> {
 /// One input of each call on a valid record.
 fn ask_of_valid(record: &[u8], random: &mut Random, counts: &mut Counts) -> Result<(), Difference> {
     let station = station_of(record)?;
-    let (n, p) = (station.n, station.p);
-    counts.add_size(n, p);
+    counts.add_size(station.n, station.p);
     check::valid(record, false, counts)?;
-    let question = inputs::held_question(n, p, random);
+    let question = inputs::held_question(&station, random);
     check::held(record, question, false, counts)?;
     let fields = inputs::command(&station, &Facts::of(&station), random);
     check::command(record, fields, false, counts)?;
     let list = inputs::list(&station, random);
     check::run(record, &list, random.one_in(2), counts)?;
-    let question = inputs::safety_question(n, p, random);
-    let length = inputs::buffer_length(n, random);
+    let question = inputs::safety_question(&station, random);
+    let length = inputs::buffer_length(station.n, random);
     check::safety(record, question, length, random.one_in(2), counts)
 }
 
@@ -80,14 +79,13 @@ fn ask_of_damaged(
     counts: &mut Counts,
 ) -> Result<(), Difference> {
     let station = station_of(&record)?;
-    let (n, p) = (station.n, station.p);
     damage(&mut record, random);
     let null = random.one_in(2);
     check::valid(&record, null, counts)?;
     for _ in 0..2 {
         match random.below(4) {
             0 => {
-                let question = inputs::held_question(n, p, random);
+                let question = inputs::held_question(&station, random);
                 check::held(&record, question, null, counts)?;
             }
             1 => {
@@ -99,8 +97,8 @@ fn ask_of_damaged(
                 check::run(&record, &list, null, counts)?;
             }
             _ => {
-                let question = inputs::safety_question(n, p, random);
-                let length = inputs::buffer_length(n, random);
+                let question = inputs::safety_question(&station, random);
+                let length = inputs::buffer_length(station.n, random);
                 check::safety(&record, question, length, null, counts)?;
             }
         }

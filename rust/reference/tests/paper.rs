@@ -199,12 +199,15 @@ fn deleting_r_leaves_the_star() {
     assert_eq!(record, a());
 }
 
+/// A record, the trust mask, s, o and right of a question on it, and the commands by which it leaks.
+type Leaking = (Vec<u8>, [u64; 4], &'static [[u8; 5]]);
+
 #[test]
 fn worked_safety_questions() {
     assert_eq!(asked(&a(), 7, 1, 3, 2), Safety::Safe);
     assert_eq!(asked(&a(), 1, 1, 1, 0), Safety::Safe);
     assert_eq!(asked(&b(), 1, 1, 2, 3), Safety::Safe);
-    let leaking: [(Vec<u8>, [u64; 4], &[[u8; 5]]); 5] = [
+    let leaking: [Leaking; 5] = [
         (a(), [5, 1, 3, 2], &[[13, 1, 2, 0, 0], [4, 1, 1, 3, 0]]),
         (a(), [7, 2, 3, 0], &[]),
         (a(), [6, 0, 2, 0], &[[13, 0, 1, 0, 0]]),
