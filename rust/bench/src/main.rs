@@ -2,8 +2,9 @@
 //!
 //!     cargo run --release -p bench
 //!
-//! It first compares both sides on seeded inputs and stops at a difference. Rounds of the two sides are measured in turn; a
-//! time is that of the shortest round, and the last column has the ratio of the median rounds.
+//! It first compares both sides on seeded inputs and stops at a difference. Rounds of the two sides, over all sizes of a call
+//! or all calls on a shape, are measured in turn; a time is that of the shortest round, and the last column has the ratio of
+//! the median rounds. The caches hold the record, and no buffer is cleared between calls.
 
 mod cases;
 mod compare;
@@ -21,31 +22,22 @@ use stations::Shape;
 
 /// The five calls at each size, on flat records.
 fn calls() {
+    let flat = Shape::Flat;
     heading("Calls by size (flat records; code 3 on a chain), nanoseconds a call");
-    by_size("valid", |size| cases::valid(Shape::Flat, size));
-    by_size("held", |size| cases::held(Shape::Flat, size));
-    by_size("command 4", |size| cases::grant(Shape::Flat, size));
-    by_size("command 3", cases::transfer_own);
-    by_size("run, 10 grants", |size| {
-        cases::run_of_grants(Shape::Flat, size, 10)
-    });
-    by_size("safety, safe", |size| cases::all_trusted(Shape::Flat, size));
-    by_size("safety, leaks", |size| {
-        cases::root_untrusted(Shape::Flat, size)
-    });
+    by_size("valid", 1, |size| cases::valid(flat, size));
+    by_size("held", 1, |size| cases::held(flat, size));
+    by_size("command 4", 1, |size| cases::grant(flat, size));
+    by_size("command 3", 1, cases::transfer_own);
+    by_size("run, 10 grants", 1, |size| cases::run_of_grants(size, 10));
+    by_size("safety, safe", 1, |size| cases::all_trusted(flat, size));
+    by_size("safety, leaks", 1, |size| cases::root_untrusted(flat, size));
 }
 
 /// Long lists at each size.
 fn lists() {
-    heading(
-        "Runs of 10,000 commands, nanoseconds a command (the record is copied afresh for each run)",
-    );
-    by_size("grants", |size| {
-        cases::run_of_grants(Shape::Flat, size, LONG).each(LONG)
-    });
-    by_size("13 codes", |size| {
-        cases::run_of_all_codes(size, LONG).each(LONG)
-    });
+    heading("Runs of 10,000 commands, nanoseconds a command (13 codes: on a new copy each time)");
+    by_size("grants", LONG, |size| cases::run_of_grants(size, LONG));
+    by_size("13 codes", LONG, |size| cases::run_of_all_codes(size, LONG));
 }
 
 fn main() {

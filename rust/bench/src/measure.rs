@@ -1,88 +1,121 @@
-//! Times of two functions, measured in turn so that what else the machine does reaches both alike.
+//! Times of several calls on two sides, measured in turn so that what else the machine does reaches all of them alike.
 
 use std::time::{Duration, Instant};
 
-/// Rounds of each side.
+/// Rounds of each side of each case.
 const ROUNDS: usize = 301;
 
 /// How long a round should take: short, so that many rounds are not interrupted.
 const ROUND: Duration = Duration::from_micros(40);
 
-/// Nanoseconds a call of both sides: the shortest round's and the median round's.
+/// A function that makes so many calls and says how long they took.
+type Side = Box<dyn FnMut(u32) -> Duration>;
+
+/// One call on both sides.
+pub struct Case {
+    library: Side,
+    rust: Side,
+}
+
+/// The time that so many calls take.
+fn timed(mut call: impl FnMut() + 'static) -> Side {
+    Box::new(move |calls| {
+        let start = Instant::now();
+        for _ in 0..calls {
+            call();
+        }
+        start.elapsed()
+    })
+}
+
+impl Case {
+    pub fn new(library: impl FnMut() + 'static, rust: impl FnMut() + 'static) -> Case {
+        Case {
+            library: timed(library),
+            rust: timed(rust),
+        }
+    }
+}
+
+/// Nanoseconds a call: the shortest round's and the median round's.
+#[derive(Clone, Copy)]
+pub struct Time {
+    pub shortest: f64,
+    pub median: f64,
+}
+
+/// The times of a case.
 #[derive(Clone, Copy)]
 pub struct Times {
-    pub library: f64,
-    pub rust: f64,
-    pub library_median: f64,
-    pub rust_median: f64,
+    pub library: Time,
+    pub rust: Time,
 }
 
 impl Times {
     /// How many times as long the library takes, by the shortest rounds.
     pub fn ratio(&self) -> f64 {
-        self.library / self.rust
+        self.library.shortest / self.rust.shortest
     }
 
     /// The same by the median rounds.
     pub fn median_ratio(&self) -> f64 {
-        self.library_median / self.rust_median
+        self.library.median / self.rust.median
+    }
+}
+
+/// A side with the number of calls that fills a round, and the rounds measured so far.
+struct Track {
+    side: Side,
+    calls: u32,
+    rounds: Vec<Duration>,
+}
+
+impl Track {
+    fn new(mut side: Side) -> Track {
+        let mut calls = 1;
+        while side(calls) < ROUND / 2 && calls < 1 << 20 {
+            calls *= 2;
+        }
+        Track {
+            side,
+            calls,
+            rounds: Vec::new(),
+        }
     }
 
-    /// The times of one command where a call runs so many.
-    pub fn each(self, count: usize) -> Times {
-        let part = 1.0 / count as f64;
-        Times {
-            library: self.library * part,
-            rust: self.rust * part,
-            library_median: self.library_median * part,
-            rust_median: self.rust_median * part,
+    fn round(&mut self) {
+        self.rounds.push((self.side)(self.calls));
+    }
+
+    /// The shortest and the median round, of which each call does so many parts.
+    fn time(mut self, parts: usize) -> Time {
+        self.rounds.sort();
+        let share = f64::from(self.calls) * parts as f64;
+        let nanoseconds = |round: Duration| round.as_nanos() as f64 / share;
+        Time {
+            shortest: nanoseconds(self.rounds[0]),
+            median: nanoseconds(self.rounds[ROUNDS / 2]),
         }
     }
 }
 
-/// How long so many calls take.
-fn round(calls: u32, call: &mut impl FnMut()) -> Duration {
-    let start = Instant::now();
-    for _ in 0..calls {
-        call();
-    }
-    start.elapsed()
-}
-
-/// The number of calls that fills a round.
-fn calls_for_round(call: &mut impl FnMut()) -> u32 {
-    let mut calls = 1;
-    while round(calls, call) < ROUND / 2 && calls < 1 << 20 {
-        calls *= 2;
-    }
-    calls
-}
-
-/// The shortest and the median of some rounds, in nanoseconds a call.
-fn shortest_and_median(mut rounds: Vec<Duration>, calls: u32) -> (f64, f64) {
-    rounds.sort();
-    let nanoseconds = |round: Duration| round.as_nanos() as f64 / f64::from(calls);
-    (
-        nanoseconds(rounds[0]),
-        nanoseconds(rounds[rounds.len() / 2]),
-    )
-}
-
-/// Rounds of the library and of the Rust in turn.
-pub fn side_by_side(mut library: impl FnMut(), mut rust: impl FnMut()) -> Times {
-    let library_calls = calls_for_round(&mut library);
-    let rust_calls = calls_for_round(&mut rust);
-    let (mut first, mut second) = (Vec::new(), Vec::new());
+/// The times of one part of each case, where a call does so many. Every round goes through all cases, the library first.
+pub fn in_turn(cases: Vec<Case>, parts: usize) -> Vec<Times> {
+    let mut tracks: Vec<(Track, Track)> = cases
+        .into_iter()
+        .map(|case| (Track::new(case.library), Track::new(case.rust)))
+        .collect();
     for _ in 0..ROUNDS {
-        first.push(round(library_calls, &mut library));
-        second.push(round(rust_calls, &mut rust));
+        for (library, rust) in &mut tracks {
+            library.round();
+            rust.round();
+        }
     }
-    let (library, library_median) = shortest_and_median(first, library_calls);
-    let (rust, rust_median) = shortest_and_median(second, rust_calls);
-    Times {
-        library,
-        rust,
-        library_median,
-        rust_median,
-    }
+    tracks
+        .into_iter()
+        .map(|(library, rust)| Times {
+            library: library.time(parts),
+            rust: rust.time(parts),
+        })
+        .collect()
 }

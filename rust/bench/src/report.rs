@@ -1,14 +1,14 @@
 //! The tables that are printed.
 
 use crate::cases::{self, SIZES, Size};
-use crate::measure::Times;
+use crate::measure::{Case, Times, in_turn};
 use crate::stations::Shape;
 
 /// The heading of a table over sizes.
 pub fn heading(title: &str) {
     println!("\n{title}");
     println!(
-        "{:<16}{:>10}{:>12}{:>10}{:>8}{:>16}{:>13}{:>14}",
+        "{:<16}{:>9}{:>10}{:>9}{:>7}{:>15}{:>12}{:>14}",
         "call", "n, p", "library", "Rust", "ratio", "library grows", "Rust grows", "median ratio"
     );
 }
@@ -21,49 +21,37 @@ fn growth(now: f64, before: Option<f64>) -> String {
     }
 }
 
-/// One line for each size.
-pub fn by_size(call: &str, measure: impl Fn(Size) -> Times) {
+/// One line for each size, of a call that does so many parts.
+pub fn by_size(call: &str, parts: usize, case: impl Fn(Size) -> Case) {
+    let all = in_turn(SIZES.map(case).into(), parts);
     let mut before: Option<Times> = None;
-    for size in SIZES {
-        let times = measure(size);
+    for (size, times) in SIZES.iter().zip(all) {
         println!(
-            "{:<16}{:>10}{:>12.1}{:>10.1}{:>8.2}{:>16}{:>13}{:>14.2}",
+            "{:<16}{:>9}{:>10.1}{:>9.1}{:>7.2}{:>15}{:>12}{:>14.2}",
             call,
             format!("{}, {}", size.n, size.p),
-            times.library,
-            times.rust,
+            times.library.shortest,
+            times.rust.shortest,
             times.ratio(),
-            growth(times.library, before.map(|times| times.library)),
-            growth(times.rust, before.map(|times| times.rust)),
+            growth(
+                times.library.shortest,
+                before.map(|times| times.library.shortest)
+            ),
+            growth(times.rust.shortest, before.map(|times| times.rust.shortest)),
             times.median_ratio()
         );
         before = Some(times);
     }
 }
 
-/// A line of a question on one shape, with the time over that of validity.
-fn question_line(shape: Shape, question: &str, times: Times, validity: Times) {
-    println!(
-        "{:<22}{:<18}{:>10.1}{:>10.1}{:>8.2}{:>18.2}{:>15.2}{:>14.2}",
-        shape.name(),
-        question,
-        times.library,
-        times.rust,
-        times.ratio(),
-        times.library / validity.library,
-        times.rust / validity.rust,
-        times.median_ratio()
-    );
-}
-
-/// Validity and the safety question on each shape of one size.
+/// Validity and the safety question on each shape of one size, with each time over that of validity.
 pub fn by_shape(size: Size) {
     println!(
         "\nQuestions by shape at {}, {}, nanoseconds a call",
         size.n, size.p
     );
     println!(
-        "{:<22}{:<18}{:>10}{:>10}{:>8}{:>18}{:>15}{:>14}",
+        "{:<22}{:<13}{:>9}{:>9}{:>7}{:>17}{:>14}{:>14}",
         "shape",
         "call",
         "library",
@@ -74,11 +62,24 @@ pub fn by_shape(size: Size) {
         "median ratio"
     );
     for shape in Shape::ALL {
-        let validity = cases::valid(shape, size);
-        question_line(shape, "valid", validity, validity);
-        let safe = cases::all_trusted(shape, size);
-        question_line(shape, "all trusted", safe, validity);
-        let leaks = cases::root_untrusted(shape, size);
-        question_line(shape, "U untrusted", leaks, validity);
+        let all = vec![
+            cases::valid(shape, size),
+            cases::all_trusted(shape, size),
+            cases::root_untrusted(shape, size),
+        ];
+        let times = in_turn(all, 1);
+        for (call, line) in ["valid", "all trusted", "U untrusted"].iter().zip(&times) {
+            println!(
+                "{:<22}{:<13}{:>9.1}{:>9.1}{:>7.2}{:>17.2}{:>14.2}{:>14.2}",
+                shape.name(),
+                call,
+                line.library.shortest,
+                line.rust.shortest,
+                line.ratio(),
+                line.library.shortest / times[0].library.shortest,
+                line.rust.shortest / times[0].rust.shortest,
+                line.median_ratio()
+            );
+        }
     }
 }

@@ -14,7 +14,7 @@ pub enum Shape {
     Chain,
     /// U owns the last subject, and each subject the one before it, so that owners have the higher numbers.
     ChainDown,
-    /// A chain, and every subject owns the first log.
+    /// A chain, and every subject owns the log that is asked about.
     OwnersInChain,
 }
 
@@ -44,7 +44,15 @@ impl Shape {
         }
     }
 
-    /// The record of n subject names and p plain names. Each log is owned by one of the subjects in turn, which has a basic
+    /// The log that is asked about: one whose owner has the most owners above it.
+    pub fn asked_log(self, n: usize) -> usize {
+        match self {
+            Shape::ChainDown => n + 1,
+            _ => n + n - 1,
+        }
+    }
+
+    /// The record of n subject names and p plain names, p at least n. Each log is owned by one of the subjects in turn, which has a basic
     /// right with the star over it; the subject after it has a plain one.
     pub fn record(self, n: usize, p: usize) -> Vec<u8> {
         let mut record = blank(n, p);
@@ -60,7 +68,7 @@ impl Shape {
         }
         if let Shape::OwnersInChain = self {
             for s in 0..n {
-                add(&mut record, s, n, OWN);
+                add(&mut record, s, self.asked_log(n), OWN);
             }
         }
         record

@@ -31,7 +31,7 @@ fn cell(record: &[u8], s: usize, o: usize) -> u16 {
 
 /// The bits by which a right is held: its own, and for a plain basic right the starred one.
 fn held_mask(right: u64) -> u16 {
-    let plain_basic = u16::from(right >= 2 && right % 2 == 0);
+    let plain_basic = u16::from(right >= 2 && right.is_multiple_of(2));
     (1 | plain_basic << 1) << right
 }
 
@@ -69,7 +69,7 @@ pub fn command(record: &mut [u8], fields: [u64; 5]) -> (u64, u64) {
 fn list_count(list: &[u8]) -> Option<usize> {
     let (head, body) = list.split_at_checked(5)?;
     let length = u32::from_be_bytes([head[1], head[2], head[3], head[4]]) as usize;
-    if head[0] != 1 || length != body.len() || length > 60_000 || length % 6 != 0 {
+    if head[0] != 1 || length != body.len() || length > 60_000 || !length.is_multiple_of(6) {
         return None;
     }
     let wrong = body.chunks_exact(6).fold(0, |any, c| any | (c[0] ^ 5));

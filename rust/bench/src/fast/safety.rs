@@ -69,7 +69,15 @@ impl Question<'_> {
             return None;
         }
         let star = 1 << (self.right | 1);
-        (0..self.n).find(|&v| !self.trusted(v) && cell(self.record, v, self.o) & star != 0)
+        let mut untrusted = !self.trust & !0 >> (64 - self.n);
+        while untrusted != 0 {
+            let v = untrusted.trailing_zeros() as usize;
+            if cell(self.record, v, self.o) & star != 0 {
+                return Some(v);
+            }
+            untrusted &= untrusted - 1;
+        }
+        None
     }
 
     /// The way from the owner w of o up to the first untrusted subject, which it gives. The trusted subjects on it are written
@@ -97,11 +105,14 @@ impl Question<'_> {
             }
             return self.climb(self.tables.owner(self.o), &mut passed, path);
         }
-        let owners = (0..self.n).filter(|&w| cell(self.record, w, self.o) & 1 != 0);
-        for w in owners {
-            let found = self.climb(w, &mut passed, path);
-            if found.is_some() {
-                return found;
+        let stride = 2 * (self.n + self.record[6] as usize);
+        let low_bytes = self.record[8 + 2 * self.o..].iter().step_by(stride);
+        for (w, low) in low_bytes.enumerate() {
+            if low & 1 != 0 {
+                let found = self.climb(w, &mut passed, path);
+                if found.is_some() {
+                    return found;
+                }
             }
         }
         None
@@ -126,7 +137,7 @@ impl Question<'_> {
         }
         let mut path = [0; 64];
         match self.way_up(&mut path) {
-            Some((v, count)) => 1 + list.from_above(self, v, &path[..count]),
+            Some((v, count)) => 1 + list.by_owner(self, v, &path[..count]),
             None => 0,
         }
     }

@@ -59,7 +59,7 @@ impl<'a> Witness<'a> {
     }
 
     /// v destroys the subjects between it and o, the highest first, so that it owns o, and gives the right over it.
-    pub fn from_above(mut self, q: &Question, v: usize, path: &[u8]) -> u64 {
+    pub fn by_owner(mut self, q: &Question, v: usize, path: &[u8]) -> u64 {
         for &w in path.iter().rev() {
             self.put(13, v, w as usize, 0, 0);
         }
