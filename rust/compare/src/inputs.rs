@@ -7,39 +7,29 @@ use reference::{
 use crate::facts::Facts;
 use crate::random::Random;
 
-/// A number near a bound of the station or of a width of bits; several equal the legal one modulo such a width.
-fn extreme(legal: u64, n: u64, p: u64, random: &mut Random) -> u64 {
-    let columns = n + p;
-    let near = random.pick(&[
-        n,
-        columns,
-        6,
-        13,
-        15,
-        64,
-        192,
-        255,
-        65_535,
-        u64::from(u32::MAX),
-    ]);
-    let widths = random.pick(&[8, 16, 31, 32, 33, 48, 62, 63]);
+/// A number near the field's bound (the first number over it), near another bound, or near a width of bits; several equal
+/// the legal one modulo such a width.
+fn extreme(legal: u64, bound: u64, random: &mut Random) -> u64 {
+    let other = random.pick(&[7, 14, 16, 64, 192, 256, 65_536, 1 << 32]);
+    let width = random.pick(&[8, 16, 31, 32, 33, 48, 62, 63]);
     match random.below(6) {
-        0 | 1 => random.pick(&[near.wrapping_sub(1), near, near + 1]),
-        2 => legal.wrapping_add(1 << widths),
+        0 => bound,
+        1 => random.pick(&[bound - 1, bound + 1, other - 1, other]),
+        2 => legal.wrapping_add(1 << width),
         3 => random.pick(&[u64::MAX, u64::MAX - legal, legal.wrapping_neg(), 1 << 63]),
-        4 => legal.wrapping_add(random.pick(&[1, u64::MAX, n, columns])),
+        4 => legal.wrapping_add(random.pick(&[1, u64::MAX, bound, bound.wrapping_neg()])),
         _ => random.next() >> random.below(64),
     }
 }
 
 /// A command as five numbers: likely to be accepted, random within the bounds, or with some numbers made extreme.
 pub fn command(station: &Station, facts: &Facts, random: &mut Random) -> [u64; 5] {
-    let (n, p) = (station.n, station.p);
+    let bounds = [14, station.n, station.n, station.n + station.p, 7];
     let mut fields = byte_command(station, facts, random);
     if random.one_in(5) {
         for _ in 0..1 + random.below(2) {
             let field = random.below(5) as usize;
-            fields[field] = extreme(fields[field], n, p, random);
+            fields[field] = extreme(fields[field], bounds[field], random);
         }
     }
     fields
@@ -123,7 +113,7 @@ pub fn list(station: &Station, random: &mut Random) -> Vec<u8> {
 /// last is refused, or its length byte is wrong, for which the list is refused before the first one runs.
 pub fn longest_list(station: &Station, random: &mut Random) -> Vec<u8> {
     let most = LIST_MAXIMUM as u64 / 6;
-    let count = random.pick(&[most - 1, most, most, most, most + 1]);
+    let count = random.pick(&[most - 1, most, most, most + 1]);
     let mut list = write_list(&commands_in_turn(station, count, 0, random));
     let last = list.len() - 6;
     match random.below(4) {
@@ -165,14 +155,14 @@ fn damage_list(list: &mut Vec<u8>, random: &mut Random) {
 
 /// s, o and a right: of a bit that is set, or any within their bounds; sometimes with one of them made extreme.
 pub fn held_question(station: &Station, random: &mut Random) -> [u64; 3] {
-    let (n, p) = (station.n, station.p);
-    let mut numbers = [random.below(n), random.below(n + p), random.below(16)];
+    let bounds = [station.n, station.n + station.p, 16];
+    let mut numbers = bounds.map(|bound| random.below(bound));
     if random.one_in(3) {
         numbers = set_bit(station, random);
     }
     if random.one_in(5) {
         let at = random.below(3) as usize;
-        numbers[at] = extreme(numbers[at], n, p, random);
+        numbers[at] = extreme(numbers[at], bounds[at], random);
     }
     numbers
 }
