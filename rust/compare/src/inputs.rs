@@ -7,8 +7,8 @@ use reference::{
 use crate::facts::Facts;
 use crate::random::Random;
 
-/// A number near the field's bound (the first number over it), near another bound, or near a width of bits; several equal
-/// the legal one modulo such a width.
+/// A number near the field's bound (the first number over it), near another bound, or near a width of bits; several
+/// equal the legal one modulo such a width.
 fn extreme(legal: u64, bound: u64, random: &mut Random) -> u64 {
     let other = random.pick(&[7, 14, 16, 64, 192, 256, 65_536, 1 << 32]);
     let width = random.pick(&[8, 16, 31, 32, 33, 48, 62, 63]);
@@ -63,7 +63,8 @@ fn with_unused_zero([code, i, s, o, k]: [u64; 5]) -> [u64; 5] {
     [code, i, s, o, k]
 }
 
-/// As many commands for a station as asked: accepted ones, and of the refused ones met between them so many in a hundred.
+/// As many commands for a station as asked: accepted ones, and of the refused ones met between them so many in a
+/// hundred.
 fn commands_in_turn(
     station: &Station,
     count: u64,
@@ -109,8 +110,8 @@ pub fn list(station: &Station, random: &mut Random) -> Vec<u8> {
     list
 }
 
-/// A list of about the most commands that a list may have: one below, the most, and one beyond. All are accepted, or the
-/// last is refused, or its length byte is wrong, for which the list is refused before the first one runs.
+/// A list of about the most commands that a list may have: one below, the most, and one beyond. All are accepted, or
+/// the last is refused, or its length byte is wrong, for which the list is refused before the first one runs.
 pub fn longest_list(station: &Station, random: &mut Random) -> Vec<u8> {
     let most = LIST_MAXIMUM as u64 / 6;
     let count = random.pick(&[most - 1, most, most, most + 1]);
