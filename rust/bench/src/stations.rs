@@ -151,13 +151,25 @@ fn existing_subjects(numbers: &mut Numbers, record: &mut [u8], n: usize) -> Vec<
     subjects
 }
 
-/// Changes a bit of a cell, a byte of the head or the length.
+/// Moves own of a subject to another, which may be below it, so that owners may form a cycle.
+fn move_own(numbers: &mut Numbers, record: &mut [u8]) {
+    let n = record[5] as usize;
+    let s = numbers.below(n);
+    if let Some(owner) = lowest_owner(record, s) {
+        let at = place(record, owner, s);
+        record[at + 1] &= !OWN as u8;
+        add(record, numbers.below(n), s, OWN);
+    }
+}
+
+/// Changes a valid record: a bit of a cell, an owner, a byte of the head or the length.
 pub fn damage(numbers: &mut Numbers, record: &mut Vec<u8>) {
     let length = record.len();
     match numbers.below(8) {
         0 => record[numbers.below(7)] = numbers.bits() as u8,
         1 => record.truncate(numbers.below(length)),
         2 => record.push(0),
+        3..6 => move_own(numbers, record),
         _ => record[7 + numbers.below(length - 7)] ^= 1 << numbers.below(8),
     }
 }
