@@ -52,8 +52,8 @@ impl Shape {
         }
     }
 
-    /// The record of n subject names and p plain names, p at least n. Each log is owned by one of the subjects in turn, which has a basic
-    /// right with the star over it; the subject after it has a plain one.
+    /// The record of n subject names and p plain names, p at least n. Each log is owned by one of the subjects in turn, which
+    /// has a basic right with the star over it; the subject after it has a plain one.
     pub fn record(self, n: usize, p: usize) -> Vec<u8> {
         let mut record = blank(n, p);
         for s in 0..n {
