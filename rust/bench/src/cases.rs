@@ -1,0 +1,157 @@
+//! What is measured: each call on a record of some shape and size, on both sides.
+
+use std::hint::black_box;
+
+use crate::lists::{accepted_commands, encode};
+use crate::measure::Case;
+use crate::numbers::Numbers;
+use crate::stations::Shape;
+use crate::{fast, library};
+
+/// The size of a record.
+#[derive(Clone, Copy)]
+pub struct Size {
+    pub n: usize,
+    pub p: usize,
+}
+
+impl Size {
+    /// All n subjects as a trust mask.
+    fn all(self) -> u64 {
+        !0 >> (64 - self.n)
+    }
+}
+
+/// The sizes, small to large.
+pub const SIZES: [Size; 4] = [
+    Size { n: 4, p: 4 },
+    Size { n: 16, p: 48 },
+    Size { n: 40, p: 120 },
+    Size { n: 64, p: 192 },
+];
+
+/// Commands in a long list.
+pub const LONG: usize = 10_000;
+
+/// A call that only reads the record. Both sides read the same bytes and have to give the same answer as expected.
+fn reading<T: PartialEq + Copy + 'static>(
+    record: Vec<u8>,
+    expected: T,
+    library: impl Fn(&[u8]) -> T + 'static,
+    rust: impl Fn(&[u8]) -> T + 'static,
+) -> Case {
+    let shared = std::rc::Rc::new(record);
+    let same = shared.clone();
+    Case::new(
+        move || assert!(library(black_box(&shared)) == expected),
+        move || assert!(rust(black_box(&same)) == expected),
+    )
+}
+
+pub fn valid(shape: Shape, size: Size) -> Case {
+    let record = shape.record(size.n, size.p);
+    reading(record, true, library::valid, fast::valid)
+}
+
+/// Whether U holds the plain right 0 over the last log: it doesn't.
+pub fn held(shape: Shape, size: Size) -> Case {
+    let record = shape.record(size.n, size.p);
+    let o = (size.n + size.p - 1) as u64;
+    reading(
+        record,
+        (0, 0),
+        move |record| library::held(record, 0, o, 2),
+        move |record| fast::held(record, 0, o, 2),
+    )
+}
+
+/// A command that is accepted and, once done, leaves the record as it is, so that every call does the same.
+fn command(shape: Shape, size: Size, fields: [u64; 5]) -> Case {
+    let mut first = shape.record(size.n, size.p);
+    let mut second = first.clone();
+    Case::new(
+        move || assert!(library::command(black_box(&mut first), black_box(fields)).0 == 0),
+        move || assert!(fast::command(black_box(&mut second), black_box(fields)).0 == 0),
+    )
+}
+
+/// The owner of the last log grants subject 1 a right over it.
+pub fn grant(shape: Shape, size: Size) -> Case {
+    let o = size.n + size.p - 1;
+    command(shape, size, [4, (o % size.n) as u64, 1, o as u64, 3])
+}
+
+/// Own of the last subject from its owner to its owner, over a chain: the walk follows n - 2 links.
+pub fn transfer_own(size: Size) -> Case {
+    let last = size.n as u64 - 1;
+    command(Shape::Chain, size, [3, last - 1, last - 1, last, 0])
+}
+
+/// A list run. Before every call both sides do the same to their record: nothing, or they copy the first one anew.
+fn run(record: Vec<u8>, commands: &[[u64; 5]], before: fn(&mut [u8], &[u8])) -> Case {
+    let (list, expected) = (encode(commands), (0, commands.len() as u64));
+    let (mut first, mut second) = (record.clone(), record.clone());
+    let (same_record, same_list) = (record.clone(), list.clone());
+    Case::new(
+        move || {
+            before(&mut first, &record);
+            assert!(library::run(black_box(&mut first), black_box(&list)) == expected);
+        },
+        move || {
+            before(&mut second, &same_record);
+            assert!(fast::run(black_box(&mut second), black_box(&same_list)) == expected);
+        },
+    )
+}
+
+/// A run of `count` grants by the owners of the logs in turn, each to another subject. The same run on the record after it is
+/// accepted too and changes nothing.
+pub fn run_of_grants(size: Size, count: usize) -> Case {
+    let record = Shape::Flat.record(size.n, size.p);
+    let commands: Vec<[u64; 5]> = (0..count)
+        .map(|j| {
+            let o = size.n + j % size.p;
+            [4, o % size.n, 7 * j % size.n, o, j % 7].map(|field| field as u64)
+        })
+        .collect();
+    run(record, &commands, |_, _| ())
+}
+
+/// A run of the thirteen codes in turn, all accepted, each time on a new copy of the record.
+pub fn run_of_all_codes(size: Size, count: usize) -> Case {
+    let record = Shape::Chain.record(size.n, size.p);
+    let commands = accepted_commands(&mut Numbers(1), &record, count);
+    run(record, &commands, |copy, record| {
+        copy.copy_from_slice(record)
+    })
+}
+
+/// Whether subject 1 can come to hold the plain right 0 over the log that is asked about.
+fn question(shape: Shape, size: Size, trust: u64, leaks: bool) -> Case {
+    let record = shape.record(size.n, size.p);
+    let o = shape.asked_log(size.n) as u64;
+    let (mut first, same) = (vec![0; 5 + 6 * (size.n + 2)], record.clone());
+    let mut second = first.clone();
+    Case::new(
+        move || {
+            let out = black_box(&mut first[..]);
+            let (refusal, value) = library::safety(black_box(&record), trust, 1, o, 2, out);
+            assert!(refusal == 0 && (value != 0) == leaks);
+        },
+        move || {
+            let out = black_box(&mut second[..]);
+            let (refusal, value) = fast::safety(black_box(&same), trust, 1, o, 2, out);
+            assert!(refusal == 0 && (value != 0) == leaks);
+        },
+    )
+}
+
+/// Everybody is trusted, so that the answer is safe after every owner above the log is looked at.
+pub fn all_trusted(shape: Shape, size: Size) -> Case {
+    question(shape, size, size.all(), false)
+}
+
+/// Everybody but U is trusted, so that the list destroys every owner between U and the log.
+pub fn root_untrusted(shape: Shape, size: Size) -> Case {
+    question(shape, size, size.all() & !1, true)
+}

@@ -1,0 +1,52 @@
+//! Times the proved library beside Rust written for speed. Run it in the folder `rust`, with the archive in place:
+//!
+//!     cargo run --release -p bench
+//!
+//! It first compares both sides on seeded inputs and stops at a difference. Rounds of the two sides, over all sizes of a call
+//! or all calls on a shape, are measured in turn; a time is that of the shortest round, and the last column has the ratio of
+//! the median rounds. The caches hold the record, and no buffer is cleared between calls.
+
+mod cases;
+mod compare;
+mod fast;
+mod library;
+mod lists;
+mod measure;
+mod numbers;
+mod report;
+mod stations;
+
+use cases::{LONG, SIZES};
+use report::{by_shape, by_size, heading};
+use stations::Shape;
+
+/// The five calls at each size, on flat records.
+fn calls() {
+    let flat = Shape::Flat;
+    heading("Calls by size (flat records; code 3 on a chain), nanoseconds a call");
+    by_size("valid", 1, |size| cases::valid(flat, size));
+    by_size("held", 1, |size| cases::held(flat, size));
+    by_size("command 4", 1, |size| cases::grant(flat, size));
+    by_size("command 3", 1, cases::transfer_own);
+    by_size("run, 10 grants", 1, |size| cases::run_of_grants(size, 10));
+    by_size("safety, safe", 1, |size| cases::all_trusted(flat, size));
+    by_size("safety, leaks", 1, |size| cases::root_untrusted(flat, size));
+}
+
+/// Long lists at each size.
+fn lists() {
+    heading("Runs of 10,000 commands, nanoseconds a command (13 codes: on a new copy each time)");
+    by_size("grants", LONG, |size| cases::run_of_grants(size, LONG));
+    by_size("13 codes", LONG, |size| cases::run_of_all_codes(size, LONG));
+}
+
+fn main() {
+    compare::compare_all();
+    println!(
+        "Both sides answer alike on {} seeded records, five calls each.",
+        compare::RECORDS
+    );
+    calls();
+    lists();
+    by_shape(SIZES[3]);
+}

@@ -1,0 +1,175 @@
+//! Records to measure and to compare on.
+
+use crate::numbers::Numbers;
+
+const OWN: u16 = 1;
+const CONTROL: u16 = 2;
+
+/// The ways in which the subjects of a measured record own each other. All names exist.
+#[derive(Clone, Copy)]
+pub enum Shape {
+    /// U owns every other subject.
+    Flat,
+    /// Each subject owns the next.
+    Chain,
+    /// U owns the last subject, and each subject the one before it, so that owners have the higher numbers.
+    ChainDown,
+    /// A chain, and every subject owns the log that is asked about.
+    OwnersInChain,
+}
+
+impl Shape {
+    pub const ALL: [Shape; 4] = [
+        Shape::Flat,
+        Shape::Chain,
+        Shape::ChainDown,
+        Shape::OwnersInChain,
+    ];
+
+    pub fn name(self) -> &'static str {
+        match self {
+            Shape::Flat => "flat",
+            Shape::Chain => "chain",
+            Shape::ChainDown => "chain, owners higher",
+            Shape::OwnersInChain => "chain, all own log",
+        }
+    }
+
+    /// The owner of subject s, which isn't U.
+    fn owner(self, s: usize, n: usize) -> usize {
+        match self {
+            Shape::Flat => 0,
+            Shape::Chain | Shape::OwnersInChain => s - 1,
+            Shape::ChainDown => (s + 1) % n,
+        }
+    }
+
+    /// The log that is asked about: one whose owner has the most owners above it.
+    pub fn asked_log(self, n: usize) -> usize {
+        match self {
+            Shape::ChainDown => n + 1,
+            _ => n + n - 1,
+        }
+    }
+
+    /// The record of n subject names and p plain names, p at least n. Each log is owned by one of the subjects in turn, which
+    /// has a basic right with the star over it; the subject after it has a plain one.
+    pub fn record(self, n: usize, p: usize) -> Vec<u8> {
+        let mut record = blank(n, p);
+        for s in 0..n {
+            add(&mut record, s, s, CONTROL);
+            if s != 0 {
+                add(&mut record, self.owner(s, n), s, OWN);
+            }
+        }
+        for o in n..n + p {
+            add(&mut record, o % n, o, OWN | 1 << 15);
+            add(&mut record, (o + 1) % n, o, 1 << 6);
+        }
+        if let Shape::OwnersInChain = self {
+            for s in 0..n {
+                add(&mut record, s, self.asked_log(n), OWN);
+            }
+        }
+        record
+    }
+}
+
+/// A record with every cell zero.
+fn blank(n: usize, p: usize) -> Vec<u8> {
+    let length = 2 + 2 * n * (n + p);
+    let mut record = vec![1];
+    record.extend_from_slice(&(length as u32).to_be_bytes());
+    record.extend_from_slice(&[n as u8, p as u8]);
+    record.resize(5 + length, 0);
+    record
+}
+
+/// The place of a cell.
+fn place(record: &[u8], row: usize, column: usize) -> usize {
+    let columns = record[5] as usize + record[6] as usize;
+    7 + 2 * (row * columns + column)
+}
+
+/// Sets bits of a cell.
+fn add(record: &mut [u8], row: usize, column: usize, bits: u16) {
+    let at = place(record, row, column);
+    record[at] |= (bits >> 8) as u8;
+    record[at + 1] |= bits as u8;
+}
+
+/// The lowest row that owns a column.
+pub fn lowest_owner(record: &[u8], column: usize) -> Option<usize> {
+    let n = record[5] as usize;
+    (0..n).find(|&row| record[place(record, row, column) + 1] & 1 != 0)
+}
+
+/// A valid record with names absent here and there, owners in any order, other controllers and basic rights.
+pub fn any_record(numbers: &mut Numbers, n: usize, p: usize) -> Vec<u8> {
+    let mut record = blank(n, p);
+    let subjects = existing_subjects(numbers, &mut record, n);
+    let mut columns = subjects.clone();
+    for o in n..n + p {
+        if !numbers.once_in(4) {
+            let owners = 1 + numbers.below(3);
+            for _ in 0..owners {
+                add(&mut record, subjects[numbers.below(subjects.len())], o, OWN);
+            }
+            columns.push(o);
+        }
+    }
+    for _ in 0..numbers.below(4 * columns.len()) {
+        let row = subjects[numbers.below(subjects.len())];
+        let column = columns[numbers.below(columns.len())];
+        add(&mut record, row, column, 4 << numbers.below(14));
+    }
+    record
+}
+
+/// Subjects that join a tree in any order, each owned by one that joined before. U is the first.
+fn existing_subjects(numbers: &mut Numbers, record: &mut [u8], n: usize) -> Vec<usize> {
+    let mut order: Vec<usize> = (1..n).collect();
+    for j in (1..order.len()).rev() {
+        order.swap(j, numbers.below(j + 1));
+    }
+    let deep = numbers.once_in(2);
+    let mut subjects = vec![0];
+    add(record, 0, 0, CONTROL);
+    for s in order {
+        if numbers.once_in(5) {
+            continue;
+        }
+        let last = subjects.len() - 1;
+        let owner = if deep { last } else { numbers.below(last + 1) };
+        add(record, subjects[owner], s, OWN);
+        add(record, s, s, CONTROL);
+        if numbers.once_in(3) {
+            add(record, subjects[numbers.below(last + 1)], s, CONTROL);
+        }
+        subjects.push(s);
+    }
+    subjects
+}
+
+/// Moves own of a subject to another, which may be below it, so that owners may form a cycle.
+fn move_own(numbers: &mut Numbers, record: &mut [u8]) {
+    let n = record[5] as usize;
+    let s = numbers.below(n);
+    if let Some(owner) = lowest_owner(record, s) {
+        let at = place(record, owner, s);
+        record[at + 1] &= !OWN as u8;
+        add(record, numbers.below(n), s, OWN);
+    }
+}
+
+/// Changes a valid record: a bit of a cell, an owner, a byte of the head or the length.
+pub fn damage(numbers: &mut Numbers, record: &mut Vec<u8>) {
+    let length = record.len();
+    match numbers.below(8) {
+        0 => record[numbers.below(7)] = numbers.bits() as u8,
+        1 => record.truncate(numbers.below(length)),
+        2 => record.push(0),
+        3..6 => move_own(numbers, record),
+        _ => record[7 + numbers.below(length - 7)] ^= 1 << numbers.below(8),
+    }
+}

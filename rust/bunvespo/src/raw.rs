@@ -1,0 +1,54 @@
+//! The five exports of the archive, as `include/bunvespo.h` declares them. A slice is a pointer and then its length.
+
+/// A refusal, 0 where the call is answered, and a value.
+#[repr(C)]
+#[derive(Clone, Copy, Debug, PartialEq, Eq)]
+pub struct Answer {
+    pub refusal: u64,
+    pub value: u64,
+}
+
+unsafe extern "C" {
+    /// 1 if the record is valid, else 0.
+    pub fn bunvespo_valid(record: *const u8, record_len: usize) -> u64;
+
+    /// The value is 1 if the right is held, else 0.
+    pub fn bunvespo_held(
+        record: *const u8,
+        record_len: usize,
+        s: u64,
+        o: u64,
+        right: u64,
+    ) -> Answer;
+
+    /// The value is the number of owner links that the walk followed.
+    pub fn bunvespo_command(
+        record: *mut u8,
+        record_len: usize,
+        code: u64,
+        i: u64,
+        s: u64,
+        o: u64,
+        k: u64,
+    ) -> Answer;
+
+    /// The value is the number of commands accepted.
+    pub fn bunvespo_run(
+        record: *mut u8,
+        record_len: usize,
+        list: *const u8,
+        list_len: usize,
+    ) -> Answer;
+
+    /// The value is 0 for safe, and N + 1 for leaks by N commands.
+    pub fn bunvespo_safety(
+        record: *const u8,
+        record_len: usize,
+        trust: u64,
+        s: u64,
+        o: u64,
+        right: u64,
+        out: *mut u8,
+        out_len: usize,
+    ) -> Answer;
+}

@@ -1,0 +1,188 @@
+//! The examples of the scope paper on its stations A and B, asked through the safe calls.
+
+use bunvespo::{
+    CONTROL, Command, OWN, Outcome, Refusal, Safety, buffer_size, command, commands, encode, held,
+    plain, run, safety, starred, valid,
+};
+
+const A: [u8; 31] = [
+    1, 0, 0, 0, 0x1A, 3, 1, 0, 2, 0, 1, 0, 0, 0, 0, 0, 0, 0, 2, 0, 1, 0, 0, 0, 0, 0, 0, 0, 2, 0, 1,
+];
+
+const B: [u8; 19] = [1, 0, 0, 0, 0x0E, 2, 1, 0, 2, 0, 0, 0, 0, 0, 0, 0, 0, 0, 0];
+
+/// The record with one byte replaced.
+fn with(mut record: [u8; 31], place: usize, value: u8) -> [u8; 31] {
+    record[place] = value;
+    record
+}
+
+/// The refusal of one command, and the record unchanged by it.
+fn refused(record: &[u8], c: Command) -> (Refusal, u64) {
+    let mut copy = record.to_vec();
+    let answer = command(&mut copy, c);
+    assert_eq!(copy, record, "a refused command changes no byte");
+    answer.unwrap_err()
+}
+
+/// The answer to a question on A with a buffer of the right size, and its commands.
+fn asked(record: &[u8], trust: u64, s: u64, o: u64, right: u64) -> (Safety, Vec<Command>) {
+    let mut out = [0xEE; buffer_size(3)];
+    let answer = safety(record, trust, s, o, right, &mut out).unwrap();
+    let count = match answer {
+        Safety::Safe => 0,
+        Safety::Leaks(count) => count as usize,
+    };
+    let written = match answer {
+        Safety::Safe => 0,
+        Safety::Leaks(_) => 5 + 6 * count,
+    };
+    assert!(out[written..].iter().all(|&byte| byte == 0xEE));
+    (answer, commands(&out, count).collect())
+}
+
+#[test]
+fn validity() {
+    assert!(valid(&A));
+    assert!(valid(&with(A, 30, 0)));
+    assert!(valid(&B));
+    assert!(!valid(&with(A, 8, 0)));
+    assert!(!valid(&[]));
+}
+
+#[test]
+fn records_turned_down() {
+    let longer = [&A[..], &[0]].concat();
+    let short = [1, 0, 0, 0, 4, 1];
+    assert_eq!(held(&short, 0, 0, OWN), Err(Refusal::RecordShort));
+    assert_eq!(held(&with(A, 0, 2), 0, 0, OWN), Err(Refusal::Version));
+    assert_eq!(held(&with(A, 5, 0), 0, 0, OWN), Err(Refusal::Counts));
+    assert_eq!(held(&longer, 0, 0, OWN), Err(Refusal::RecordLength));
+    assert_eq!(held(&with(A, 8, 0), 0, 0, OWN), Err(Refusal::NotValid));
+}
+
+#[test]
+fn rights_held() {
+    assert_eq!(held(&A, 0, 1, OWN), Ok(true));
+    assert_eq!(held(&A, 0, 2, OWN), Ok(false));
+    assert_eq!(held(&A, 2, 2, CONTROL), Ok(true));
+    assert_eq!(held(&A, 2, 3, plain(0)), Ok(false));
+    let mut copy = A;
+    assert_eq!(command(&mut copy, Command::new(5, 2, 0, 3, 6)), Ok(0));
+    assert_eq!(held(&copy, 0, 3, plain(6)), Ok(true));
+    assert_eq!(held(&copy, 0, 3, starred(6)), Ok(true));
+    assert_eq!(held(&A, 3, 0, OWN), Err(Refusal::Bounds));
+    assert_eq!(held(&A, 256, 0, OWN), Err(Refusal::Bounds));
+}
+
+#[test]
+fn commands_turned_down() {
+    let c = Command::new;
+    let cases = [
+        (refused(&A, c(14, 255, 0, 0, 0)), (Refusal::Code, 0)),
+        (refused(&A, c(4, 0, 0, 4, 0)), (Refusal::Bounds, 0)),
+        (
+            refused(&B, c(12, 1, 1, 0, 0)),
+            (Refusal::InitiatorAbsent, 0),
+        ),
+        (refused(&A, c(6, 2, 1, 3, 0)), (Refusal::Kind, 0)),
+        (refused(&B, c(11, 0, 0, 2, 0)), (Refusal::NameAbsent, 0)),
+        (refused(&A, c(12, 0, 1, 0, 0)), (Refusal::NameExists, 0)),
+        (refused(&A, c(13, 0, 2, 0, 0)), (Refusal::RightLacking, 0)),
+        (refused(&A, c(3, 0, 2, 1, 0)), (Refusal::WalkMeets, 1)),
+    ];
+    for (answer, expected) in cases {
+        assert_eq!(answer, expected);
+    }
+    let mut copy = A;
+    assert_eq!(command(&mut copy, c(6, 1, 0, 2, 0)), Ok(0));
+    assert_eq!(
+        refused(&copy, c(6, 1, 0, 2, 0)),
+        (Refusal::OtherController, 0)
+    );
+}
+
+#[test]
+fn ownership_transferred_to_its_owner() {
+    let mut copy = A;
+    assert_eq!(command(&mut copy, Command::new(3, 1, 1, 2, 0)), Ok(1));
+    assert_eq!(copy, A);
+}
+
+#[test]
+fn lists_run() {
+    let list = encode(&[
+        Command::new(13, 1, 2, 0, 0),
+        Command::new(4, 1, 1, 3, 0),
+        Command::new(13, 1, 2, 0, 0),
+    ])
+    .unwrap();
+    let mut copy = A;
+    let outcome = run(&mut copy, &list);
+    let refusal = Some(Refusal::NameAbsent);
+    assert_eq!(
+        outcome,
+        Outcome {
+            accepted: 2,
+            refusal
+        }
+    );
+    assert_eq!(held(&copy, 1, 3, plain(0)), Ok(true));
+    let refusal = Some(Refusal::ListForm);
+    for wrong in [&[][..], &[1, 0, 0, 0, 1, 5][..]] {
+        let outcome = run(&mut copy, wrong);
+        assert_eq!(
+            outcome,
+            Outcome {
+                accepted: 0,
+                refusal
+            }
+        );
+    }
+    let nothing = run(&mut copy, &[1, 0, 0, 0, 0]);
+    assert_eq!((nothing.accepted, nothing.refusal), (0, None));
+}
+
+#[test]
+fn questions_answered() {
+    assert_eq!(asked(&A, 7, 1, 3, plain(0)).0, Safety::Safe);
+    assert_eq!(asked(&A, 1, 1, 1, OWN).0, Safety::Safe);
+    assert_eq!(asked(&A, 7, 2, 3, OWN).0, Safety::Leaks(0));
+    assert_eq!(asked(&B, 1, 1, 2, starred(0)).0, Safety::Safe);
+    for (record, trust, s, o, right) in [
+        (&A[..], 5, 1, 3, plain(0)),
+        (&A[..], 6, 0, 2, OWN),
+        (&A[..], 6, 2, 1, OWN),
+        (&B[..], 0, 1, 2, starred(0)),
+    ] {
+        let (answer, list) = asked(record, trust, s, o, right);
+        assert_eq!(answer, Safety::Leaks(list.len() as u64));
+        assert!(list.iter().all(|c| trust >> c.i & 1 == 0));
+        let mut copy = record.to_vec();
+        for c in list {
+            command(&mut copy, c).unwrap();
+        }
+        assert_eq!(held(&copy, s, o, right), Ok(true));
+    }
+}
+
+#[test]
+fn questions_turned_down() {
+    let short = &mut [0; 34];
+    let refusal = safety(&A, 7, 1, 3, 2, short);
+    assert_eq!(refusal, Err(Refusal::BufferShort));
+    assert_eq!(safety(&A, 8, 1, 3, 2, &mut []), Err(Refusal::Bounds));
+    assert_eq!(safety(&A, 7, 1, 3, 2, &mut [0; 35]), Ok(Safety::Safe));
+}
+
+#[test]
+fn refusals_and_their_numbers() {
+    for (place, refusal) in Refusal::ALL.into_iter().enumerate() {
+        assert_eq!(usize::from(refusal.number()), place + 1);
+        assert_eq!(Refusal::from_number(place as u64 + 1), Some(refusal));
+    }
+    assert_eq!(Refusal::from_number(0), None);
+    assert_eq!(Refusal::from_number(17), None);
+    let said = Refusal::Version.to_string();
+    assert_eq!(said, "refused 2: version not 1");
+}

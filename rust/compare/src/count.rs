@@ -1,0 +1,185 @@
+//! How often each answer and each refusal of each call occurred.
+
+use std::fmt;
+
+/// The five calls.
+#[derive(Clone, Copy, Debug, PartialEq, Eq)]
+pub enum Call {
+    Valid,
+    Held,
+    Command,
+    Run,
+    Safety,
+}
+
+const CALLS: [Call; 5] = [
+    Call::Valid,
+    Call::Held,
+    Call::Command,
+    Call::Run,
+    Call::Safety,
+];
+
+impl Call {
+    fn name(self) -> &'static str {
+        match self {
+            Call::Valid => "valid",
+            Call::Held => "held",
+            Call::Command => "command",
+            Call::Run => "run",
+            Call::Safety => "safety",
+        }
+    }
+
+    /// The refusals that the paper gives to the call. The validity call gives none, and says no where 1 to 5 would
+    /// turn the record down; these are counted as its refusals.
+    fn refusals(self) -> Vec<u64> {
+        let record = 1..=5;
+        match self {
+            Call::Valid => record.collect(),
+            Call::Held => record.chain([7]).collect(),
+            Call::Command => record.chain(6..=14).collect(),
+            Call::Run => record.chain(6..=14).chain([16]).collect(),
+            Call::Safety => record.chain([7, 15]).collect(),
+        }
+    }
+}
+
+/// The counts of a whole run. They take the same room however long the run.
+pub struct Counts {
+    /// By call and refusal; place 0 counts the inputs that were answered.
+    by_refusal: [[u64; 17]; 5],
+    /// Valid: no, yes. Held: no, yes.
+    pub held: [u64; 2],
+    /// Accepted commands by code, of the command call.
+    pub accepted: [u64; 14],
+    /// Lists of the run call by the number of commands accepted: 0, 1 to 9, 10 to 99, and so on.
+    pub ran: [u64; 6],
+    pub safe: u64,
+    /// Leaks by the number of commands.
+    pub leaks: [u64; 67],
+    /// Safety questions that were also answered by the search.
+    pub searched: u64,
+    /// The sizes of the valid records met, by n - 1 and p.
+    pub sizes: Vec<bool>,
+}
+
+impl Counts {
+    pub fn new() -> Counts {
+        Counts {
+            by_refusal: [[0; 17]; 5],
+            held: [0; 2],
+            accepted: [0; 14],
+            ran: [0; 6],
+            safe: 0,
+            leaks: [0; 67],
+            searched: 0,
+            sizes: vec![false; 64 * 193],
+        }
+    }
+
+    /// Counts one input of a call by its refusal, 0 where it was answered.
+    pub fn add(&mut self, call: Call, refusal: u64) {
+        self.by_refusal[call as usize][refusal as usize] += 1;
+    }
+
+    /// Notes that a valid record of this size was met.
+    pub fn add_size(&mut self, n: u64, p: u64) {
+        self.sizes[((n - 1) * 193 + p) as usize] = true;
+    }
+
+    /// The number of inputs.
+    pub fn inputs(&self) -> u64 {
+        self.by_refusal.iter().flatten().sum()
+    }
+
+    /// What never occurred and should have, in words.
+    pub fn missing(&self) -> Vec<String> {
+        let mut missing = Vec::new();
+        for call in CALLS {
+            let refusals = call.refusals().into_iter();
+            let never = refusals.filter(|number| self.of(call, *number) == 0);
+            missing.extend(never.map(|number| format!("{}: refusal {number}", call.name())));
+            if self.of(call, 0) == 0 {
+                missing.push(format!("{}: an answer", call.name()));
+            }
+        }
+        let codes = (1..=13).filter(|code| self.accepted[*code] == 0);
+        missing.extend(codes.map(|code| format!("command: code {code} accepted")));
+        let answers = [
+            ("held: no", self.held[0]),
+            ("held: yes", self.held[1]),
+            ("safety: safe", self.safe),
+            ("safety: leaks", self.leaks.iter().sum()),
+            ("safety: a question answered by the search", self.searched),
+        ];
+        let never = answers.iter().filter(|(_, count)| *count == 0);
+        missing.extend(never.map(|(answer, _)| String::from(*answer)));
+        missing
+    }
+
+    fn of(&self, call: Call, refusal: u64) -> u64 {
+        self.by_refusal[call as usize][refusal as usize]
+    }
+
+    fn answers(&self, call: Call) -> String {
+        match call {
+            Call::Valid => format!("yes {}", self.of(call, 0)),
+            Call::Held => format!("yes {}, no {}", self.held[1], self.held[0]),
+            Call::Command => format!("accepted, by code:{}", listed(&self.accepted, 1)),
+            Call::Run => format!(
+                "no refusal {}; commands accepted, also before a refusal: none {}, 1 to 9 {}, 10 to 99 {}, \
+                 100 to 999 {}, 1,000 to 9,999 {}, 10,000 {}",
+                self.of(call, 0),
+                self.ran[0],
+                self.ran[1],
+                self.ran[2],
+                self.ran[3],
+                self.ran[4],
+                self.ran[5]
+            ),
+            Call::Safety => format!(
+                "safe {}; leaks, by number of commands:{}",
+                self.safe,
+                listed(&self.leaks, 0)
+            ),
+        }
+    }
+}
+
+/// The counts that are not 0, each with its number, from a number on.
+fn listed(counts: &[u64], from: usize) -> String {
+    let numbered = counts.iter().enumerate().skip(from);
+    let occurred = numbered.filter(|(_, count)| **count > 0);
+    occurred
+        .map(|(n, count)| format!(" {n}: {count}"))
+        .collect()
+}
+
+impl fmt::Display for Counts {
+    fn fmt(&self, f: &mut fmt::Formatter<'_>) -> fmt::Result {
+        for call in CALLS {
+            let refusals = call.refusals();
+            let inputs: u64 = self.by_refusal[call as usize].iter().sum();
+            writeln!(f, "{}: {inputs} inputs", call.name())?;
+            writeln!(f, "  {}", self.answers(call))?;
+            let word = if call == Call::Valid {
+                "no, by the refusal that others give"
+            } else {
+                "refused"
+            };
+            let by_number = refusals.iter();
+            let text: String = by_number
+                .map(|number| format!(" {number}: {}", self.of(call, *number)))
+                .collect();
+            writeln!(f, "  {word}:{text}")?;
+        }
+        let sizes = self.sizes.iter().filter(|met| **met).count();
+        writeln!(f, "sizes of valid records: {sizes} of {}", self.sizes.len())?;
+        writeln!(
+            f,
+            "safety questions also answered by the search: {}",
+            self.searched
+        )
+    }
+}

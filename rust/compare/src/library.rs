@@ -1,0 +1,104 @@
+//! The five calls of the library through its C interface. Each buffer lent is guarded; what a call must not change
+//! is compared here, and an error in words says what was changed.
+
+use bunvespo::raw;
+use reference::Answer;
+
+use crate::guarded::Guarded;
+
+/// What a call answered, and the bytes that it may have written, as they are after it.
+#[derive(PartialEq, Eq)]
+pub struct Outcome {
+    pub answer: Answer,
+    pub written: Vec<u8>,
+}
+
+fn answer(from: raw::Answer) -> Answer {
+    Answer {
+        refusal: from.refusal,
+        value: from.value,
+    }
+}
+
+/// Whether the record is valid. An empty slice is lent as NULL if `null` says so; likewise below.
+pub fn valid(record: &[u8], null: bool) -> Result<u64, String> {
+    let mut lent = Guarded::holding(record);
+    // SAFETY: the pointer and the length are those of the lent buffer, or NULL and 0, which the header allows.
+    let got = unsafe { raw::bunvespo_valid(lent.pointer(null), record.len()) };
+    lent.unchanged(record, "record")?;
+    Ok(got)
+}
+
+/// Whether a right is held.
+pub fn held(record: &[u8], [s, o, right]: [u64; 3], null: bool) -> Result<Answer, String> {
+    let mut lent = Guarded::holding(record);
+    // SAFETY: as in `valid`.
+    let got = unsafe { raw::bunvespo_held(lent.pointer(null), record.len(), s, o, right) };
+    lent.unchanged(record, "record")?;
+    Ok(answer(got))
+}
+
+/// One command; the record after it is what was written.
+pub fn command(record: &[u8], fields: [u64; 5], null: bool) -> Result<Outcome, String> {
+    let mut lent = Guarded::holding(record);
+    let [code, i, s, o, k] = fields;
+    // SAFETY: as in `valid`; nothing else refers to the lent buffer.
+    let got = unsafe { raw::bunvespo_command(lent.pointer(null), record.len(), code, i, s, o, k) };
+    Ok(Outcome {
+        answer: answer(got),
+        written: lent.content()?.to_vec(),
+    })
+}
+
+/// A list run; the record after it is what was written.
+pub fn run(record: &[u8], list: &[u8], null: bool) -> Result<Outcome, String> {
+    let mut lent = Guarded::holding(record);
+    let mut lent_list = Guarded::holding(list);
+    // SAFETY: as in `valid`, for both buffers, which do not overlap.
+    let got = unsafe {
+        let record_pointer = lent.pointer(null);
+        raw::bunvespo_run(
+            record_pointer,
+            record.len(),
+            lent_list.pointer(null),
+            list.len(),
+        )
+    };
+    lent_list.unchanged(list, "list")?;
+    Ok(Outcome {
+        answer: answer(got),
+        written: lent.content()?.to_vec(),
+    })
+}
+
+/// A safety question with the trust mask, s, o and the right; the buffer after it is what was written.
+pub fn safety(
+    record: &[u8],
+    [trust, s, o, right]: [u64; 4],
+    buffer: &[u8],
+    null: bool,
+) -> Result<Outcome, String> {
+    let mut lent = Guarded::holding(record);
+    let mut lent_buffer = Guarded::holding(buffer);
+    // SAFETY: as in `valid`, for both buffers, which do not overlap.
+    let got = unsafe {
+        let record_pointer = lent.pointer(null);
+        let out = lent_buffer.pointer(null);
+        let length = record.len();
+        raw::bunvespo_safety(
+            record_pointer,
+            length,
+            trust,
+            s,
+            o,
+            right,
+            out,
+            buffer.len(),
+        )
+    };
+    lent.unchanged(record, "record")?;
+    Ok(Outcome {
+        answer: answer(got),
+        written: lent_buffer.content()?.to_vec(),
+    })
+}

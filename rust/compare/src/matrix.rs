@@ -1,0 +1,53 @@
+//! The cells of a record's bytes, for building and for damaging records. It is kept apart from the second
+//! implementation's own reader and writer, so that a fault there would be seen.
+
+/// The code of own, and so its bit number; likewise control.
+pub const OWN: u64 = 0;
+pub const CONTROL: u64 = 1;
+
+/// A record of n subject names and p plain names with all cells zero.
+pub fn empty_record(n: u64, p: u64) -> Vec<u8> {
+    let count = 2 + 2 * n * (n + p);
+    let mut record = vec![1];
+    record.extend((count as u32).to_be_bytes());
+    record.extend([n as u8, p as u8]);
+    record.resize(5 + count as usize, 0);
+    record
+}
+
+/// n and p as the record's header has them.
+pub fn sizes(record: &[u8]) -> (u64, u64) {
+    (u64::from(record[5]), u64::from(record[6]))
+}
+
+/// The byte that has a right's bit in the cell of a row and a column, and the bit alone.
+fn place(record: &[u8], row: u64, column: u64, code: u64) -> (usize, u8) {
+    let (n, p) = sizes(record);
+    let high_byte = 7 + 2 * (row * (n + p) + column);
+    let byte = if code < 8 { high_byte + 1 } else { high_byte };
+    (byte as usize, 1 << (code % 8))
+}
+
+/// Whether a right's bit is set.
+pub fn is_set(record: &[u8], row: u64, column: u64, code: u64) -> bool {
+    let (byte, bit) = place(record, row, column, code);
+    record[byte] & bit != 0
+}
+
+/// Sets a right's bit.
+pub fn set(record: &mut [u8], row: u64, column: u64, code: u64) {
+    let (byte, bit) = place(record, row, column, code);
+    record[byte] |= bit;
+}
+
+/// Clears a right's bit.
+pub fn clear(record: &mut [u8], row: u64, column: u64, code: u64) {
+    let (byte, bit) = place(record, row, column, code);
+    record[byte] &= !bit;
+}
+
+/// The subjects that exist, that is, control themselves.
+pub fn existing_subjects(record: &[u8]) -> Vec<u64> {
+    let (n, _) = sizes(record);
+    (0..n).filter(|s| is_set(record, *s, *s, CONTROL)).collect()
+}

@@ -1,0 +1,193 @@
+//! The program safety_question: what it prints, compared with what the paper says it prints.
+
+use std::fmt;
+use std::io::Write;
+use std::process::{Command, Stdio};
+
+use reference::{Safety, buffer_minimum, leaks_by, read, write_list};
+
+use crate::check::hex;
+use crate::damage::damage;
+use crate::generate::valid_record;
+use crate::inputs;
+use crate::random::Random;
+
+/// "Standard input, at most 65,536 bytes."
+const INPUT_MAXIMUM: usize = 65_536;
+
+/// "As the last 11 bytes the mask (high byte first), s, o, right."
+const QUESTION_BYTES: usize = 11;
+
+/// The number of generated inputs, besides those of special lengths.
+const GENERATED: u64 = 280;
+
+/// How often the program printed what.
+#[derive(Default)]
+pub struct Runs {
+    safe: u64,
+    leaks: u64,
+    refused: [u64; 17],
+}
+
+impl fmt::Display for Runs {
+    fn fmt(&self, f: &mut fmt::Formatter<'_>) -> fmt::Result {
+        let refused: u64 = self.refused.iter().sum();
+        let total = self.safe + self.leaks + refused;
+        write!(
+            f,
+            "program: {total} inputs; safe {}, leaks {}, refused",
+            self.safe, self.leaks
+        )?;
+        let numbered = self.refused.iter().enumerate();
+        for (number, count) in numbered.filter(|(_, count)| **count > 0) {
+            write!(f, " {number}: {count}")?;
+        }
+        writeln!(f)
+    }
+}
+
+/// A safety question as the program's input gives it.
+struct Asked<'a> {
+    record: &'a [u8],
+    question: [u64; 4],
+}
+
+/// Takes an input apart; one of the wrong length gives the refusal that is printed.
+fn asked(input: &[u8]) -> Result<Asked<'_>, u64> {
+    if input.len() > INPUT_MAXIMUM {
+        return Err(4);
+    }
+    let record_length = input.len().checked_sub(QUESTION_BYTES).ok_or(1u64)?;
+    let (record, last) = input.split_at(record_length);
+    let trust = last[..8]
+        .iter()
+        .fold(0, |mask, byte| mask << 8 | u64::from(*byte));
+    let [s, o, right] = [last[8], last[9], last[10]].map(u64::from);
+    Ok(Asked {
+        record,
+        question: [trust, s, o, right],
+    })
+}
+
+/// Whether the printed bytes are right for the input; what is wrong in words.
+fn check(input: &[u8], printed: &[u8], runs: &mut Runs) -> Result<(), String> {
+    let exactly = |text: &str| match printed == text.as_bytes() {
+        true => Ok(()),
+        false => Err(format!("should have printed {text:?}")),
+    };
+    let refused = |refusal: u64| exactly(&format!("refused {refusal}\n"));
+    let Asked { record, question } = match asked(input) {
+        Ok(asked) => asked,
+        Err(refusal) => {
+            runs.refused[refusal as usize] += 1;
+            return refused(refusal);
+        }
+    };
+    let [trust, s, o, right] = question;
+    match reference::safety(record, trust, s, o, right, buffer_minimum(64)) {
+        Safety::Refused(refusal) => {
+            runs.refused[refusal as usize] += 1;
+            refused(refusal)
+        }
+        Safety::Safe => {
+            runs.safe += 1;
+            exactly("safe\n")
+        }
+        Safety::Leaks => {
+            runs.leaks += 1;
+            check_leak(record, question, printed)
+        }
+    }
+}
+
+/// Reads the lines of a leak and runs them. The text is made again from what was read, so that each byte counts.
+fn check_leak(record: &[u8], question: [u64; 4], printed: &[u8]) -> Result<(), String> {
+    let text = str::from_utf8(printed).map_err(|_| String::from("printed no text"))?;
+    let mut commands: Vec<[u8; 5]> = Vec::new();
+    for line in text.lines().skip(1) {
+        let numbers: Result<Vec<u8>, _> = line.split(' ').map(str::parse).collect();
+        let fields = numbers.ok().and_then(|numbers| numbers.try_into().ok());
+        commands.push(fields.ok_or(format!("the line {line:?} is no command"))?);
+    }
+    let mut again = format!("leaks {}\n", commands.len());
+    for [code, i, s, o, k] in &commands {
+        again += &format!("{code} {i} {s} {o} {k}\n");
+    }
+    if again != text {
+        return Err(format!("should have printed {again:?}"));
+    }
+    let [trust, s, o, right] = question;
+    leaks_by(record, trust, s, o, right, &write_list(&commands)).map(|_| ())
+}
+
+/// What the program prints on an input.
+fn print_of(program: &str, input: &[u8]) -> Result<Vec<u8>, String> {
+    let failed = |error| {
+        format!(
+            "cannot run {program}: {error}\n`rt check safety_question` builds it; --program names another place"
+        )
+    };
+    let mut child = Command::new(program)
+        .stdin(Stdio::piped())
+        .stdout(Stdio::piped())
+        .spawn()
+        .map_err(failed)?;
+    let mut stdin = child.stdin.take().expect("standard input is a pipe");
+    // A program that has read enough may end before all is written, so an error in writing is none here.
+    let _ = stdin.write_all(input);
+    drop(stdin);
+    Ok(child.wait_with_output().map_err(failed)?.stdout)
+}
+
+/// A generated input: a record, valid or damaged, and a question.
+fn generated(random: &mut Random) -> Vec<u8> {
+    let (n, p) = match random.below(4) {
+        0 => (1 + random.below(64), random.below(193)),
+        _ => (1 + random.below(5), random.below(5)),
+    };
+    let mut input = valid_record(n, p, random);
+    let station = read(&input).expect("the record was built to be valid");
+    let [trust, s, o, right] = inputs::safety_question(&station, random);
+    if random.one_in(3) {
+        damage(&mut input, random);
+    }
+    input.extend(trust.to_be_bytes());
+    input.extend([s as u8, o as u8, right as u8]);
+    if random.one_in(20) {
+        input.pop();
+    }
+    input
+}
+
+/// Inputs of special lengths: too short for a question, just a question, and about the most.
+fn special() -> Vec<Vec<u8>> {
+    let lengths = [0, 1, 10, 11, 12, 17, 18];
+    let about_the_most = [
+        INPUT_MAXIMUM - 1,
+        INPUT_MAXIMUM,
+        INPUT_MAXIMUM + 1,
+        70_000,
+        200_000,
+    ];
+    let all = lengths.into_iter().chain(about_the_most);
+    all.flat_map(|length| [vec![0; length], vec![1; length]])
+        .collect()
+}
+
+/// Runs the program on all inputs and compares what it prints.
+pub fn compare(program: &str, seed: u64) -> Result<Runs, String> {
+    let mut runs = Runs::default();
+    let mut random = Random::new(seed, u64::MAX);
+    let generated = (0..GENERATED).map(|_| generated(&mut random));
+    for input in special().into_iter().chain(generated) {
+        let printed = print_of(program, &input)?;
+        check(&input, &printed, &mut runs).map_err(|fault| {
+            format!(
+                "DIFFERENCE, seed {seed}, program\ninput: {}\nprinted: {:?}\n{fault}",
+                hex(&input),
+                String::from_utf8_lossy(&printed)
+            )
+        })?;
+    }
+    Ok(runs)
+}

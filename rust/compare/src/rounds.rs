@@ -1,0 +1,115 @@
+//! One round: a valid record of the next size, a small valid record and a damaged one, with inputs of all five calls;
+//! in some rounds also the longest lists and all questions of a small station.
+
+use reference::{Station, read};
+
+use crate::check::{self, Difference};
+use crate::count::Counts;
+use crate::damage::damage;
+use crate::facts::Facts;
+use crate::generate::valid_record;
+use crate::inputs;
+use crate::random::Random;
+use crate::small::{self, Searches, not_valid};
+
+/// How many rounds there are to one with the longest lists, and to one with all questions of a small station.
+const ROUNDS_TO_LONGEST_LIST: u64 = 500;
+const ROUNDS_TO_SMALL_STATION: u64 = 250;
+
+/// The size of a round's record: in 64 times 193 rounds every size occurs.
+fn size_of_round(round: u64) -> (u64, u64) {
+    (1 + round % 64, round / 64 % 193)
+}
+
+/// A small size.
+fn small_size(random: &mut Random) -> (u64, u64) {
+    (1 + random.below(6), random.below(6))
+}
+
+/// Compares both implementations on the inputs of one round.
+pub fn round(
+    number: u64,
+    random: &mut Random,
+    searches: &mut Searches,
+    counts: &mut Counts,
+) -> Result<(), Difference> {
+    let (n, p) = size_of_round(number);
+    let large = valid_record(n, p, random);
+    ask_of_valid(&large, random, counts)?;
+    let (n, p) = small_size(random);
+    let small = valid_record(n, p, random);
+    ask_of_valid(&small, random, counts)?;
+    let damaged = if random.one_in(4) { large } else { small };
+    ask_of_damaged(damaged, random, counts)?;
+    if number.is_multiple_of(ROUNDS_TO_LONGEST_LIST) {
+        longest_list(random, counts)?;
+    }
+    if number.is_multiple_of(ROUNDS_TO_SMALL_STATION) {
+        small::all_questions(random, searches, counts)?;
+    }
+    Ok(())
+}
+
+/// The station of a record that was built to be valid.
+fn station_of(record: &[u8]) -> Result<Station, Difference> {
+    read(record).map_err(|refusal| not_valid(record, refusal))
+}
+
+/// One input of each call on a valid record.
+fn ask_of_valid(record: &[u8], random: &mut Random, counts: &mut Counts) -> Result<(), Difference> {
+    let station = station_of(record)?;
+    counts.add_size(station.n, station.p);
+    check::valid(record, false, counts)?;
+    let question = inputs::held_question(&station, random);
+    check::held(record, question, false, counts)?;
+    let fields = inputs::command(&station, &Facts::of(&station), random);
+    check::command(record, fields, false, counts)?;
+    let list = inputs::list(&station, random);
+    check::run(record, &list, random.one_in(2), counts)?;
+    let question = inputs::safety_question(&station, random);
+    let length = inputs::buffer_length(station.n, random);
+    check::safety(record, question, length, random.one_in(2), counts)
+}
+
+/// Inputs of the validity call and of two others on a record that was valid and is damaged. What is asked of it was
+/// drawn from the record before, or is wrong too.
+fn ask_of_damaged(
+    mut record: Vec<u8>,
+    random: &mut Random,
+    counts: &mut Counts,
+) -> Result<(), Difference> {
+    let station = station_of(&record)?;
+    damage(&mut record, random);
+    let null = random.one_in(2);
+    check::valid(&record, null, counts)?;
+    for _ in 0..2 {
+        match random.below(4) {
+            0 => {
+                let question = inputs::held_question(&station, random);
+                check::held(&record, question, null, counts)?;
+            }
+            1 => {
+                let fields = inputs::command(&station, &Facts::of(&station), random);
+                check::command(&record, fields, null, counts)?;
+            }
+            2 => {
+                let list = inputs::list(&station, random);
+                check::run(&record, &list, null, counts)?;
+            }
+            _ => {
+                let question = inputs::safety_question(&station, random);
+                let length = inputs::buffer_length(station.n, random);
+                check::safety(&record, question, length, null, counts)?;
+            }
+        }
+    }
+    Ok(())
+}
+
+/// A list of about the most commands, on a small record, where the second implementation is fast.
+fn longest_list(random: &mut Random, counts: &mut Counts) -> Result<(), Difference> {
+    let (n, p) = small_size(random);
+    let record = valid_record(n, p, random);
+    let list = inputs::longest_list(&station_of(&record)?, random);
+    check::run(&record, &list, false, counts)
+}

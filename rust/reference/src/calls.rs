@@ -1,0 +1,130 @@
+//! The five calls on any bytes and any numbers. Tests run in number order, and where one holds the call is
+//! turned down and changes nothing.
+
+use crate::Refusal;
+use crate::command::{self, Refused, allowed, change};
+use crate::list::read_list;
+use crate::record::{Station, read, write};
+use crate::rights::Right;
+use crate::safety::{buffer_minimum, leaks, question};
+
+/// An answer as the C interface gives it: refusal 0 where the call is answered.
+#[derive(Clone, Copy, Debug, PartialEq, Eq)]
+pub struct Answer {
+    pub refusal: Refusal,
+    pub value: u64,
+}
+
+/// The answer of a safety question. Which list a leak writes is left free, so none is given here; `leaks_by`
+/// tests the one that was written.
+#[derive(Clone, Copy, Debug, PartialEq, Eq)]
+pub enum Safety {
+    Refused(Refusal),
+    Safe,
+    Leaks,
+}
+
+/// "Whether a record is valid: no exactly where 1 to 5 would turn it down, and never a refusal."
+pub fn valid(record: &[u8]) -> bool {
+    read(record).is_ok()
+}
+
+/// "Whether a right is held: no for absent names"; value 1 for yes and 0 for no.
+pub fn held(record: &[u8], s: u64, o: u64, right: u64) -> Answer {
+    let station = match read(record) {
+        Ok(station) => station,
+        Err(refusal) => return Answer { refusal, value: 0 },
+    };
+    // 7: s ≥ n, o ≥ n + p, right > 15.
+    let in_bounds = s < station.n && o < station.n + station.p;
+    match Right::from_code(right) {
+        Some(right) if in_bounds => Answer {
+            refusal: 0,
+            value: u64::from(station.state.held(s, station.name(o), right)),
+        },
+        _ => Answer {
+            refusal: 7,
+            value: 0,
+        },
+    }
+}
+
+/// One command on a station, with the tests 6 to 14. The links reported are the value.
+fn step(station: &mut Station, fields: [u64; 5]) -> Answer {
+    let command = match command::decode(fields, station.n, station.p) {
+        Ok(command) => command,
+        Err(refusal) => return Answer { refusal, value: 0 },
+    };
+    match allowed(&station.state, &command) {
+        Ok(links) => {
+            change(&mut station.state, &command);
+            Answer {
+                refusal: 0,
+                value: links,
+            }
+        }
+        Err(Refused { refusal, links }) => Answer {
+            refusal,
+            value: links,
+        },
+    }
+}
+
+/// One command on a record. "Accepted code 3 and refusal 13 report the links followed; every other answer
+/// reports 0."
+pub fn command(record: &mut [u8], fields: [u64; 5]) -> Answer {
+    let mut station = match read(record) {
+        Ok(station) => station,
+        Err(refusal) => return Answer { refusal, value: 0 },
+    };
+    let answer = step(&mut station, fields);
+    if answer.refusal == 0 {
+        record.copy_from_slice(&write(&station));
+    }
+    answer
+}
+
+/// "The run stops at the first refused command and answers the number accepted and the refusal, 0 if none.
+/// Refusals 1 to 5 and 16 come with 0 accepted." What was accepted before a refused command stays.
+pub fn run(record: &mut [u8], list: &[u8]) -> Answer {
+    let read_both = read(record).and_then(|station| Ok((station, read_list(list)?)));
+    let (mut station, commands) = match read_both {
+        Ok(both) => both,
+        Err(refusal) => return Answer { refusal, value: 0 },
+    };
+    let mut accepted = 0;
+    let mut refusal = 0;
+    for fields in commands {
+        refusal = step(&mut station, fields).refusal;
+        if refusal != 0 {
+            break;
+        }
+        accepted += 1;
+    }
+    record.copy_from_slice(&write(&station));
+    Answer {
+        refusal,
+        value: accepted,
+    }
+}
+
+/// The safety question with a buffer of the given length, with the tests 1 to 5, 7 and 15.
+pub fn safety(
+    record: &[u8],
+    trust: u64,
+    s: u64,
+    o: u64,
+    right: u64,
+    buffer_length: usize,
+) -> Safety {
+    let asked = read(record).and_then(|station| {
+        let q = question(&station, trust, s, o, right)?;
+        Ok((station, q))
+    });
+    match asked {
+        Err(refusal) => Safety::Refused(refusal),
+        Ok((station, _)) if buffer_length < buffer_minimum(station.n) => Safety::Refused(15),
+        Ok((station, q)) if leaks(&station, &q) => Safety::Leaks,
+        Ok(_) => Safety::Safe,
+    }
+}

@@ -1,0 +1,29 @@
+//! A second implementation of the scope paper "The log station's rights matrix and its safety question",
+//! written from the paper alone. The program `compare` asks it and the proved library the same questions.
+//!
+//! It is written to be read beside the paper: each rule is quoted where it stands, and nothing is made fast
+//! at the cost of being plain.
+
+mod calls;
+mod command;
+mod leak;
+mod list;
+mod record;
+mod rights;
+mod safety;
+mod search;
+mod state;
+mod valid;
+
+pub use calls::{Answer, Safety, command, held, run, safety, valid};
+pub use command::{Command, Uses, allowed, change, decode, uses};
+pub use leak::leaks_by;
+pub use list::{LIST_MAXIMUM, read_list, write_list};
+pub use record::{Station, read, record_length, write};
+pub use rights::{Cell, Form, Right};
+pub use safety::{Question, buffer_minimum, leaks, question};
+pub use search::{Names, leaks_by_definition, projected};
+pub use state::{Name, State, U, Walk};
+
+/// The number of a refusal, 1 to 16, as the table "When a call is turned down" has it.
+pub type Refusal = u64;

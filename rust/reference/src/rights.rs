@@ -1,0 +1,77 @@
+//! Rights, their codes, and the cells that hold them.
+
+/// "Plain or starred. The star is the source's copy flag."
+#[derive(Clone, Copy, Debug, PartialEq, Eq, PartialOrd, Ord, Hash)]
+pub enum Form {
+    Plain,
+    Starred,
+}
+
+/// "A right is own, control, or a basic right, plain or starred."
+#[derive(Clone, Copy, Debug, PartialEq, Eq, PartialOrd, Ord, Hash)]
+pub enum Right {
+    Own,
+    Control,
+    /// The basic right k, 0 to 6, and its form.
+    Basic(u64, Form),
+}
+
+impl Right {
+    /// The right of a code; none where the code is over 15.
+    pub fn from_code(code: u64) -> Option<Right> {
+        match code {
+            0 => Some(Right::Own),
+            1 => Some(Right::Control),
+            2..=15 if code.is_multiple_of(2) => Some(Right::Basic((code - 2) / 2, Form::Plain)),
+            2..=15 => Some(Right::Basic((code - 3) / 2, Form::Starred)),
+            _ => None,
+        }
+    }
+
+    /// "Its code is its bit number in the cell, bit 0 lowest: own 0, control 1, basic right k (0 to 6) plain
+    /// 2 + 2k, starred 3 + 2k."
+    pub fn code(self) -> u64 {
+        match self {
+            Right::Own => 0,
+            Right::Control => 1,
+            Right::Basic(k, Form::Plain) => 2 + 2 * k,
+            Right::Basic(k, Form::Starred) => 3 + 2 * k,
+        }
+    }
+}
+
+/// A cell of the matrix: the set of rights whose bits are set in it.
+#[derive(Clone, Copy, Debug, Default, PartialEq, Eq, PartialOrd, Ord, Hash)]
+pub struct Cell(pub u16);
+
+impl Cell {
+    /// The bit of this right alone.
+    fn bit(right: Right) -> u16 {
+        1 << right.code()
+    }
+
+    /// Whether the right's own bit is set.
+    pub fn has(self, right: Right) -> bool {
+        self.0 & Cell::bit(right) != 0
+    }
+
+    /// "A right is held if its bit is set, or, for a plain basic right, if the starred bit is."
+    pub fn held(self, right: Right) -> bool {
+        match right {
+            Right::Basic(k, Form::Plain) => {
+                self.has(right) || self.has(Right::Basic(k, Form::Starred))
+            }
+            _ => self.has(right),
+        }
+    }
+
+    /// The cell with the right's bit set.
+    pub fn with(self, right: Right) -> Cell {
+        Cell(self.0 | Cell::bit(right))
+    }
+
+    /// The cell with the right's bit cleared.
+    pub fn without(self, right: Right) -> Cell {
+        Cell(self.0 & !Cell::bit(right))
+    }
+}

@@ -1,0 +1,96 @@
+//! The safety question: its refusals, and its answer by the characterisation, for stations of any size.
+
+use std::collections::BTreeSet;
+
+use crate::Refusal;
+use crate::record::Station;
+use crate::rights::{Form, Right};
+use crate::state::{Name, State, U};
+
+/// A safety question: whether s can come to hold the right over o, if only untrusted subjects begin commands.
+#[derive(Clone, Copy, Debug, PartialEq, Eq, Hash)]
+pub struct Question {
+    /// "64-bit trust mask (bit s set: subject s is trusted, existing or not)."
+    pub trust: u64,
+    pub s: u64,
+    pub o: Name,
+    pub right: Right,
+}
+
+impl Question {
+    /// Names beyond the record are untrusted; the mask has no bit for names from 64 on.
+    pub fn trusted(&self, subject: u64) -> bool {
+        subject < 64 && self.trust >> subject & 1 == 1
+    }
+}
+
+/// The test 7 of a safety question: s ≥ n, o ≥ n + p, right > 15, trust bit ≥ n.
+pub fn question(
+    station: &Station,
+    trust: u64,
+    s: u64,
+    o: u64,
+    right: u64,
+) -> Result<Question, Refusal> {
+    let trust_bit_beyond = (station.n..64).any(|bit| trust >> bit & 1 == 1);
+    if s >= station.n || o >= station.n + station.p || trust_bit_beyond {
+        return Err(7);
+    }
+    let right = Right::from_code(right).ok_or(7u64)?;
+    let o = station.name(o);
+    Ok(Question { trust, s, o, right })
+}
+
+/// The test 15: the buffer has to have 5 + 6·(n + 2) bytes.
+pub fn buffer_minimum(n: u64) -> usize {
+    (5 + 6 * (n + 2)) as usize
+}
+
+/// Whether the question leaks: held at the start, or the right over o is possible for s, some untrusted
+/// subject exists, and o is absent, or an untrusted subject is above o, or the right is basic and an untrusted
+/// subject has it starred over o.
+pub fn leaks(station: &Station, q: &Question) -> bool {
+    let state = &station.state;
+    let untrusted: Vec<u64> = (0..station.n)
+        .filter(|s| !q.trusted(*s) && state.exists(Name::Subject(*s)))
+        .collect();
+    let above = above(state, q.o);
+    let reached = !state.exists(q.o)
+        || untrusted.iter().any(|v| above.contains(v))
+        || untrusted.iter().any(|v| has_star(state, *v, q));
+    state.held(q.s, q.o, q.right) || (possible(q) && !untrusted.is_empty() && reached)
+}
+
+/// Whether the right over o is one that s can hold in some valid state. Nobody owns U or itself, and no plain
+/// object is controlled; U has no controller but itself.
+fn possible(q: &Question) -> bool {
+    match (q.right, q.o) {
+        (Right::Own, Name::Plain(_)) => true,
+        (Right::Own, Name::Subject(o)) => o != U && o != q.s,
+        (Right::Control, Name::Plain(_)) => false,
+        (Right::Control, Name::Subject(o)) => o != U || q.s == U,
+        (Right::Basic(..), _) => true,
+    }
+}
+
+/// Whether the right is basic and v has it starred over o.
+fn has_star(state: &State, v: u64, q: &Question) -> bool {
+    match q.right {
+        Right::Basic(k, _) => state.has(v, q.o, Right::Basic(k, Form::Starred)),
+        _ => false,
+    }
+}
+
+/// "Above o means: an owner of o, or an owner of one of those, and so on up to U, which counts like any other."
+fn above(state: &State, o: Name) -> BTreeSet<u64> {
+    let mut above = BTreeSet::new();
+    let mut names = vec![o];
+    while let Some(name) = names.pop() {
+        for owner in state.rows_with(name, Right::Own) {
+            if above.insert(owner) {
+                names.push(Name::Subject(owner));
+            }
+        }
+    }
+    above
+}
