@@ -9,7 +9,7 @@ ghost use Rattle.matrix.specs.CommandList.{wellFormed, fieldsAt, commandPlace};
 ghost use Rattle.lists.specs.Forms.{lengthsRight, countRight};
 
 // A byte as a number.
-fn wide(x: u8) -> usize
+pub fn wide(x: u8) -> usize
     ensures { λ r. ⌜ (r ≡ x) × (r < 256) ⌝ }
 {
     x as usize
