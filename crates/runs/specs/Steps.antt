@@ -129,13 +129,12 @@ module _ {b₀ b b′ l : List ℕ} {n p m j : ℕ} {c : Fields} {r : Answer} (h
       }
 
 -- after the last command
-pub ran-all : {b₀ b l : List ℕ} {n p m j : ℕ} → Reached b₀ b l n p m j → j ≤ m → m ≤ j → RunOn b₀ b l (record { accepted = m; refusal = 0 })
-ran-all {b₀} {b} {l} {m = m} {j = j} h u d =
+pub ran-all : {b₀ b l : List ℕ} {n p m j : ℕ} → Reached b₀ b l n p m j → m ≤ j → RunOn b₀ b l (record { accepted = j; refusal = 0 })
+ran-all {b₀} {b} {l} {m = m} {j = j} h d =
     let z : m - j ≡ 0 = omega arith in
-    let e : j ≡ m = omega arith in
     let g : record { accepted = j; refusal = 0; state = stateOf b } ≡ ranOn b₀ l = sym (done z) ∙ h .rest in
     record {
-      outcome = λ i. record { accepted = (sym e ∙ ap (λ (x : Ran). x .accepted) g) i; refusal = g i .refusal };
+      outcome = λ i. record { accepted = g i .accepted; refusal = g i .refusal };
       became = record { shaped = h .station .shaped; octets = h .station .octets; shape = h .shape; state = ap (λ (x : Ran). x .state) g };
     }
   where

@@ -2,6 +2,7 @@
 
 use matrix::Answer;
 use matrix::Outcome;
+use reader::Read;
 ghost use mathlib.Core.Path.{_≡_};
 ghost use mathlib.Core.Bool.{true};
 ghost use Rattle.matrix.specs.Step.{numberOf};
@@ -24,10 +25,11 @@ pub fn run_on(b: &mut [u8], n: usize, p: usize, l: &[u8]) -> Outcome
     requires { ⌜ Station (now b) n p × (wellFormed (now l) ≡ true) ⌝ }
     ensures { λ r. ⌜ RunOn (now (b .entry)) (now (b .exit)) (now (l .entry)) r ⌝ }
 {
-    let m = lists::count(l) / 6;
     let mut j = 0;
-    while j < m {
-        let c = lists::fields(l, j);
+    loop {
+        let Read::Command(c, after) = reader::read_one(l, j) else {
+            break;
+        };
         let answer = commands::command_on(b, n, p, c);
         let Answer::Accepted(_) = answer else {
             return Outcome {
@@ -35,10 +37,10 @@ pub fn run_on(b: &mut [u8], n: usize, p: usize, l: &[u8]) -> Outcome
                 refusal: number_of(answer),
             };
         };
-        j += 1;
+        j = after;
     }
     Outcome {
-        accepted: m,
+        accepted: j,
         refusal: 0,
     }
 }
