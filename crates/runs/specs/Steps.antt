@@ -140,3 +140,10 @@ ran-all {b₀} {b} {l} {m = m} {j = j} h d =
   where
     done : m - j ≡ 0 → runFrom j (shapeOf b₀) (stateOf b) (commandsFrom l j (m - j)) ≡ record { accepted = j; refusal = 0; state = stateOf b }
     done z = ap (λ (k : ℕ). runFrom j (shapeOf b₀) (stateOf b) (commandsFrom l j k)) z ∙ none-left j (shapeOf b₀) (stateOf b) l j
+
+-- an equal number in the place of the number of commands
+pub reached-as : {b₀ b l : List ℕ} {n p m j k : ℕ} → k ≡ j → Reached b₀ b l n p m j → Reached b₀ b l n p m k
+reached-as e h = rw e h
+
+pub counted-as : {b₀ b l : List ℕ} {j k r : ℕ} → k ≡ j → RunOn b₀ b l (record { accepted = j; refusal = r }) → RunOn b₀ b l (record { accepted = k; refusal = r })
+counted-as e w = rw e w

@@ -25,22 +25,24 @@ pub fn run_on(b: &mut [u8], n: usize, p: usize, l: &[u8]) -> Outcome
     requires { ⌜ Station (now b) n p × (wellFormed (now l) ≡ true) ⌝ }
     ensures { λ r. ⌜ RunOn (now (b .entry)) (now (b .exit)) (now (l .entry)) r ⌝ }
 {
-    let mut j = 0;
+    let mut accepted = 0;
+    let mut at = 0;
     loop {
-        let Read::Command(c, after) = reader::read_one(l, j) else {
+        let Read::Command(c, after) = reader::read_one(l, at) else {
             break;
         };
         let answer = commands::command_on(b, n, p, c);
         let Answer::Accepted(_) = answer else {
             return Outcome {
-                accepted: j,
+                accepted,
                 refusal: number_of(answer),
             };
         };
-        j = after;
+        accepted += 1;
+        at = after;
     }
     Outcome {
-        accepted: j,
+        accepted,
         refusal: 0,
     }
 }

@@ -1,23 +1,23 @@
 -- `runs::run_on` meets its contract. The loop's invariant: what is left of the run ends as the whole run does.
 use borrow.Author.Needs.{needs}
-use Prim.Native.Nat.{_-_}
+use Prim.Native.Nat.{ℕ, _+_, _-_}
 use native.Mathlib.Omega.{arith}
-use mathlib.Core.Path.{refl, sym, _∙_}
+use mathlib.Core.Path.{_≡_, refl, sym, _∙_, ap}
 use Rattle.matrix.specs.CommandList.{commandsIn}
 use Rattle.reader.specs.Left.{yields-command, yields-end}
 use Rattle.runs.specs.Reached.{Reached}
-use Rattle.runs.specs.Steps.{reached-none, reached-more, ran-refused, ran-all}
+use Rattle.runs.specs.Steps.{reached-none, reached-more, reached-as, ran-refused, ran-all, counted-as}
 use Rattle.runs.proofs.run_on.Statement.{statement}
 use Rattle.runs.proofs.run_on.Tie as tie
 
 abbrev Inv-loop : tie.InvT-loop
-Inv-loop b₀ n p l j₀ b j = Reached b₀ b l n p (commandsIn l) j
+Inv-loop b₀ n p l accepted₀ at₀ b accepted at = (accepted ≡ at) × Reached b₀ b l n p (commandsIn l) at
 
 abbrev μ-loop : tie.MeasureT-loop
-μ-loop b₀ n p l j₀ b j = commandsIn l - j
+μ-loop b₀ n p l accepted₀ at₀ b accepted at = commandsIn l - at
 
 loop-holds : tie.Need-loop-holds Inv-loop μ-loop
-loop-holds c = reached-none (c .before .before .pre .0) refl
+loop-holds c = (refl, reached-none (c .before .before .pre .0) refl)
 
 read-one-requires : tie.Need-read-one-requires Inv-loop μ-loop
 read-one-requires c κs = c .before .before .before .pre .1
@@ -29,7 +29,7 @@ enum-told : tie.Need-enum-told Inv-loop μ-loop
 enum-told c = search needs
 
 command-on-requires : tie.Need-command-on-requires Inv-loop μ-loop
-command-on-requires c κs = c .before .before .before .before .before .loop .inv .station
+command-on-requires c κs = c .before .before .before .before .before .loop .inv .1 .station
 
 enum-told-2 : tie.Need-enum-told-2 Inv-loop μ-loop
 enum-told-2 c = search needs
@@ -41,12 +41,17 @@ number-of-requires : tie.Need-number-of-requires Inv-loop μ-loop
 number-of-requires c κs = search needs
 
 same-length : tie.Need-same-length Inv-loop μ-loop
-same-length c = c .before .before .before .before .before .command-on .kept .0 ∙ c .before .before .before .before .before .before .before .before .before .before .before .loop .inv .size
+same-length c = c .before .before .before .before .before .command-on .kept .0 ∙ c .before .before .before .before .before .before .before .before .before .before .before .loop .inv .1 .size
 
 returns : tie.Need-returns Inv-loop μ-loop
 returns c =
     let y = yields-command _ _ (sym (c .before .before .before .before .before .before .before .before .c .given .1) ∙ c .before .before .before .before .before .before .before .before .before .before .read-one .ensures) in
-    ran-refused (c .before .before .before .before .before .before .before .before .before .before .before .loop .inv) (y .more) (y .fields) (c .before .before .before .before .before .command-on .ensures) (c .before .enum-told3 .given .1) (c .number-of .ensures)
+    counted-as (c .before .before .before .before .before .before .before .before .before .before .before .loop .inv .0) (ran-refused (c .before .before .before .before .before .before .before .before .before .before .before .loop .inv .1) (y .more) (y .fields) (c .before .before .before .before .before .command-on .ensures) (c .before .enum-told3 .given .1) (c .number-of .ensures))
+
+add-accepted : tie.Need-add-accepted Inv-loop μ-loop
+add-accepted c =
+    let y = yields-command _ _ (sym (c .before .before .before .before .before .before .before .c .given .1) ∙ c .before .before .before .before .before .before .before .before .before .read-one .ensures) in
+    omega (arith, y .moved, c .before .before .before .before .before .before .before .before .before .before .loop .inv .0)
 
 loop-less : tie.Need-loop-less Inv-loop μ-loop
 loop-less c =
@@ -56,13 +61,13 @@ loop-less c =
 loop-again : tie.Need-loop-again Inv-loop μ-loop
 loop-again c =
     let y = yields-command _ _ (sym (c .before .before .before .before .before .before .before .c .given .1) ∙ c .before .before .before .before .before .before .before .before .before .read-one .ensures) in
-    rw (y .moved) (reached-more (c .before .before .before .before .before .before .before .before .before .before .loop .inv) (y .more) (y .fields) (c .before .before .before .before .command-on .ensures) (c .enum-told2 .given .1))
+    (ap (λ (k : ℕ). k + 1) (c .before .before .before .before .before .before .before .before .before .before .loop .inv .0) ∙ sym (y .moved), reached-as (y .moved) (reached-more (c .before .before .before .before .before .before .before .before .before .before .loop .inv .1) (y .more) (y .fields) (c .before .before .before .before .command-on .ensures) (c .enum-told2 .given .1)))
 
 same-length-2 : tie.Need-same-length-2 Inv-loop μ-loop
-same-length-2 c = c .before .before .before .loop .inv .size
+same-length-2 c = c .before .before .before .loop .inv .1 .size
 
 returns-2 : tie.Need-returns-2 Inv-loop μ-loop
-returns-2 c = ran-all (c .before .before .before .loop .inv) (yields-end _ _ (sym (c .enum-told .given .1) ∙ c .before .before .read-one .ensures))
+returns-2 c = counted-as (c .before .before .before .loop .inv .0) (ran-all (c .before .before .before .loop .inv .1) (yields-end _ _ (sym (c .enum-told .given .1) ∙ c .before .before .read-one .ensures)))
 
 pub run-on-spec : {M : Type 1} → statement M
 run-on-spec =
@@ -80,6 +85,7 @@ run-on-spec =
     number-of-requires
     same-length
     returns
+    add-accepted
     loop-less
     loop-again
     same-length-2
