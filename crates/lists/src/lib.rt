@@ -1,15 +1,14 @@
-// A list of commands: its form, and the fields of a command in it.
+// A list of commands: its form, and the numbers in it.
 
-use matrix::Fields;
 ghost use mathlib.Core.Path.{_≡_};
 ghost use Prim.Native.Nat.{_+_, _*_, _≤_, _<_};
 ghost use lib.ListN.{length};
 ghost use Rattle.matrix.specs.Bytes.{numberAt};
-ghost use Rattle.matrix.specs.CommandList.{wellFormed, fieldsAt, commandPlace};
+ghost use Rattle.matrix.specs.CommandList.{wellFormed};
 ghost use Rattle.lists.specs.Forms.{lengthsRight, countRight};
 
 // A byte as a number.
-fn wide(x: u8) -> usize
+pub fn wide(x: u8) -> usize
     ensures { λ r. ⌜ (r ≡ x) × (r < 256) ⌝ }
 {
     x as usize
@@ -28,7 +27,7 @@ pub fn number(l: &[u8], at: usize) -> usize
 }
 
 // The number of bytes after the head, as the list says it.
-pub fn count(l: &[u8]) -> usize
+fn count(l: &[u8]) -> usize
     requires { ⌜ 5 ≤ length (now l) ⌝ }
     ensures { λ r. ⌜ r ≡ numberAt (now (l .entry)) 1 4 ⌝ }
 {
@@ -77,18 +76,4 @@ pub fn well_formed(l: &[u8]) -> bool
     }
     let n = count(l);
     count_right(l, n)
-}
-
-// The fields of the command numbered j.
-pub fn fields(l: &[u8], j: usize) -> Fields
-    requires { ⌜ commandPlace j + 6 ≤ length (now l) ⌝ }
-    ensures { λ c. ⌜ c ≡ fieldsAt (now (l .entry)) (commandPlace j) ⌝ }
-{
-    let at = 5 + 6 * j;
-    let code = wide(l[at + 1]);
-    let i = wide(l[at + 2]);
-    let s = wide(l[at + 3]);
-    let o = wide(l[at + 4]);
-    let k = wide(l[at + 5]);
-    Fields { code, i, s, o, k }
 }

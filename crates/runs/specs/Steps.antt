@@ -129,15 +129,21 @@ module _ {b₀ b b′ l : List ℕ} {n p m j : ℕ} {c : Fields} {r : Answer} (h
       }
 
 -- after the last command
-pub ran-all : {b₀ b l : List ℕ} {n p m j : ℕ} → Reached b₀ b l n p m j → j ≤ m → m ≤ j → RunOn b₀ b l (record { accepted = m; refusal = 0 })
-ran-all {b₀} {b} {l} {m = m} {j = j} h u d =
+pub ran-all : {b₀ b l : List ℕ} {n p m j : ℕ} → Reached b₀ b l n p m j → m ≤ j → RunOn b₀ b l (record { accepted = j; refusal = 0 })
+ran-all {b₀} {b} {l} {m = m} {j = j} h d =
     let z : m - j ≡ 0 = omega arith in
-    let e : j ≡ m = omega arith in
     let g : record { accepted = j; refusal = 0; state = stateOf b } ≡ ranOn b₀ l = sym (done z) ∙ h .rest in
     record {
-      outcome = λ i. record { accepted = (sym e ∙ ap (λ (x : Ran). x .accepted) g) i; refusal = g i .refusal };
+      outcome = λ i. record { accepted = g i .accepted; refusal = g i .refusal };
       became = record { shaped = h .station .shaped; octets = h .station .octets; shape = h .shape; state = ap (λ (x : Ran). x .state) g };
     }
   where
     done : m - j ≡ 0 → runFrom j (shapeOf b₀) (stateOf b) (commandsFrom l j (m - j)) ≡ record { accepted = j; refusal = 0; state = stateOf b }
     done z = ap (λ (k : ℕ). runFrom j (shapeOf b₀) (stateOf b) (commandsFrom l j k)) z ∙ none-left j (shapeOf b₀) (stateOf b) l j
+
+-- an equal number in the place of the number of commands
+pub reached-as : {b₀ b l : List ℕ} {n p m j k : ℕ} → k ≡ j → Reached b₀ b l n p m j → Reached b₀ b l n p m k
+reached-as e h = rw e h
+
+pub counted-as : {b₀ b l : List ℕ} {j k r : ℕ} → k ≡ j → RunOn b₀ b l (record { accepted = j; refusal = r }) → RunOn b₀ b l (record { accepted = k; refusal = r })
+counted-as e w = rw e w

@@ -2,6 +2,7 @@
 
 use matrix::Answer;
 use matrix::Outcome;
+use reader::Read;
 ghost use mathlib.Core.Path.{_≡_};
 ghost use mathlib.Core.Bool.{true};
 ghost use Rattle.matrix.specs.Step.{numberOf};
@@ -24,21 +25,24 @@ pub fn run_on(b: &mut [u8], n: usize, p: usize, l: &[u8]) -> Outcome
     requires { ⌜ Station (now b) n p × (wellFormed (now l) ≡ true) ⌝ }
     ensures { λ r. ⌜ RunOn (now (b .entry)) (now (b .exit)) (now (l .entry)) r ⌝ }
 {
-    let m = lists::count(l) / 6;
-    let mut j = 0;
-    while j < m {
-        let c = lists::fields(l, j);
+    let mut accepted = 0;
+    let mut at = 0;
+    loop {
+        let Read::Command(c, after) = reader::read_one(l, at) else {
+            break;
+        };
         let answer = commands::command_on(b, n, p, c);
         let Answer::Accepted(_) = answer else {
             return Outcome {
-                accepted: j,
+                accepted,
                 refusal: number_of(answer),
             };
         };
-        j += 1;
+        accepted += 1;
+        at = after;
     }
     Outcome {
-        accepted: m,
+        accepted,
         refusal: 0,
     }
 }

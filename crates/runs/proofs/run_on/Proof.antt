@@ -1,69 +1,73 @@
 -- `runs::run_on` meets its contract. The loop's invariant: what is left of the run ends as the whole run does.
 use borrow.Author.Needs.{needs}
-use Prim.Native.Nat.{ℕ, _-_, _/_, _≤_}
+use Prim.Native.Nat.{ℕ, _+_, _-_}
 use native.Mathlib.Omega.{arith}
-use mathlib.Core.Path.{_∙_, ap}
-use Rattle.lists.specs.Formed.{formed}
+use mathlib.Core.Path.{_≡_, refl, sym, _∙_, ap}
+use Rattle.matrix.specs.CommandList.{commandsIn}
+use Rattle.reader.specs.Left.{yields-command, yields-end}
 use Rattle.runs.specs.Reached.{Reached}
-use Rattle.runs.specs.Steps.{reached-none, reached-more, ran-refused, ran-all}
+use Rattle.runs.specs.Steps.{reached-none, reached-more, reached-as, ran-refused, ran-all, counted-as}
 use Rattle.runs.proofs.run_on.Statement.{statement}
 use Rattle.runs.proofs.run_on.Tie as tie
-use Rattle.runs.proofs.run_on.Reads as reads
-use Rattle.runs.proofs.run_on.Lts as lts
-use Rattle.commands.proofs.command_on.Reads as command-on-reads
-use Rattle.lists.proofs.count.Reads as count-reads
-use Rattle.lists.proofs.fields.Reads as fields-reads
-use Rattle.runs.proofs.number_of.Reads as number-of-reads
 
 abbrev Inv-loop : tie.InvT-loop
-Inv-loop b₀ n p l m j₀ b j = (j ≤ m) × Reached b₀ b l n p m j
+Inv-loop b₀ n p l accepted₀ at₀ b accepted at = (accepted ≡ at) × Reached b₀ b l n p (commandsIn l) at
 
 abbrev μ-loop : tie.MeasureT-loop
-μ-loop b₀ n p l m j₀ b j = m - j
-
-count-requires : tie.Need-count-requires Inv-loop μ-loop
-count-requires c κs = formed _ (c .before .before .pre .1) .long
+μ-loop b₀ n p l accepted₀ at₀ b accepted at = commandsIn l - at
 
 loop-holds : tie.Need-loop-holds Inv-loop μ-loop
-loop-holds c = (search needs, reached-none (c .before .before .before .pre .0) (ap (λ (k : ℕ). k / 6) (c .count .ensures)))
+loop-holds c = (refl, reached-none (c .before .before .pre .0) refl)
 
-fields-requires : tie.Need-fields-requires Inv-loop μ-loop
-fields-requires c κs =
-    let w = formed _ (c .before .before .before .before .before .pre .1) in
-    omega (arith, w .size, w .whole, c .before .before .count .ensures)
+read-one-requires : tie.Need-read-one-requires Inv-loop μ-loop
+read-one-requires c κs = c .before .before .before .pre .1
 
-command-on-requires : tie.Need-command-on-requires Inv-loop μ-loop
-command-on-requires c κs = c .before .before .before .loop .inv .1 .station
+enum-known-c : tie.Need-enum-known-c Inv-loop μ-loop
+enum-known-c c = search needs
 
 enum-told : tie.Need-enum-told Inv-loop μ-loop
 enum-told c = search needs
 
+command-on-requires : tie.Need-command-on-requires Inv-loop μ-loop
+command-on-requires c κs = c .before .before .before .before .before .loop .inv .1 .station
+
 enum-told-2 : tie.Need-enum-told-2 Inv-loop μ-loop
 enum-told-2 c = search needs
+
+enum-told-3 : tie.Need-enum-told-3 Inv-loop μ-loop
+enum-told-3 c = search needs
 
 number-of-requires : tie.Need-number-of-requires Inv-loop μ-loop
 number-of-requires c κs = search needs
 
 same-length : tie.Need-same-length Inv-loop μ-loop
-same-length c = c .before .before .before .before .before .command-on .kept .0 ∙ c .before .before .before .before .before .before .before .before .before .loop .inv .1 .size
+same-length c = c .before .before .before .before .before .command-on .kept .0 ∙ c .before .before .before .before .before .before .before .before .before .before .before .loop .inv .1 .size
 
 returns : tie.Need-returns Inv-loop μ-loop
-returns c = ran-refused (c .before .before .before .before .before .before .before .before .before .loop .inv .1) (c .before .before .before .before .before .before .before .before .loop-test .taken) (c .before .before .before .before .before .before .before .fields .ensures) (c .before .before .before .before .before .command-on .ensures) (c .before .enum-told2 .given .1) (c .number-of .ensures)
+returns c =
+    let y = yields-command _ _ (sym (c .before .before .before .before .before .before .before .before .c .given .1) ∙ c .before .before .before .before .before .before .before .before .before .before .read-one .ensures) in
+    counted-as (c .before .before .before .before .before .before .before .before .before .before .before .loop .inv .0) (ran-refused (c .before .before .before .before .before .before .before .before .before .before .before .loop .inv .1) (y .more) (y .fields) (c .before .before .before .before .before .command-on .ensures) (c .before .enum-told3 .given .1) (c .number-of .ensures))
 
-add-j : tie.Need-add-j Inv-loop μ-loop
-add-j c = search needs
+add-accepted : tie.Need-add-accepted Inv-loop μ-loop
+add-accepted c =
+    let y = yields-command _ _ (sym (c .before .before .before .before .before .before .before .c .given .1) ∙ c .before .before .before .before .before .before .before .before .before .read-one .ensures) in
+    omega (arith, y .moved, c .before .before .before .before .before .before .before .before .before .before .loop .inv .0)
 
 loop-less : tie.Need-loop-less Inv-loop μ-loop
-loop-less c = search needs
+loop-less c =
+    let y = yields-command _ _ (sym (c .before .before .before .before .before .before .before .c .given .1) ∙ c .before .before .before .before .before .before .before .before .before .read-one .ensures) in
+    omega (arith, y .more, y .moved)
 
 loop-again : tie.Need-loop-again Inv-loop μ-loop
-loop-again c = (search needs, reached-more (c .before .before .before .before .before .before .before .before .loop .inv .1) (c .before .before .before .before .before .before .before .loop-test .taken) (c .before .before .before .before .before .before .fields .ensures) (c .before .before .before .before .command-on .ensures) (c .enum-told .given .1))
+loop-again c =
+    let y = yields-command _ _ (sym (c .before .before .before .before .before .before .before .c .given .1) ∙ c .before .before .before .before .before .before .before .before .before .read-one .ensures) in
+    (ap (λ (k : ℕ). k + 1) (c .before .before .before .before .before .before .before .before .before .before .loop .inv .0) ∙ sym (y .moved), reached-as (y .moved) (reached-more (c .before .before .before .before .before .before .before .before .before .before .loop .inv .1) (y .more) (y .fields) (c .before .before .before .before .command-on .ensures) (c .enum-told2 .given .1)))
 
 same-length-2 : tie.Need-same-length-2 Inv-loop μ-loop
-same-length-2 c = c .before .loop .inv .1 .size
+same-length-2 c = c .before .before .before .loop .inv .1 .size
 
 returns-2 : tie.Need-returns-2 Inv-loop μ-loop
-returns-2 c = ran-all (c .before .loop .inv .1) (c .before .loop .inv .0) (c .loop-test .left)
+returns-2 c = counted-as (c .before .before .before .loop .inv .0) (ran-all (c .before .before .before .loop .inv .1) (yields-end _ _ (sym (c .enum-told .given .1) ∙ c .before .before .read-one .ensures)))
 
 pub run-on-spec : {M : Type 1} → statement M
 run-on-spec =
@@ -71,16 +75,17 @@ run-on-spec =
     (tie.spec
     Inv-loop
     μ-loop
-    count-requires
     loop-holds
-    fields-requires
-    command-on-requires
+    read-one-requires
+    enum-known-c
     enum-told
+    command-on-requires
     enum-told-2
+    enum-told-3
     number-of-requires
     same-length
     returns
-    add-j
+    add-accepted
     loop-less
     loop-again
     same-length-2

@@ -1,9 +1,9 @@
--- `lists::fields` meets its contract.
+-- `reader::fields` meets its contract.
 use Rattle.matrix.specs.CommandList.{commandPlace}
 use Rattle.lists.specs.Forms.{fields-of}
 use borrow.Author.Needs.{needs}
-use Rattle.lists.proofs.fields.Statement.{statement}
-use Rattle.lists.proofs.fields.Tie as tie
+use Rattle.reader.proofs.fields.Statement.{statement}
+use Rattle.reader.proofs.fields.Tie as tie
 
 mul-at : tie.Need-mul-at
 mul-at c = search needs
