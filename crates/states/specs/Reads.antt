@@ -20,7 +20,7 @@ use Rattle.matrix.specs.Tests.{otherController}
 use Rattle.matrix.specs.Bytes.{bit}
 use Rattle.matrix.specs.Shape.{shapeOf}
 use Rattle.matrix.specs.Reading.{cellAt, stateOf}
-use Rattle.laws.specs.Bounded.{least-same, any-least}
+use Rattle.laws.specs.Bounded.{any-hit, least-same, any-least}
 use Rattle.codec.specs.Codes.{codeOf-room}
 use Rattle.codec.specs.Columns.{named-below}
 use Rattle.codec.specs.Update.{bit-named}
@@ -81,6 +81,12 @@ object-found {b} {n} {p} {o} {r} {x} h e f =
     let q : named n p (Plain o) ≡ true = subst (λ (x : Name). named n p x ≡ true) e (h .column) in
     ap₂ (λ (m k : ℕ). ltb m k) (f ∙ search-bit b n p (h .station) Own (Plain o) (omega arith) q) (sym (top-is b n p (h .station)))
     ∙ sym (any-least (stateOf b .top) (λ w. stateOf b .owns w (Plain o)))
+    ∙ sym (ap (λ (x : Name). existsName (stateOf b) x) e)
+
+-- an object exists where the test t of a row for own is passed
+pub object-owned : {b : List ℕ} {n p o i : ℕ} {x : Name} {t : Bool} → NameIn b n p x → x ≡ Plain o → i < n → t ≡ stateOf b .owns i x → t ≡ true → true ≡ existsName (stateOf b) x
+object-owned {b} {n} {p} {o} {i} h e l own f =
+    sym (any-hit (stateOf b .top) (λ w. stateOf b .owns w (Plain o)) i (rw (top-is b n p (h .station)) l) (sym (own ∙ ap (λ (x : Name). stateOf b .owns i x) e) ∙ f))
     ∙ sym (ap (λ (x : Name). existsName (stateOf b) x) e)
 
 -- a subject is controlled by another where the search of its column finds a row r

@@ -82,6 +82,23 @@ pub fn name_exists(b: &[u8], n: usize, p: usize, x: Name) -> bool
     }
 }
 
+// Whether a name exists, asked for subject i, who is likely to own it: a plain object that i owns exists, and the search for another owner
+// is left out.
+pub fn exists_by(b: &[u8], n: usize, p: usize, i: usize, x: Name) -> bool
+    requires { ⌜ NameIn (now b) n p x × (i < n) ⌝ }
+    ensures { λ t. ⌜ t ≡ existsName (stateOf (now (b .entry))) x ⌝ }
+{
+    match x {
+        Name::Subject(s) => subject_exists(b, n, p, s),
+        Name::Plain(_) => {
+            if has_bit(b, n, p, Right::Own, i, x) {
+                return true;
+            }
+            name_exists(b, n, p, x)
+        }
+    }
+}
+
 // Whether a subject other than o controls subject o.
 pub fn controlled(b: &[u8], n: usize, p: usize, o: usize) -> bool
     requires { ⌜ Station (now b) n p × (o < n) ⌝ }
