@@ -24,9 +24,10 @@ use Rattle.laws.specs.Bounded.{any-hit, least-same, any-least}
 use Rattle.codec.specs.Codes.{codeOf-room}
 use Rattle.codec.specs.Columns.{named-below}
 use Rattle.codec.specs.Update.{bit-named}
+use Rattle.owners.specs.Framed.{valid-framed, owner-same}
 use Rattle.cells.specs.Station.{Station}
 use Rattle.cells.specs.Rows.{rowHas}
-use Rattle.states.specs.Needs.{basicOf, NameIn}
+use Rattle.states.specs.Needs.{basicOf, NameIn, Guessed}
 
 -- the code of a right whose basic right is below 7 is below 16
 pub code-small : (y : Right) → basicOf y < 7 → codeOf y < 16
@@ -98,3 +99,7 @@ other-found {b} {n} {p} {o} {r} h l f =
 -- the owner of a subject is what the search of its column finds
 pub owner-is : {b : List ℕ} {n p s r : ℕ} → Station b n p → s < n → r ≡ least n (rowHas b s 0 n) → r ≡ ownerOf (stateOf b .top) (stateOf b .owns) s
 owner-is {b} {n} {p} {s} h l f = f ∙ search-bit b n p h Own (Subject s) (omega arith) (lt-ltb s n l)
+
+-- a row that passes the test t for own of a subject is its owner, where the record is valid
+pub owner-guessed : {b owners : List ℕ} {n p w : ℕ} {t : Bool} (v : ℕ) → Guessed b n p owners → t ≡ stateOf b .owns w (Subject v) → t ≡ true → w ≡ ownerOf (stateOf b .top) (stateOf b .owns) v
+owner-guessed {w = w} v h e f = owner-same (valid-framed (h .valid)) w v (sym e ∙ f)

@@ -16,10 +16,10 @@ use Rattle.lists.proofs.fields.Reads as fields-reads
 use Rattle.runs.proofs.number_of.Reads as number-of-reads
 
 abbrev Inv-loop : tie.InvT-loop
-Inv-loop b₀ n p l m j₀ b j = (j ≤ m) × Reached b₀ b l n p m j
+Inv-loop b₀ n p owners l m j₀ b j = (j ≤ m) × Reached b₀ b l n p m j
 
 abbrev μ-loop : tie.MeasureT-loop
-μ-loop b₀ n p l m j₀ b j = m - j
+μ-loop b₀ n p owners l m j₀ b j = m - j
 
 count-requires : tie.Need-count-requires Inv-loop μ-loop
 count-requires c κs = formed _ (c .before .before .pre .1) .long
@@ -33,7 +33,9 @@ fields-requires c κs =
     omega (arith, w .size, w .whole, c .before .before .count .ensures)
 
 command-on-requires : tie.Need-command-on-requires Inv-loop μ-loop
-command-on-requires c κs = c .before .before .before .loop .inv .1 .station
+command-on-requires c κs =
+    let r = c .before .before .before .loop .inv .1 in
+    record { station = r .station; valid = r .valid; size = c .before .before .before .before .before .before .before .pre .0 .size }
 
 enum-told : tie.Need-enum-told Inv-loop μ-loop
 enum-told c = search needs
