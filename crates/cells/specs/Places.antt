@@ -1,6 +1,6 @@
 -- Where the cells of a record stand, in numbers: what the code computes is what the definitions say.
 use Prim.Native.Nat.{ℕ, _+_, _*_, _/_, _%_, _≤_, _<_}
-use native.Mathlib.Nat.{add-zero, zero-add, le-trans, mul-le-mul-left, mul-le-mul-right}
+use native.Mathlib.Nat.{add-zero, zero-add, add-mul, le-trans, mul-le-mul-left, mul-le-mul-right}
 use native.Mathlib.Omega.{arith}
 use mathlib.Core.Path.{_≡_, refl, sym, _∙_, ap₂, subst}
 use mathlib.Core.List.{List}
@@ -14,6 +14,10 @@ use Rattle.cells.specs.Station.{Station}
 -- the place of a cell in a record of n subject names and p plain names
 abbrev pub placeOf : ℕ → ℕ → ℕ → ℕ → ℕ
 placeOf n p r c = 7 + 2 * (r * (n + p) + c)
+
+-- a column's cells stand a row apart
+pub place-next : (n p r c : ℕ) → placeOf n p (r + 1) c ≡ placeOf n p r c + 2 * (n + p)
+place-next n p r c = let e : (r + 1) * (n + p) ≡ r * (n + p) + (n + p) = omega (arith, add-mul r 1 (n + p)) in omega arith
 
 -- a cell's number among the cells of n rows of m is below n * m
 pub cell-index : {n m r c : ℕ} → r < n → c < m → r * m + c < n * m

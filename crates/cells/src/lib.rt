@@ -46,17 +46,21 @@ pub fn bit_of(v: usize, j: usize) -> bool
     (v >> j) % 2 == 1
 }
 
-// The lowest row but `skip` that has bit j in column c, or n if there is none.
+// The lowest row but `skip` that has bit j in column c, or n if there is none. Bits 0 to 7 stand in a cell's low byte, so that alone is
+// read; `at` is its place in row r.
 pub fn first_row(b: &[u8], n: usize, p: usize, c: usize, j: usize, skip: usize) -> usize
-    requires { ⌜ Station (now b) n p × (c < n + p) × (j < 64) ⌝ }
+    requires { ⌜ Station (now b) n p × (c < n + p) × (j < 8) ⌝ }
     ensures { λ w. ⌜ w ≡ least n (rowHas (now (b .entry)) c j skip) ⌝ }
 {
+    let stride = 2 * (n + p);
+    let mut at = 8 + 2 * c;
     for r in 0..n {
         if r != skip {
-            if bit_of(cell(b, n, p, r, c), j) {
+            if bit_of(b[at] as usize, j) {
                 return r;
             }
         }
+        at += stride;
     }
     n
 }

@@ -9,11 +9,9 @@ ghost use mathlib.Core.Path.{_≡_};
 ghost use Prim.Native.Nat.{_<_};
 ghost use lib.ListN.{length};
 ghost use Rattle.matrix.specs.Bounded.{least};
-ghost use Rattle.matrix.specs.Owners.{ownerOf, walk, meets};
+ghost use Rattle.matrix.specs.Owners.{walk, meets};
 ghost use Rattle.matrix.specs.Reading.{stateOf};
-ghost use Rattle.cells.specs.Station.{Station};
-ghost use Rattle.states.specs.Needs.{basicOf, NameIn};
-ghost use Rattle.owner_table.specs.Tabled.{Tabled};
+ghost use Rattle.states.specs.Needs.{basicOf, NameIn, Guessed};
 ghost use Rattle.question.specs.Trust.{trustedBy};
 ghost use Rattle.safe.specs.Possible.{possible};
 ghost use Rattle.finish.specs.Finish.{againNeeded};
@@ -27,24 +25,9 @@ pub enum Climbed {
     None,
 }
 
-// The owner of subject v by the table of owners, or n if it has none. The table says nothing of a subject that nobody owns, so its entry
-// counts only where the bit is set.
-fn owner_of(b: &[u8], n: usize, p: usize, owners: &[u8; 128], v: usize) -> usize
-    requires { ⌜ Station (now b) n p × (v < n) × (length (now owners) ≡ 128) × Tabled (stateOf (now b)) (now owners) ⌝ }
-    ensures { λ r. ⌜ r ≡ ownerOf (stateOf (now (b .entry)) .top) (stateOf (now (b .entry)) .owns) v ⌝ }
-{
-    let entry = owners[2 * v + 1];
-    if n as u8 <= entry {
-        return n;
-    }
-    let w = entry as usize;
-    let owned = states::has_bit(b, n, p, Right::Own, w, Name::Subject(v));
-    if owned { w } else { n }
-}
-
 // The owner to whom the way up goes on from subject v, or n where it ends: at U, at a member of `closed`, and without an owner.
 fn next_up(b: &[u8], n: usize, p: usize, owners: &[u8; 128], closed: u64, v: usize) -> usize
-    requires { ⌜ Station (now b) n p × (v < n) × (length (now owners) ≡ 128) × Tabled (stateOf (now b)) (now owners) ⌝ }
+    requires { ⌜ Guessed (now b) n p (now owners) × (v < n) ⌝ }
     ensures { λ r. ⌜ Next (stateOf (now (b .entry))) closed v r ⌝ }
 {
     if v == 0 {
@@ -53,7 +36,7 @@ fn next_up(b: &[u8], n: usize, p: usize, owners: &[u8; 128], closed: u64, v: usi
     if masks::has(closed, v) {
         return n;
     }
-    owner_of(b, n, p, owners, v)
+    states::owner_of(b, n, p, owners, v)
 }
 
 // The way up from subject w. The trusted subjects passed are kept in `path`, in the order in which they are met. `closed` are subjects from
@@ -69,7 +52,7 @@ fn rise_from(
     closed: &mut u64,
     path: &mut [u8; 64],
 ) -> Climbed
-    requires { ⌜ Station (now b) n p × (w < n) × (length (now owners) ≡ 128) × Tabled (stateOf (now b)) (now owners) × ShutAll (stateOf (now b)) (trustedBy trust) (now closed) × (length (now path) ≡ 64) ⌝ }
+    requires { ⌜ Guessed (now b) n p (now owners) × (w < n) × ShutAll (stateOf (now b)) (trustedBy trust) (now closed) × (length (now path) ≡ 64) ⌝ }
     ensures { λ r. ⌜ Rises (now (b .entry)) n (trustedBy trust) w (now (path .exit)) r × ShutAll (stateOf (now (b .entry))) (trustedBy trust) (now (closed .exit)) ⌝ }
 {
     let mut at = w;
@@ -108,7 +91,7 @@ fn owner_rise(
     closed: &mut u64,
     path: &mut [u8; 64],
 ) -> Climbed
-    requires { ⌜ NameIn (now b) n p x × (w < n) × (length (now owners) ≡ 128) × Tabled (stateOf (now b)) (now owners) × ShutAll (stateOf (now b)) (trustedBy trust) (now closed) × (length (now path) ≡ 64) ⌝ }
+    requires { ⌜ NameIn (now b) n p x × Guessed (now b) n p (now owners) × (w < n) × ShutAll (stateOf (now b)) (trustedBy trust) (now closed) × (length (now path) ≡ 64) ⌝ }
     ensures { λ r. ⌜ OwnerRises (now (b .entry)) n (trustedBy trust) x w (now (path .exit)) r × ShutAll (stateOf (now (b .entry))) (trustedBy trust) (now (closed .exit)) ⌝ }
 {
     if !states::has_bit(b, n, p, Right::Own, w, x) {
@@ -128,7 +111,7 @@ pub fn way_up(
     owners: &[u8; 128],
     path: &mut [u8; 64],
 ) -> Climbed
-    requires { ⌜ NameIn (now b) n p x × (length (now owners) ≡ 128) × Tabled (stateOf (now b)) (now owners) × (length (now path) ≡ 64) ⌝ }
+    requires { ⌜ NameIn (now b) n p x × Guessed (now b) n p (now owners) × (length (now path) ≡ 64) ⌝ }
     ensures { λ r. ⌜ Climbs (now (b .entry)) n (trustedBy trust) x (now (path .exit)) r ⌝ }
 {
     let mut closed: u64 = 0;
@@ -187,11 +170,11 @@ pub fn is_possible(s: usize, x: Name, y: Right) -> bool
 }
 
 // Whether the owner walk from s meets subject o.
-fn walk_meets(b: &[u8], n: usize, p: usize, s: usize, o: usize) -> bool
-    requires { ⌜ Station (now b) n p × (s < n) ⌝ }
+fn walk_meets(b: &[u8], n: usize, p: usize, owners: &[u8; 128], s: usize, o: usize) -> bool
+    requires { ⌜ Guessed (now b) n p (now owners) × (s < n) ⌝ }
     ensures { λ t. ⌜ t ≡ meets (walk (stateOf (now (b .entry))) s (Name.Subject o)) ⌝ }
 {
-    let found = states::owner_walk(b, n, p, s, o);
+    let found = states::owner_walk(b, n, p, owners, s, o);
     match found {
         Walked::Meets(_) => true,
         Walked::Root(_) => false,
@@ -201,13 +184,21 @@ fn walk_meets(b: &[u8], n: usize, p: usize, s: usize, o: usize) -> bool
 
 // Whether x is to be destroyed and created again before right y over it is given to s: own of a subject that the walk from s meets, and
 // control of a subject that another controls.
-pub fn again_needed(b: &[u8], n: usize, p: usize, s: usize, x: Name, y: Right) -> bool
-    requires { ⌜ NameIn (now b) n p x × (s < n) ⌝ }
+pub fn again_needed(
+    b: &[u8],
+    n: usize,
+    p: usize,
+    owners: &[u8; 128],
+    s: usize,
+    x: Name,
+    y: Right,
+) -> bool
+    requires { ⌜ NameIn (now b) n p x × Guessed (now b) n p (now owners) × (s < n) ⌝ }
     ensures { λ t. ⌜ t ≡ againNeeded (stateOf (now (b .entry))) s x y ⌝ }
 {
     match x {
         Name::Subject(o) => match y {
-            Right::Own => walk_meets(b, n, p, s, o),
+            Right::Own => walk_meets(b, n, p, owners, s, o),
             Right::Control => states::controlled(b, n, p, o),
             Right::Basic(_, _) => false,
         },

@@ -1,4 +1,3 @@
 pub mod Counts
 pub mod Followed
 pub mod Table
-pub mod Tabled

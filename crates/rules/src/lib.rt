@@ -39,7 +39,7 @@ fn both_exist(b: &[u8], n: usize, p: usize, c: Command) -> bool
 {
     let o = c.o;
     if states::subject_exists(b, n, p, c.s) {
-        return states::name_exists(b, n, p, o);
+        return states::exists_by(b, n, p, c.i, o);
     }
     false
 }
@@ -56,7 +56,7 @@ pub fn names_present(b: &[u8], n: usize, p: usize, c: Command) -> bool
         Act::Grant(_) => both_exist(b, n, p, c),
         Act::Delete(_) => both_exist(b, n, p, c),
         Act::CreateObject => true,
-        Act::DestroyObject => states::name_exists(b, n, p, o),
+        Act::DestroyObject => states::exists_by(b, n, p, c.i, o),
         Act::CreateSubject => true,
         Act::DestroySubject => states::subject_exists(b, n, p, c.s),
     }

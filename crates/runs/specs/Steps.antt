@@ -1,7 +1,7 @@
 -- The steps of a list run.
 use Prim.Native.Nat.{ℕ, suc, _+_, _-_, _≤_, _<_}
 use native.Mathlib.Omega.{arith}
-use mathlib.Core.Path.{_≡_, refl, sym, _∙_, ap}
+use mathlib.Core.Path.{_≡_, refl, sym, _∙_, ap, subst}
 use mathlib.Core.Logic.{⊎-elim}
 use mathlib.Core.Bool.{Bool, true, false, cond}
 use mathlib.Core.List.{List, _∷_}
@@ -17,8 +17,11 @@ use Rattle.matrix.specs.Shape.{Shape, shapeOf, sizeOf}
 use Rattle.matrix.specs.Reading.{stateOf}
 use Rattle.matrix.specs.CommandList.{fieldsAt, commandPlace, commandsFrom, commandsIn}
 use Rattle.matrix.specs.Calls.{refusalOn, linksOn, nextOn, Ran, runFrom, ranOn}
+use Rattle.matrix.specs.Valid.{Valid}
 use Rattle.laws.specs.Tests.{way}
+use Rattle.kept.specs.Keeps.{on-keeps}
 use Rattle.cells.specs.Station.{Station}
+use Rattle.states.specs.Needs.{Guessed}
 use Rattle.commands.specs.Answered.{Answered}
 use Rattle.bits.specs.Became.{Became}
 use Rattle.runs.specs.Reached.{RunOn, Reached}
@@ -69,10 +72,10 @@ same-station h w =
     }
 
 -- before the first command
-pub reached-none : {b l : List ℕ} {n p m : ℕ} → Station b n p → m ≡ commandsIn l → Reached b b l n p m 0
-reached-none {b} {l} {m = m} h e =
+pub reached-none : {b owners l : List ℕ} {n p m : ℕ} → Guessed b n p owners → m ≡ commandsIn l → Reached b b l n p m 0
+reached-none {b} {l = l} {m = m} h e =
     let z : m - 0 ≡ commandsIn l = omega arith in
-    record { station = h; shape = refl; size = refl; rest = ap (λ (k : ℕ). runFrom 0 (shapeOf b) (stateOf b) (commandsFrom l 0 k)) z }
+    record { station = h .station; valid = h .valid; shape = refl; size = refl; rest = ap (λ (k : ℕ). runFrom 0 (shapeOf b) (stateOf b) (commandsFrom l 0 k)) z }
 
 -- a reply that is refused has a refusal
 refused-number : (r l : ℕ) {k x : ℕ} → answer r l ≡ Refused k x → eqb r 0 ≡ false
@@ -104,6 +107,7 @@ module _ {b₀ b b′ l : List ℕ} {n p m j : ℕ} {c : Fields} {r : Answer} (h
       let z : refusalOn (shapeOf b₀) (stateOf b) c ≡ 0 = sym (number-is (refusalOn (shapeOf b₀) (stateOf b) c) (linksOn (shapeOf b) (stateOf b) c)) ∙ ap numberOf (sym reply ∙ e) in
       record {
         station = same-station (h .station) (w .became);
+        valid = subst Valid (sym after) (on-keeps (shapeOf b₀) (stateOf b) c (h .valid));
         shape = w .became .shape ∙ h .shape;
         size = same-size (h .station) (w .became) ∙ h .size;
         rest =

@@ -1,4 +1,4 @@
-// A list run on a record that is of the right form, with a list that is of the right form.
+// A list run on a valid record, with a list that is of the right form.
 
 use matrix::Answer;
 use matrix::Outcome;
@@ -7,7 +7,7 @@ ghost use mathlib.Core.Path.{_≡_};
 ghost use mathlib.Core.Bool.{true};
 ghost use Rattle.matrix.specs.Step.{numberOf};
 ghost use Rattle.matrix.specs.CommandList.{wellFormed};
-ghost use Rattle.cells.specs.Station.{Station};
+ghost use Rattle.states.specs.Needs.{Guessed};
 ghost use Rattle.runs.specs.Reached.{RunOn};
 
 // The number of an answer: 0 for accepted, else the refusal's.
@@ -20,9 +20,10 @@ fn number_of(a: Answer) -> usize
     }
 }
 
-// The commands of the list in turn, up to the first that is refused.
-pub fn run_on(b: &mut [u8], n: usize, p: usize, l: &[u8]) -> Outcome
-    requires { ⌜ Station (now b) n p × (wellFormed (now l) ≡ true) ⌝ }
+// The commands of the list in turn, up to the first that is refused. The guesses of who owns each subject stay as they are: where a
+// command gave a subject another owner, the guess is wrong from then on, and that owner is searched.
+pub fn run_on(b: &mut [u8], n: usize, p: usize, owners: &[u8; 128], l: &[u8]) -> Outcome
+    requires { ⌜ Guessed (now b) n p (now owners) × (wellFormed (now l) ≡ true) ⌝ }
     ensures { λ r. ⌜ RunOn (now (b .entry)) (now (b .exit)) (now (l .entry)) r ⌝ }
 {
     let mut accepted = 0;
@@ -31,7 +32,7 @@ pub fn run_on(b: &mut [u8], n: usize, p: usize, l: &[u8]) -> Outcome
         let Read::Command(c, after) = reader::read_one(l, at) else {
             break;
         };
-        let answer = commands::command_on(b, n, p, c);
+        let answer = commands::command_on(b, n, p, owners, c);
         let Answer::Accepted(_) = answer else {
             return Outcome {
                 accepted,

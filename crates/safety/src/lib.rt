@@ -13,6 +13,7 @@ ghost use Rattle.matrix.specs.Names.{sameName};
 ghost use Rattle.matrix.specs.State.{exists};
 ghost use Rattle.matrix.specs.Reading.{stateOf};
 ghost use Rattle.cells.specs.Station.{Station};
+ghost use Rattle.states.specs.Needs.{Guessed};
 ghost use Rattle.matrix.specs.Shape.{mostSubjects, mostPlain};
 ghost use Rattle.holding.specs.Held.{withinQuestion};
 ghost use Rattle.question.specs.Trust.{trustedBy};
@@ -22,7 +23,6 @@ ghost use Rattle.ways.specs.Ways.{by-star, by-creation, from-above, wayOver, wa
 ghost use Rattle.ways.specs.Path.{listed};
 ghost use Rattle.writing.specs.Put.{HeadRoom};
 ghost use Rattle.told.specs.Told.{Told};
-ghost use Rattle.validity.specs.OwnersTold.{OwnersTold};
 ghost use Rattle.safety.specs.Asks.{Asks, Headed, PathOf};
 
 // The head of a list of k commands is written, and the answer says that it leaks.
@@ -111,9 +111,10 @@ fn from_above(
     s: usize,
     x: Name,
     y: Right,
+    owners: &[u8; 128],
     out: &mut [u8],
 ) -> Safety
-    requires { ⌜ Asks (now b) n p s x y (from-above v (listed (now path) m)) (now out) × PathOf (now path) n v m ⌝ }
+    requires { ⌜ Asks (now b) n p s x y (from-above v (listed (now path) m)) (now out) × PathOf (now path) n v m × Guessed (now b) n p (now owners) ⌝ }
     ensures { λ r. ⌜ Told (stateOf (now (b .entry))) s x y (from-above v (listed (now (path .entry)) m)) (now (out .entry)) (now (out .exit)) r ⌝ }
 {
     let j = telling::put_destroys(out, v, path, m);
@@ -121,7 +122,7 @@ fn from_above(
         return leaks(out, j);
     }
     let absent = gone(b, n, p, s, path, m);
-    let again = climbing::again_needed(b, n, p, s, x, y);
+    let again = climbing::again_needed(b, n, p, owners, s, x, y);
     let k = telling::put_finish(out, j, v, s, x, y, absent, again);
     leaks(out, k)
 }
@@ -138,13 +139,13 @@ fn over(
     owners: &[u8; 128],
     out: &mut [u8],
 ) -> Safety
-    requires { ⌜ Asks (now b) n p s x y (wayOver (stateOf (now b)) (trustedBy trust) x) (now out) × OwnersTold (now b) (now owners) true ⌝ }
+    requires { ⌜ Asks (now b) n p s x y (wayOver (stateOf (now b)) (trustedBy trust) x) (now out) × Guessed (now b) n p (now owners) ⌝ }
     ensures { λ r. ⌜ Told (stateOf (now (b .entry))) s x y (wayOver (stateOf (now (b .entry))) (trustedBy trust) x) (now (out .entry)) (now (out .exit)) r ⌝ }
 {
     let mut path = [0u8; 64];
     let r = climbing::way_up(b, n, p, trust, x, owners, &mut path);
     match r {
-        Climbed::At(v, m) => from_above(b, n, p, v, &path, m, s, x, y, out),
+        Climbed::At(v, m) => from_above(b, n, p, v, &path, m, s, x, y, owners, out),
         Climbed::None => Safety::Safe,
     }
 }
@@ -170,7 +171,7 @@ fn made(
     by_creation(b, n, p, v, s, x, y, out)
 }
 
-// The answer to a question on a valid record, with the table of its owners.
+// The answer to a question on a valid record, with guesses of who owns each subject.
 fn decide(
     b: &[u8],
     n: usize,
@@ -182,7 +183,7 @@ fn decide(
     owners: &[u8; 128],
     out: &mut [u8],
 ) -> Safety
-    requires { ⌜ Asks (now b) n p s x y (wayOf (stateOf (now b)) (trustedBy trust) s x y) (now out) × OwnersTold (now b) (now owners) true ⌝ }
+    requires { ⌜ Asks (now b) n p s x y (wayOf (stateOf (now b)) (trustedBy trust) s x y) (now out) × Guessed (now b) n p (now owners) ⌝ }
     ensures { λ r. ⌜ Told (stateOf (now (b .entry))) s x y (wayOf (stateOf (now (b .entry))) (trustedBy trust) s x y) (now (out .entry)) (now (out .exit)) r ⌝ }
 {
     if holding::is_held(b, n, p, y, s, x) {

@@ -20,13 +20,14 @@ use Rattle.matrix.specs.Tests.{otherController}
 use Rattle.matrix.specs.Bytes.{bit}
 use Rattle.matrix.specs.Shape.{shapeOf}
 use Rattle.matrix.specs.Reading.{cellAt, stateOf}
-use Rattle.laws.specs.Bounded.{least-same, any-least}
+use Rattle.laws.specs.Bounded.{any-hit, least-same, any-least}
 use Rattle.codec.specs.Codes.{codeOf-room}
 use Rattle.codec.specs.Columns.{named-below}
 use Rattle.codec.specs.Update.{bit-named}
+use Rattle.owners.specs.Framed.{valid-framed, owner-same}
 use Rattle.cells.specs.Station.{Station}
 use Rattle.cells.specs.Rows.{rowHas}
-use Rattle.states.specs.Needs.{basicOf, NameIn}
+use Rattle.states.specs.Needs.{basicOf, NameIn, Guessed}
 
 -- the code of a right whose basic right is below 7 is below 16
 pub code-small : (y : Right) → basicOf y < 7 → codeOf y < 16
@@ -83,6 +84,12 @@ object-found {b} {n} {p} {o} {r} {x} h e f =
     ∙ sym (any-least (stateOf b .top) (λ w. stateOf b .owns w (Plain o)))
     ∙ sym (ap (λ (x : Name). existsName (stateOf b) x) e)
 
+-- an object exists where the test t of a row for own is passed
+pub object-owned : {b : List ℕ} {n p o i : ℕ} {x : Name} {t : Bool} → NameIn b n p x → x ≡ Plain o → i < n → t ≡ stateOf b .owns i x → t ≡ true → true ≡ existsName (stateOf b) x
+object-owned {b} {n} {p} {o} {i} h e l own f =
+    sym (any-hit (stateOf b .top) (λ w. stateOf b .owns w (Plain o)) i (rw (top-is b n p (h .station)) l) (sym (own ∙ ap (λ (x : Name). stateOf b .owns i x) e) ∙ f))
+    ∙ sym (ap (λ (x : Name). existsName (stateOf b) x) e)
+
 -- a subject is controlled by another where the search of its column finds a row r
 pub other-found : {b : List ℕ} {n p o r : ℕ} → Station b n p → o < n → r ≡ least n (rowHas b o 1 o) → ltb r n ≡ otherController (stateOf b) (Subject o)
 other-found {b} {n} {p} {o} {r} h l f =
@@ -92,3 +99,7 @@ other-found {b} {n} {p} {o} {r} h l f =
 -- the owner of a subject is what the search of its column finds
 pub owner-is : {b : List ℕ} {n p s r : ℕ} → Station b n p → s < n → r ≡ least n (rowHas b s 0 n) → r ≡ ownerOf (stateOf b .top) (stateOf b .owns) s
 owner-is {b} {n} {p} {s} h l f = f ∙ search-bit b n p h Own (Subject s) (omega arith) (lt-ltb s n l)
+
+-- a row that passes the test t for own of a subject is its owner, where the record is valid
+pub owner-guessed : {b owners : List ℕ} {n p w : ℕ} {t : Bool} (v : ℕ) → Guessed b n p owners → t ≡ stateOf b .owns w (Subject v) → t ≡ true → w ≡ ownerOf (stateOf b .top) (stateOf b .owns) v
+owner-guessed {w = w} v h e f = owner-same (valid-framed (h .valid)) w v (sym e ∙ f)

@@ -12,11 +12,11 @@ ghost use Prim.Native.Nat.{_<_};
 ghost use Rattle.matrix.specs.Names.{columnOf, nameOf};
 ghost use Rattle.matrix.specs.Rights.{codeOf};
 ghost use Rattle.matrix.specs.State.{has, exists, existsName};
-ghost use Rattle.matrix.specs.Owners.{walk};
+ghost use Rattle.matrix.specs.Owners.{ownerOf, walk};
 ghost use Rattle.matrix.specs.Tests.{otherController};
 ghost use Rattle.matrix.specs.Reading.{stateOf};
 ghost use Rattle.cells.specs.Station.{Station};
-ghost use Rattle.states.specs.Needs.{basicOf, NameIn, BitIn};
+ghost use Rattle.states.specs.Needs.{basicOf, NameIn, BitIn, Guessed};
 
 // The column of a name.
 pub fn column_of(x: Name) -> usize
@@ -82,6 +82,23 @@ pub fn name_exists(b: &[u8], n: usize, p: usize, x: Name) -> bool
     }
 }
 
+// Whether a name exists, asked for subject i, who is likely to own it: a plain object that i owns exists, and the search for another owner
+// is left out.
+pub fn exists_by(b: &[u8], n: usize, p: usize, i: usize, x: Name) -> bool
+    requires { ⌜ NameIn (now b) n p x × (i < n) ⌝ }
+    ensures { λ t. ⌜ t ≡ existsName (stateOf (now (b .entry))) x ⌝ }
+{
+    match x {
+        Name::Subject(s) => subject_exists(b, n, p, s),
+        Name::Plain(_) => {
+            if has_bit(b, n, p, Right::Own, i, x) {
+                return true;
+            }
+            name_exists(b, n, p, x)
+        }
+    }
+}
+
 // Whether a subject other than o controls subject o.
 pub fn controlled(b: &[u8], n: usize, p: usize, o: usize) -> bool
     requires { ⌜ Station (now b) n p × (o < n) ⌝ }
@@ -90,9 +107,25 @@ pub fn controlled(b: &[u8], n: usize, p: usize, o: usize) -> bool
     cells::first_row(b, n, p, o, 1, o) < n
 }
 
-// The owner walk from subject s for subject o.
-pub fn owner_walk(b: &[u8], n: usize, p: usize, s: usize, o: usize) -> Walked
-    requires { ⌜ Station (now b) n p × (s < n) ⌝ }
+// The owner of subject v in a valid record, or n if it has none. The byte of v in the table `owners` is only a guess: it counts where that
+// row owns v, since no other does. Where it doesn't, the owner is searched.
+pub fn owner_of(b: &[u8], n: usize, p: usize, owners: &[u8; 128], v: usize) -> usize
+    requires { ⌜ Guessed (now b) n p (now owners) × (v < n) ⌝ }
+    ensures { λ r. ⌜ r ≡ ownerOf (stateOf (now (b .entry)) .top) (stateOf (now (b .entry)) .owns) v ⌝ }
+{
+    let guess = owners[2 * v + 1];
+    if guess < n as u8 {
+        let w = guess as usize;
+        if has_bit(b, n, p, Right::Own, w, Name::Subject(v)) {
+            return w;
+        }
+    }
+    cells::first_row(b, n, p, v, 0, n)
+}
+
+// The owner walk from subject s for subject o in a valid record, with guesses of who owns each subject.
+pub fn owner_walk(b: &[u8], n: usize, p: usize, owners: &[u8; 128], s: usize, o: usize) -> Walked
+    requires { ⌜ Guessed (now b) n p (now owners) × (s < n) ⌝ }
     ensures { λ r. ⌜ r ≡ walk (stateOf (now (b .entry))) s (Name.Subject o) ⌝ }
 {
     let mut at = s;
@@ -108,7 +141,7 @@ pub fn owner_walk(b: &[u8], n: usize, p: usize, s: usize, o: usize) -> Walked
         if at == 0 {
             break 'up Walked::Root(links);
         }
-        let owner = cells::first_row(b, n, p, at, 0, n);
+        let owner = owner_of(b, n, p, owners, at);
         if n <= owner {
             break 'up Walked::Lost;
         }

@@ -35,7 +35,8 @@ pub fn command(b: &mut [u8], code: u64, i: u64, s: u64, o: u64, k: u64) -> Answe
     ensures answer { λ r. ⌜ r ≡ commandAnswer (now (b .entry)) (fieldsOf code i s o k) ⌝ }
     ensures bytes { λ r. ⌜ now (b .exit) ≡ commandBytes (now (b .entry)) (fieldsOf code i s o k) ⌝ }
 {
-    let turned = validity::refusal(b);
+    let mut owners = [0u8; 128];
+    let turned = validity::refusal_with(b, &mut owners);
     if turned != 0 {
         return Answer::Refused(turned, 0);
     }
@@ -48,7 +49,7 @@ pub fn command(b: &mut [u8], code: u64, i: u64, s: u64, o: u64, k: u64) -> Answe
         o: o as usize,
         k: k as usize,
     };
-    commands::command_on(b, n, p, c)
+    commands::command_on(b, n, p, &owners, c)
 }
 
 // The commands of a list in turn, up to the first that is refused: how many were accepted, and the refusal, 0 if none.
@@ -56,7 +57,8 @@ pub fn run(b: &mut [u8], l: &[u8]) -> Outcome
     ensures answer { λ r. ⌜ r ≡ runAnswer (now (b .entry)) (now (l .entry)) ⌝ }
     ensures bytes { λ r. ⌜ now (b .exit) ≡ runBytes (now (b .entry)) (now (l .entry)) ⌝ }
 {
-    let turned = validity::refusal(b);
+    let mut owners = [0u8; 128];
+    let turned = validity::refusal_with(b, &mut owners);
     if turned != 0 {
         return Outcome {
             accepted: 0,
@@ -71,7 +73,7 @@ pub fn run(b: &mut [u8], l: &[u8]) -> Outcome
     }
     let n = opening::byte(b, 5);
     let p = opening::byte(b, 6);
-    runs::run_on(b, n, p, l)
+    runs::run_on(b, n, p, &owners, l)
 }
 
 // The safety question: safe, or leaks by a list that is written at the start of `out`, or refused by a number.

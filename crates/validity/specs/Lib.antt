@@ -6,5 +6,4 @@ pub mod Valid
 pub mod Merged
 pub mod Passed
 pub mod Header
-pub mod OwnersTold
 pub mod Whole

@@ -168,21 +168,6 @@ module _ (n p : ℕ) (O C Z : ℕ → ℕ → Bool) (bits : Bits O C Z) (some : 
           (eqb-true _ 0 (all-each n (λ s. eqb (followed (lastOwner n O) 64 s) 0) h s l))))
       go s l (inr e) = or-left _ (fails-not e)
 
-  -- where somebody owns a subject, its last owner is its lowest
-  pub tests-owner : testsPass n p O C Z ≡ true → (s w : ℕ) → s < n → w < n → O w s ≡ true → least n (λ w. O w s) ≡ lastOwner n O s
-  tests-owner h s w l m e = sym (last-least n (λ w. O w s) (f .owner s l ascended there) .0)
-    where
-      f : Here
-      f =
-          let hs = and-left _ (allAscend n O) h in
-          tests-framed (and-left (all n (subjectRight n (n + p) O C Z)) _ hs) (and-right (all n (subjectRight n (n + p) O C Z)) _ hs)
-
-      ascended : s ≡ 0 → ⊥
-      ascended z = clash (subst (λ (i : ℕ). O w i ≡ true) z e) (none-count n (λ w. O w 0) (f .root-owner) w m)
-
-      there : C s s ≡ true
-      there = holds (C s s) (λ q. clash e (bits .own w s (f .column s w l m q)))
-
   -- The tests of one pass pass just where the five conditions hold.
   pub tests-five : n ≤ 64 → testsPass n p O C Z ≡ fiveHold n (n + p) O C Z
   tests-five most = same-test _ _ forth back

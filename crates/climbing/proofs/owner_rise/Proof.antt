@@ -10,7 +10,7 @@ has-bit-requires : tie.Need-has-bit-requires
 has-bit-requires c κs = search needs
 
 returns : tie.Need-returns
-returns c = (owner-not (sym (c .before .has-bit .ensures) ∙ not-true _ (c .if1 .taken)) (c .before .before .before .pre .5), c .before .before .before .pre .4)
+returns c = (owner-not (sym (c .before .has-bit .ensures) ∙ not-true _ (c .if1 .taken)) (c .before .before .before .pre .4), c .before .before .before .pre .3)
 
 rise-from-requires : tie.Need-rise-from-requires
 rise-from-requires c κs = search needs

@@ -23,27 +23,27 @@ abbrev μ-up : tie.MeasureT-up
 up-holds : tie.Need-up-holds Inv-up μ-up
 up-holds c =
     let q = c .before .before .pre in
-    (q .1, omega arith, rising-none _ _ _ (q .0) (q .5), q .4, seen-none _ (q .4))
+    (q .1, omega arith, rising-none _ _ _ (q .0 .station) (q .3), q .2, seen-none _ (q .2))
 
 is-trusted-requires : tie.Need-is-trusted-requires Inv-up μ-up
-is-trusted-requires c κs = omega (arith, subjects-few _ _ _ (c .before .before .before .before .pre .0))
+is-trusted-requires c κs = omega (arith, subjects-few _ _ _ (c .before .before .before .before .pre .0 .station))
 
 next-up-requires : tie.Need-next-up-requires Inv-up μ-up
 next-up-requires c κs =
     let q = c .before .before .before .before .before .before .before .pre in
-    (q .0, c .before .before .before .before .up .inv .0, q .2, q .3)
+    (q .0, c .before .before .before .before .up .inv .0)
 
 cast-path : tie.Need-cast-path Inv-up μ-up
-cast-path c = record { fits = omega (arith, subjects-few _ _ _ (c .before .before .before .before .before .before .before .before .before .pre .0)) }
+cast-path c = record { fits = omega (arith, subjects-few _ _ _ (c .before .before .before .before .before .before .before .before .before .pre .0 .station)) }
 
 element-write-path : tie.Need-element-write-path Inv-up μ-up
-element-write-path c = omega (arith, subjects-few _ _ _ (c .before .before .before .before .before .before .before .before .before .pre .0))
+element-write-path c = omega (arith, subjects-few _ _ _ (c .before .before .before .before .before .before .before .before .before .pre .0 .station))
 
 added-requires : tie.Need-added-requires Inv-up μ-up
-added-requires c κs = omega (arith, subjects-few _ _ _ (c .before .before .before .before .before .before .before .before .before .pre .0))
+added-requires c κs = omega (arith, subjects-few _ _ _ (c .before .before .before .before .before .before .before .before .before .pre .0 .station))
 
 add-m : tie.Need-add-m Inv-up μ-up
-add-m c = record { fits = omega (arith, subjects-few _ _ _ (c .before .before .before .before .before .before .before .before .before .before .pre .0)) }
+add-m c = record { fits = omega (arith, subjects-few _ _ _ (c .before .before .before .before .before .before .before .before .before .before .pre .0 .station)) }
 
 sub-left : tie.Need-sub-left Inv-up μ-up
 sub-left c = omega arith
@@ -53,7 +53,7 @@ up-less c = omega arith
 
 up-again : tie.Need-up-again Inv-up μ-up
 up-again c =
-    let z = c .before .before .before .before .before .before .before .before .before .before .pre .0 in
+    let z = c .before .before .before .before .before .before .before .before .before .before .pre .0 .station in
     let i = c .before .before .before .before .before .before .before .up .inv in
     let t = sym (c .before .before .before .before .before .is-trusted .ensures) ∙ not-false _ (c .before .before .before .before .if2 .left) in
     let next = c .before .before .next-up .ensures in
@@ -77,7 +77,7 @@ returns-3 : tie.Need-returns-3 Inv-up μ-up
 returns-3 c =
     let i = c .before .before .before .before .before .before .up .inv in
     let t = sym (c .before .before .before .before .is-trusted .ensures) ∙ not-false _ (c .before .before .before .if2 .left) in
-    let s = c .before .next-up .ensures .ends (omega (arith, top-is _ _ _ (c .before .before .before .before .before .before .before .before .before .pre .0))) _ t (i .3) in
+    let s = c .before .next-up .ensures .ends (omega (arith, top-is _ _ _ (c .before .before .before .before .before .before .before .before .before .pre .0 .station))) _ t (i .3) in
     (rises-shut (i .2) s, i .4 .shuts s)
 
 pub rise-from-spec : {M : Type 1} → statement M

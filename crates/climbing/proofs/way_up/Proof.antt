@@ -25,13 +25,13 @@ abbrev μ-loop : tie.MeasureT-loop
 
 loop-holds : tie.Need-loop-holds Inv-loop μ-loop
 unfolding any
-loop-holds c = (search needs, c .before .pre .3, refl, shut-none _ _)
+loop-holds c = (search needs, c .before .pre .2, refl, shut-none _ _)
 
 owner-rise-requires : tie.Need-owner-rise-requires Inv-loop μ-loop
 owner-rise-requires c κs =
     let q = c .before .before .before .before .before .pre in
     let i = c .before .before .before .loop .inv in
-    (q .0, c .before .before .loop-test .taken, q .1, q .2, i .3, i .1)
+    (q .0, q .1, c .before .before .loop-test .taken, i .3, i .1)
 
 enum-told : tie.Need-enum-told Inv-loop μ-loop
 enum-told c = search needs

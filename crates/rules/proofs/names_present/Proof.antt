@@ -31,8 +31,8 @@ enum-told-4 c = search needs
 enum-told-5 : tie.Need-enum-told-5
 enum-told-5 c = search needs
 
-name-exists-requires : tie.Need-name-exists-requires
-name-exists-requires c κs = search needs
+exists-by-requires : tie.Need-exists-by-requires
+exists-by-requires c κs = search needs
 
 enum-told-6 : tie.Need-enum-told-6
 enum-told-6 c = search needs
@@ -56,7 +56,7 @@ returns-4 : tie.Need-returns-4
 returns-4 c = search needs
 
 returns-5 : tie.Need-returns-5
-returns-5 c = c .name-exists .ensures ∙ sym (ap (λ (a : Act). present (stateOf (c .before .before .before .before .args .b .now)) (c .before .before .before .before .args .c) a) (c .before .enum-told5 .given .1))
+returns-5 c = c .exists-by .ensures ∙ sym (ap (λ (a : Act). present (stateOf (c .before .before .before .before .args .b .now)) (c .before .before .before .before .args .c) a) (c .before .enum-told5 .given .1))
 
 returns-6 : tie.Need-returns-6
 returns-6 c = search needs
@@ -76,7 +76,7 @@ names-present-spec =
     both-exist-requires-3
     enum-told-4
     enum-told-5
-    name-exists-requires
+    exists-by-requires
     enum-told-6
     enum-told-7
     subject-exists-requires

@@ -11,10 +11,10 @@ use Rattle.runs.proofs.run_on.Statement.{statement}
 use Rattle.runs.proofs.run_on.Tie as tie
 
 abbrev Inv-loop : tie.InvT-loop
-Inv-loop b₀ n p l accepted₀ at₀ b accepted at = (accepted ≡ at) × Reached b₀ b l n p (commandsIn l) at
+Inv-loop b₀ n p owners l accepted₀ at₀ b accepted at = (accepted ≡ at) × Reached b₀ b l n p (commandsIn l) at
 
 abbrev μ-loop : tie.MeasureT-loop
-μ-loop b₀ n p l accepted₀ at₀ b accepted at = commandsIn l - at
+μ-loop b₀ n p owners l accepted₀ at₀ b accepted at = commandsIn l - at
 
 loop-holds : tie.Need-loop-holds Inv-loop μ-loop
 loop-holds c = (refl, reached-none (c .before .before .pre .0) refl)
@@ -29,7 +29,10 @@ enum-told : tie.Need-enum-told Inv-loop μ-loop
 enum-told c = search needs
 
 command-on-requires : tie.Need-command-on-requires Inv-loop μ-loop
-command-on-requires c κs = c .before .before .before .before .before .loop .inv .1 .station
+command-on-requires c κs =
+    let l = c .before .before .before .before .before in
+    let r = l .loop .inv .1 in
+    record { station = r .station; valid = r .valid; size = l .before .before .before .pre .0 .size }
 
 enum-told-2 : tie.Need-enum-told-2 Inv-loop μ-loop
 enum-told-2 c = search needs

@@ -1,14 +1,14 @@
 -- `safety::ask` meets its contract.
 use native.Mathlib.Omega.{arith}
 use mathlib.Core.Path.{_≡_, sym, _∙_}
-use borrow.Author.Tests.{eq-eqb, not-true, not-false}
+use borrow.Author.Tests.{not-true, not-false}
 use Rattle.matrix.specs.Record.{recordRefusal}
 use Rattle.matrix.specs.Shaped.{Octets}
+use Rattle.owners.specs.Read.{valid-record}
 use Rattle.cells.specs.Station.{Station}
 use Rattle.cells.specs.Places.{subjects-few, plains-few}
 use Rattle.opening.specs.Opened.{station-of, long-enough}
 use Rattle.question.specs.Trust.{trustedBy}
-use Rattle.validity.specs.OwnersTold.{told-by}
 use Rattle.safety.specs.Turned.{turned-record}
 use Rattle.safety.specs.Whole.{asks-of, unfit, no-room, bit-asked, answered}
 use borrow.Author.Needs.{needs}
@@ -75,7 +75,7 @@ decide-requires c κs =
       asks-of (right e1) o (trustedBy (a .trust))
           (bit-asked (right e1) o (a .trust) (a .s) (a .o) (a .right) (a .out .now) (r .before .before .before .before .within-bounds .ensures) (not-false _ (r .before .before .before .if2 .left)) (r .before .name-of .ensures) (r .right-of .ensures) room)
           room,
-      told-by (eq-eqb _ 0 (e1 .if1 .left)) (e1 .before .refusal-with .ensures .1),
+      record { station = o; valid = valid-record _ (right e1); size = e1 .before .refusal-with .ensures .1 },
     )
 
 same-length : tie.Need-same-length

@@ -1,19 +1,18 @@
 -- `safety::over` meets its contract.
-use mathlib.Core.Path.{refl}
 use Rattle.safety.specs.Steps.{asks-at, told-at, told-none, over-met, over-none, climbed-path}
 use borrow.Author.Needs.{needs}
 use Rattle.safety.proofs.over.Statement.{statement}
 use Rattle.safety.proofs.over.Tie as tie
 
 way-up-requires : tie.Need-way-up-requires
-way-up-requires c κs = (search needs, c .before .before .before .pre .1 .size, c .before .before .before .pre .1 .told refl, search needs)
+way-up-requires c κs = (search needs, c .before .before .before .pre .1, search needs)
 
 enum-known-r : tie.Need-enum-known-r
 enum-known-r c = search needs
 
 from-above-requires : tie.Need-from-above-requires
 from-above-requires c κs =
-    (asks-at (over-met (c .before .before .before .before .before .way-up .ensures) (c .before .before .before .r .given .1)) (c .before .before .before .before .before .before .before .before .before .pre .0), climbed-path (c .before .before .before .before .before .way-up .ensures) (c .before .before .before .r .given .1))
+    (asks-at (over-met (c .before .before .before .before .before .way-up .ensures) (c .before .before .before .r .given .1)) (c .before .before .before .before .before .before .before .before .before .pre .0), climbed-path (c .before .before .before .before .before .way-up .ensures) (c .before .before .before .r .given .1), c .before .before .before .before .before .before .before .before .before .pre .1)
 
 enum-told : tie.Need-enum-told
 enum-told c = search needs

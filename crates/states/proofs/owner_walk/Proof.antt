@@ -6,26 +6,23 @@ use mathlib.Core.Path.{_≡_, sym, _∙_, ap}
 use Rattle.matrix.specs.declared.Name.the-variants.{Subject}
 use Rattle.matrix.specs.Owners.{walk, walkFrom}
 use Rattle.matrix.specs.Reading.{stateOf}
-use Rattle.states.specs.Reads.{owner-is, top-is}
+use Rattle.states.specs.Reads.{top-is}
 use Rattle.states.specs.Walks.{walk-out, walk-meets, walk-root, walk-unowned, walk-up}
 use Rattle.states.proofs.owner_walk.Statement.{statement}
 use Rattle.states.proofs.owner_walk.Tie as tie
-use Rattle.states.proofs.owner_walk.Reads as reads
-use Rattle.states.proofs.owner_walk.Lts as lts
-use Rattle.cells.proofs.first_row.Reads as first-row-reads
 
 abbrev Inv-up : tie.InvT-up
-Inv-up b n p s o at₀ links₀ left₀ at links left =
+Inv-up b n p owners s o at₀ links₀ left₀ at links left =
     (at < n) × (links + left ≡ n) × (walkFrom (stateOf b .top) (stateOf b .owns) left at (Subject o) links ≡ walk (stateOf b) s (Subject o))
 
 abbrev μ-up : tie.MeasureT-up
-μ-up b n p s o at₀ links₀ left₀ at links left = left
+μ-up b n p owners s o at₀ links₀ left₀ at links left = left
 
 up-holds : tie.Need-up-holds Inv-up μ-up
-up-holds c = (search needs, omega arith, ap (λ (m : ℕ). walkFrom (stateOf (c .before .args .b .now) .top) (stateOf (c .before .args .b .now) .owns) m (c .before .args .s) (Subject (c .before .args .o)) 0) (sym (top-is _ _ _ (c .before .pre .0))))
+up-holds c = (search needs, omega arith, ap (λ (m : ℕ). walkFrom (stateOf (c .before .args .b .now) .top) (stateOf (c .before .args .b .now) .owns) m (c .before .args .s) (Subject (c .before .args .o)) 0) (sym (top-is _ _ _ (c .before .pre .0 .station))))
 
-first-row-requires : tie.Need-first-row-requires Inv-up μ-up
-first-row-requires c κs = (c .before .before .before .before .before .pre .0, omega arith, omega arith)
+owner-of-requires : tie.Need-owner-of-requires Inv-up μ-up
+owner-of-requires c κs = (c .before .before .before .before .before .pre .0, c .before .before .before .up .inv .0)
 
 add-links : tie.Need-add-links Inv-up μ-up
 add-links c = omega (arith, c .before .before .before .before .before .before .before .fits)
@@ -41,7 +38,7 @@ up-again c =
     let z = c .before .before .before .before .before .before .before in (
       c .if4 .left,
       omega arith,
-      sym (walk-up _ _ _ _ _ _ (c .before .before .before .before .if1 .left) (c .before .before .before .if2 .left) (c .before .before .if3 .left) (owner-is (z .pre .0) (c .before .before .before .before .before .up .inv .0) (c .before .first-row .ensures)) (top-is _ _ _ (z .pre .0)) (c .if4 .left))
+      sym (walk-up _ _ _ _ _ _ (c .before .before .before .before .if1 .left) (c .before .before .before .if2 .left) (c .before .before .if3 .left) (c .before .owner-of .ensures) (top-is _ _ _ (z .pre .0 .station)) (c .if4 .left))
           ∙ c .before .before .before .before .before .up .inv .2,
     )
 
@@ -57,7 +54,7 @@ returns-3 c = sym (walk-root _ _ _ _ _ _ (c .before .before .if1 .left) (c .befo
 returns-4 : tie.Need-returns-4 Inv-up μ-up
 returns-4 c =
     let z = c .before .before .before .before .before .before .before in
-    sym (walk-unowned _ _ _ _ _ _ (c .before .before .before .before .if1 .left) (c .before .before .before .if2 .left) (c .before .before .if3 .left) (owner-is (z .pre .0) (c .before .before .before .before .before .up .inv .0) (c .before .first-row .ensures)) (top-is _ _ _ (z .pre .0)) (c .if4 .taken))
+    sym (walk-unowned _ _ _ _ _ _ (c .before .before .before .before .if1 .left) (c .before .before .before .if2 .left) (c .before .before .if3 .left) (c .before .owner-of .ensures) (top-is _ _ _ (z .pre .0 .station)) (c .if4 .taken))
     ∙ c .before .before .before .before .before .up .inv .2
 
 pub owner-walk-spec : {M : Type 1} → statement M
@@ -67,7 +64,7 @@ owner-walk-spec =
     Inv-up
     μ-up
     up-holds
-    first-row-requires
+    owner-of-requires
     add-links
     sub-left
     up-less

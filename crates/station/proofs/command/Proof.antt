@@ -3,28 +3,33 @@ use native.Mathlib.Omega.{arith}
 use mathlib.Core.Path.{_≡_, sym, _∙_}
 use Rattle.matrix.specs.Record.{recordRefusal}
 use Rattle.matrix.specs.Shaped.{Octets}
+use Rattle.owners.specs.Read.{valid-record}
+use Rattle.cells.specs.Station.{Station}
 use Rattle.opening.specs.Opened.{station-of, long-enough}
 use Rattle.station.specs.Done.{command-turned-down, command-kept, command-reply, command-done}
 use borrow.Author.Needs.{needs}
 use Rattle.station.proofs.command.Statement.{statement}
 use Rattle.station.proofs.command.Tie as tie
 
-refusal-requires : tie.Need-refusal-requires
-refusal-requires c κs = search needs
+refusal-with-requires : tie.Need-refusal-with-requires
+refusal-with-requires c κs = search needs
 
 same-length : tie.Need-same-length
 same-length c = search needs
 
 -- where the record is not turned down
-right : (c : tie.Else1) → recordRefusal (c .before .before .before .before .args .b .now) ≡ 0
-right c = sym (c .before .refusal .ensures) ∙ c .if1 .left
+right : (c : tie.Else1) → recordRefusal (c .before .before .before .before .before .args .b .now) ≡ 0
+right c = sym (c .before .refusal-with .ensures .0) ∙ c .if1 .left
 
-octets : (c : tie.Else1) → Octets (c .before .before .before .before .args .b .now)
-octets c = record { octet = λ j. c .before .before .before .slice-known .given j .fits }
+octets : (c : tie.Else1) → Octets (c .before .before .before .before .before .args .b .now)
+octets c = record { octet = λ j. c .before .before .before .before .slice-known .given j .fits }
+
+opened : (c : tie.After-byte2) → Station (c .before .before .before .before .before .before .before .before .before .args .b .now) (c .before .before .byte .result) (c .byte2 .result)
+opened c = station-of (octets (c .before .before .before .before)) (right (c .before .before .before .before)) (c .before .before .byte .ensures) (c .byte2 .ensures)
 
 returns : tie.Need-returns
 returns c =
-    (command-turned-down _ (c .before .refusal .ensures) (c .if1 .taken) _, command-kept _ (c .before .refusal .ensures) (c .if1 .taken) _)
+    (command-turned-down _ (c .before .refusal-with .ensures .0) (c .if1 .taken) _, command-kept _ (c .before .refusal-with .ensures .0) (c .if1 .taken) _)
 
 byte-requires : tie.Need-byte-requires
 byte-requires c κs = omega (arith, long-enough _ (right (c .before)))
@@ -33,21 +38,23 @@ byte-requires-2 : tie.Need-byte-requires-2
 byte-requires-2 c κs = omega (arith, long-enough _ (right (c .before .before .before)))
 
 command-on-requires : tie.Need-command-on-requires
-command-on-requires c κs = station-of (octets (c .before .before .before .before .before)) (right (c .before .before .before .before .before)) (c .before .before .before .byte .ensures) (c .before .byte2 .ensures)
+command-on-requires c κs =
+    let f = c .before .before in
+    record { station = opened f; valid = valid-record _ (right (f .before .before .before .before)); size = f .before .before .before .before .before .refusal-with .ensures .1 }
 
 same-length-2 : tie.Need-same-length-2
 same-length-2 c = search needs
 
 returns-2 : tie.Need-returns-2
 returns-2 c =
-    let h = station-of (octets (c .before .before .before .before .before .before .before .before)) (right (c .before .before .before .before .before .before .before .before)) (c .before .before .before .before .before .before .byte .ensures) (c .before .before .before .before .byte2 .ensures) in
-    (command-reply (right (c .before .before .before .before .before .before .before .before)) h (c .before .before .command-on .ensures), command-done (right (c .before .before .before .before .before .before .before .before)) h (c .before .before .command-on .ensures))
+    let f = c .before .before .before .before .before in
+    (command-reply (right (f .before .before .before .before)) (opened f) (c .before .before .command-on .ensures), command-done (right (f .before .before .before .before)) (opened f) (c .before .before .command-on .ensures))
 
 pub command-spec : {M : Type 1} → statement M
 command-spec =
     tie.close
     (tie.spec
-    refusal-requires
+    refusal-with-requires
     same-length
     returns
     byte-requires

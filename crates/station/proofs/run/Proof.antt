@@ -6,32 +6,37 @@ use Rattle.matrix.specs.Shaped.{Octets}
 use Rattle.matrix.specs.CommandList.{wellFormed}
 use mathlib.Core.Bool.{true}
 use borrow.Author.Tests.{not-true, not-false}
+use Rattle.owners.specs.Read.{valid-record}
+use Rattle.cells.specs.Station.{Station}
 use Rattle.opening.specs.Opened.{station-of, long-enough}
 use Rattle.station.specs.Done.{run-turned-down, run-kept, list-turned-down, list-kept, run-outcome, run-done}
 use borrow.Author.Needs.{needs}
 use Rattle.station.proofs.run.Statement.{statement}
 use Rattle.station.proofs.run.Tie as tie
 
-refusal-requires : tie.Need-refusal-requires
-refusal-requires c κs = search needs
+refusal-with-requires : tie.Need-refusal-with-requires
+refusal-with-requires c κs = search needs
 
 same-length : tie.Need-same-length
 same-length c = search needs
 
 -- where the record is not turned down
-right : (c : tie.Else1) → recordRefusal (c .before .before .before .before .before .args .b .now) ≡ 0
-right c = sym (c .before .refusal .ensures) ∙ c .if1 .left
+right : (c : tie.Else1) → recordRefusal (c .before .before .before .before .before .before .args .b .now) ≡ 0
+right c = sym (c .before .refusal-with .ensures .0) ∙ c .if1 .left
 
-octets : (c : tie.Else1) → Octets (c .before .before .before .before .before .args .b .now)
-octets c = record { octet = λ j. c .before .before .before .before .slice-known .given j .fits }
+octets : (c : tie.Else1) → Octets (c .before .before .before .before .before .before .args .b .now)
+octets c = record { octet = λ j. c .before .before .before .before .before .slice-known .given j .fits }
 
 -- where the list is of the right form
-formed : (c : tie.Else2) → wellFormed (c .before .before .before .before .before .before .before .args .l .now) ≡ true
+formed : (c : tie.Else2) → wellFormed (c .before .before .before .before .before .before .before .before .args .l .now) ≡ true
 formed c = sym (c .before .well-formed .ensures) ∙ not-false _ (c .if2 .left)
+
+opened : (c : tie.After-byte2) → Station (c .before .before .before .before .before .before .before .before .before .before .before .before .args .b .now) (c .before .before .byte .result) (c .byte2 .result)
+opened c = station-of (octets (c .before .before .before .before .before .before)) (right (c .before .before .before .before .before .before)) (c .before .before .byte .ensures) (c .byte2 .ensures)
 
 returns : tie.Need-returns
 returns c =
-    (run-turned-down _ (c .before .refusal .ensures) (c .if1 .taken) _, run-kept _ (c .before .refusal .ensures) (c .if1 .taken) _)
+    (run-turned-down _ (c .before .refusal-with .ensures .0) (c .if1 .taken) _, run-kept _ (c .before .refusal-with .ensures .0) (c .if1 .taken) _)
 
 well-formed-requires : tie.Need-well-formed-requires
 well-formed-requires c κs = search needs
@@ -52,20 +57,23 @@ byte-requires-2 c κs = omega (arith, long-enough _ (right (c .before .before .b
 
 run-on-requires : tie.Need-run-on-requires
 run-on-requires c κs =
-    (station-of (octets (c .before .before .before .before .before .before .before)) (right (c .before .before .before .before .before .before .before)) (c .before .before .before .byte .ensures) (c .before .byte2 .ensures), formed (c .before .before .before .before .before))
+    let f = c .before .before in
+    let d = f .before .before .before .before in
+    (record { station = opened f; valid = valid-record _ (right (d .before .before)); size = d .before .before .before .refusal-with .ensures .1 }, formed d)
 
 same-length-3 : tie.Need-same-length-3
 same-length-3 c = search needs
 
 returns-3 : tie.Need-returns-3
 returns-3 c =
-    (run-outcome _ _ (right (c .before .before .before .before .before .before .before .before .before .before)) (formed (c .before .before .before .before .before .before .before .before)) (c .before .before .run-on .ensures), run-done _ _ (right (c .before .before .before .before .before .before .before .before .before .before)) (formed (c .before .before .before .before .before .before .before .before)) (c .before .before .run-on .ensures))
+    let d = c .before .before .before .before .before .before .before .before .before in
+    (run-outcome _ _ (right (d .before .before)) (formed d) (c .before .before .run-on .ensures), run-done _ _ (right (d .before .before)) (formed d) (c .before .before .run-on .ensures))
 
 pub run-spec : {M : Type 1} → statement M
 run-spec =
     tie.close
     (tie.spec
-    refusal-requires
+    refusal-with-requires
     same-length
     returns
     well-formed-requires

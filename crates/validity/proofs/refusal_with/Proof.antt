@@ -8,8 +8,7 @@ use mathlib.Core.List.{List}
 use lib.ListN.{getD}
 use Rattle.matrix.specs.Shape.{shapeOf, knownVersion, inRange, sized}
 use Rattle.validity.specs.Header.{Headed, refused-1, refused-2, refused-3, refused-4, refused-5, refused-none}
-use Rattle.validity.specs.OwnersTold.{unread, told-by}
-use Rattle.validity.specs.Whole.{version-read, version-wrong, range-read, headed, whole-read}
+use Rattle.validity.specs.Whole.{unread, version-read, version-wrong, range-read, headed, whole-read}
 use borrow.Author.Needs.{needs}
 use Rattle.validity.proofs.refusal_with.Statement.{statement}
 use Rattle.validity.proofs.refusal_with.Tie as tie
@@ -40,13 +39,13 @@ sized-here : (c : tie.Else4) → sized (bytes4 c) ≡ true
 sized-here c = sym (c .before .right-size .ensures) ∙ not-false _ (c .if4 .left)
 
 returns : tie.Need-returns
-returns c = (refused-1 _ (c .if1 .taken), unread _ _ (c .before .before .pre))
+returns c = (refused-1 _ (c .if1 .taken), unread _ (c .before .before .pre))
 
 shared-slice-read-if2 : tie.Need-shared-slice-read-if2
 shared-slice-read-if2 c = search needs
 
 returns-2 : tie.Need-returns-2
-returns-2 c = (refused-2 _ (c .before .before .if1 .left) (version-wrong _ (c .if2 .taken)), unread _ _ (c .before .before .before .before .pre))
+returns-2 c = (refused-2 _ (c .before .before .if1 .left) (version-wrong _ (c .if2 .taken)), unread _ (c .before .before .before .before .pre))
 
 shared-slice-read-n : tie.Need-shared-slice-read-n
 shared-slice-read-n c = search needs
@@ -67,7 +66,7 @@ returns-3 : tie.Need-returns-3
 returns-3 c =
     let e2 = c .before .before .before .before in (
       refused-3 _ (e2 .before .before .if1 .left) (version-here e2) (range-read _ _ _ (c .before .in-range .ensures) (not-true _ (c .if3 .taken))),
-      unread _ _ (e2 .before .before .before .before .pre),
+      unread _ (e2 .before .before .before .before .pre),
     )
 
 right-size-requires : tie.Need-right-size-requires
@@ -78,7 +77,7 @@ returns-4 c =
     let e3 = c .before .before in
     let e2 = e3 .before .before .before .before in (
       refused-4 _ (headed-here e3 .long) (version-here e2) (range-here e3) (sym (c .before .right-size .ensures) ∙ not-true _ (c .if4 .taken)),
-      unread _ _ (e2 .before .before .before .before .pre),
+      unread _ (e2 .before .before .before .before .pre),
     )
 
 valid-requires : tie.Need-valid-requires
@@ -92,7 +91,7 @@ returns-5 c =
     let e3 = e4 .before .before in
     let v = c .before .valid .ensures in (
       refused-none _ (headed-here e3 .long) (version-here (e3 .before .before .before .before)) (range-here e3) (sized-here e4) (sym (v .0) ∙ c .if5 .taken),
-      told-by (c .if5 .taken) (v .1),
+      v .1,
     )
 
 returns-6 : tie.Need-returns-6
@@ -101,7 +100,7 @@ returns-6 c =
     let e3 = e4 .before .before in
     let v = c .before .valid .ensures in (
       refused-5 _ (headed-here e3 .long) (version-here (e3 .before .before .before .before)) (range-here e3) (sized-here e4) (sym (v .0) ∙ c .if5 .left),
-      told-by (c .if5 .left) (v .1),
+      v .1,
     )
 
 pub refusal-with-spec : {M : Type 1} → statement M

@@ -14,7 +14,7 @@ returns c = judged-early _ _ (c .before .judge-early .ensures) (c .if1 .taken)
 
 judge-late-requires : tie.Need-judge-late-requires
 judge-late-requires c κs =
-    (c .before .before .before .pre .0, early-kind _ _ (sym (c .before .judge-early .ensures) ∙ c .if1 .left))
+    (c .before .before .before .pre .0, early-kind _ _ (sym (c .before .judge-early .ensures) ∙ c .if1 .left), c .before .before .before .pre .2)
 
 returns-2 : tie.Need-returns-2
 returns-2 c = judged-late _ _ (sym (c .before .before .judge-early .ensures) ∙ c .before .if1 .left) (c .judge-late .ensures)

@@ -26,7 +26,7 @@ enum-known-act : tie.Need-enum-known-act
 enum-known-act c = search needs
 
 transferred-requires : tie.Need-transferred-requires
-transferred-requires c κs = (entitled (c .before .before .before), c .before .act .given .1)
+transferred-requires c κs = (entitled (c .before .before .before), c .before .act .given .1, c .before .before .before .before .before .before .pre .2)
 
 enum-known-act-2 : tie.Need-enum-known-act-2
 enum-known-act-2 c = search needs

@@ -11,7 +11,7 @@ enum-told : tie.Need-enum-told
 enum-told c = search needs
 
 own-transferred-requires : tie.Need-own-transferred-requires
-own-transferred-requires c κs = (c .before .before .before .pre .0, c .before .before .before .pre .1 ∙ ap (λ (y : Right). Transfer y) (c .enum-told .given .1))
+own-transferred-requires c κs = (c .before .before .before .pre .0, c .before .before .before .pre .1 ∙ ap (λ (y : Right). Transfer y) (c .enum-told .given .1), c .before .before .before .pre .2)
 
 enum-told-2 : tie.Need-enum-told-2
 enum-told-2 c = search needs
