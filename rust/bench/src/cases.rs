@@ -1,12 +1,13 @@
-//! What is measured: each call on a record of some shape and size, on both sides.
+//! What is measured: each call on a record of some shape and size, on every side.
 
 use std::hint::black_box;
+use std::rc::Rc;
 
 use crate::lists::{accepted_commands, encode};
 use crate::measure::Case;
 use crate::numbers::Numbers;
+use crate::sides::Calls;
 use crate::stations::Shape;
-use crate::{fast, library};
 
 /// The size of a record.
 #[derive(Clone, Copy)]
@@ -33,46 +34,39 @@ pub const SIZES: [Size; 4] = [
 /// Commands in a long list.
 pub const LONG: usize = 10_000;
 
-/// A call that only reads the record. Both sides read the same bytes and have to give the same answer as expected.
+/// A call that only reads the record. All sides read the same bytes and have to give the same answer as expected.
 fn reading<T: PartialEq + Copy + 'static>(
     record: Vec<u8>,
     expected: T,
-    library: impl Fn(&[u8]) -> T + 'static,
-    rust: impl Fn(&[u8]) -> T + 'static,
+    call: impl Fn(Calls, &[u8]) -> T + Copy + 'static,
 ) -> Case {
-    let shared = std::rc::Rc::new(record);
-    let same = shared.clone();
-    Case::new(
-        move || assert!(library(black_box(&shared)) == expected),
-        move || assert!(rust(black_box(&same)) == expected),
-    )
+    let shared = Rc::new(record);
+    Case::new(|calls| {
+        let record = shared.clone();
+        move || assert!(call(calls, black_box(&record)) == expected)
+    })
 }
 
 pub fn valid(shape: Shape, size: Size) -> Case {
     let record = shape.record(size.n, size.p);
-    reading(record, true, library::valid, fast::valid)
+    reading(record, true, |calls, record| (calls.valid)(record))
 }
 
 /// Whether U holds the plain right 0 over the last log: it doesn't.
 pub fn held(shape: Shape, size: Size) -> Case {
     let record = shape.record(size.n, size.p);
     let o = (size.n + size.p - 1) as u64;
-    reading(
-        record,
-        (0, 0),
-        move |record| library::held(record, 0, o, 2),
-        move |record| fast::held(record, 0, o, 2),
-    )
+    reading(record, (0, 0), move |calls, record| {
+        (calls.held)(record, 0, o, 2)
+    })
 }
 
 /// A command that is accepted and, once done, leaves the record as it is, so that every call does the same.
 fn command(shape: Shape, size: Size, fields: [u64; 5]) -> Case {
-    let mut first = shape.record(size.n, size.p);
-    let mut second = first.clone();
-    Case::new(
-        move || assert!(library::command(black_box(&mut first), black_box(fields)).0 == 0),
-        move || assert!(fast::command(black_box(&mut second), black_box(fields)).0 == 0),
-    )
+    Case::new(|calls| {
+        let mut record = shape.record(size.n, size.p);
+        move || assert!((calls.command)(black_box(&mut record), black_box(fields)).0 == 0)
+    })
 }
 
 /// The owner of the last log grants subject 1 a right over it.
@@ -87,21 +81,18 @@ pub fn transfer_own(size: Size) -> Case {
     command(Shape::Chain, size, [3, last - 1, last - 1, last, 0])
 }
 
-/// A list run. Before every call both sides do the same to their record: nothing, or they copy the first one anew.
+/// A list run. Before every call all sides do the same to their record: nothing, or they copy the first one anew.
 fn run(record: Vec<u8>, commands: &[[u64; 5]], before: fn(&mut [u8], &[u8])) -> Case {
-    let (list, expected) = (encode(commands), (0, commands.len() as u64));
-    let (mut first, mut second) = (record.clone(), record.clone());
-    let (same_record, same_list) = (record.clone(), list.clone());
-    Case::new(
+    let (list, expected) = (Rc::new(encode(commands)), (0, commands.len() as u64));
+    let first = Rc::new(record);
+    Case::new(|calls| {
+        let (first, list) = (first.clone(), list.clone());
+        let mut record = first.to_vec();
         move || {
-            before(&mut first, &record);
-            assert!(library::run(black_box(&mut first), black_box(&list)) == expected);
-        },
-        move || {
-            before(&mut second, &same_record);
-            assert!(fast::run(black_box(&mut second), black_box(&same_list)) == expected);
-        },
-    )
+            before(&mut record, &first);
+            assert!((calls.run)(black_box(&mut record), black_box(&list)) == expected);
+        }
+    })
 }
 
 /// A run of `count` grants by the owners of the logs in turn, each to another subject. The same run on the record after it is
@@ -128,22 +119,16 @@ pub fn run_of_all_codes(size: Size, count: usize) -> Case {
 
 /// Whether subject 1 can come to hold the plain right 0 over the log that is asked about.
 fn question(shape: Shape, size: Size, trust: u64, leaks: bool) -> Case {
-    let record = shape.record(size.n, size.p);
     let o = shape.asked_log(size.n) as u64;
-    let (mut first, same) = (vec![0; 5 + 6 * (size.n + 2)], record.clone());
-    let mut second = first.clone();
-    Case::new(
+    Case::new(|calls| {
+        let record = shape.record(size.n, size.p);
+        let mut out = vec![0; 5 + 6 * (size.n + 2)];
         move || {
-            let out = black_box(&mut first[..]);
-            let (refusal, value) = library::safety(black_box(&record), trust, 1, o, 2, out);
+            let out = black_box(&mut out[..]);
+            let (refusal, value) = (calls.safety)(black_box(&record), trust, 1, o, 2, out);
             assert!(refusal == 0 && (value != 0) == leaks);
-        },
-        move || {
-            let out = black_box(&mut second[..]);
-            let (refusal, value) = fast::safety(black_box(&same), trust, 1, o, 2, out);
-            assert!(refusal == 0 && (value != 0) == leaks);
-        },
-    )
+        }
+    })
 }
 
 /// Everybody is trusted, so that the answer is safe after every owner above the log is looked at.

@@ -1,9 +1,11 @@
-//! Both sides on the same seeded inputs, before anything is measured. A difference ends the program.
+//! All sides on the same seeded inputs, before anything is measured. A difference ends the program.
+
+use std::fmt::Debug;
 
 use crate::lists::{accepted_commands, encode, likely_command};
 use crate::numbers::Numbers;
+use crate::sides::{Calls, LIBRARY, PLAIN, SSE2};
 use crate::stations::{any_record, damage};
-use crate::{fast, library};
 
 /// The number of seeded records.
 pub const RECORDS: u64 = 4000;
@@ -28,32 +30,35 @@ pub fn compare_all() {
     }
 }
 
-/// Ends the program where two answers differ.
-fn same<T: PartialEq + std::fmt::Debug>(seed: u64, call: &str, library: T, rust: T) {
-    assert!(
-        library == rust,
-        "{call} differs at seed {seed}: library {library:?}, Rust {rust:?}"
-    );
+/// The Rust sides with their names.
+const RUST: [(&str, Calls); 2] = [("plain Rust", PLAIN), ("SSE2 Rust", SSE2)];
+
+/// Ends the program where a Rust side answers other than the library.
+fn same<T: PartialEq + Debug>(seed: u64, call: &str, answer: impl Fn(Calls) -> T) {
+    let library = answer(LIBRARY);
+    for (side, calls) in RUST {
+        let rust = answer(calls);
+        assert!(
+            library == rust,
+            "{call} differs at seed {seed}: library {library:?}, {side} {rust:?}"
+        );
+    }
 }
 
 /// Every call on one record with several numbers.
 fn compare_record(numbers: &mut Numbers, seed: u64, record: &[u8], n: usize, p: usize) {
-    same(seed, "valid", library::valid(record), fast::valid(record));
+    same(seed, "valid", |calls| (calls.valid)(record));
     for _ in 0..4 {
         let s = numbers.below(n + 1) as u64;
         let o = numbers.below(n + p + 1) as u64;
         let right = numbers.below(17) as u64;
-        let answers = (
-            library::held(record, s, o, right),
-            fast::held(record, s, o, right),
-        );
-        same(seed, "held", answers.0, answers.1);
+        same(seed, "held", |calls| (calls.held)(record, s, o, right));
         compare_safety(numbers, seed, record, n, (s, o, right));
     }
     for _ in 0..13 {
         compare_command(numbers, seed, record);
     }
-    let mut commands = if fast::valid(record) {
+    let mut commands = if (PLAIN.valid)(record) {
         accepted_commands(numbers, record, 13)
     } else {
         Vec::new()
@@ -64,7 +69,9 @@ fn compare_record(numbers: &mut Numbers, seed: u64, record: &[u8], n: usize, p: 
         let place = numbers.below(list.len());
         list[place] ^= 1 << numbers.below(8);
     }
-    compare_changed(seed, "run", record, library::run, fast::run, &list);
+    same(seed, "run", |calls| {
+        changed(record, |copy| (calls.run)(copy, &list))
+    });
 }
 
 /// Five fields, near the bounds of small records as often as anywhere.
@@ -76,34 +83,23 @@ fn any_fields(numbers: &mut Numbers) -> [u64; 5] {
 /// One command, of the code's kinds or any.
 fn compare_command(numbers: &mut Numbers, seed: u64, record: &[u8]) {
     let code = 1 + numbers.below(13);
-    let command = if fast::valid(record) && !numbers.once_in(4) {
+    let command = if (PLAIN.valid)(record) && !numbers.once_in(4) {
         likely_command(numbers, record, code)
     } else {
         any_fields(numbers)
     };
-    let (ours, theirs) = (library::command, fast::command);
-    compare_changed(seed, "command", record, ours, theirs, command);
+    same(seed, "command", |calls| {
+        changed(record, |copy| (calls.command)(copy, command))
+    });
 }
 
-/// A call that may change the record: the answers and the records after it.
-fn compare_changed<T: Copy>(
-    seed: u64,
-    call: &str,
-    record: &[u8],
-    library: impl Fn(&mut [u8], T) -> (u64, u64),
-    rust: impl Fn(&mut [u8], T) -> (u64, u64),
-    given: T,
-) {
-    let (mut first, mut second) = (record.to_vec(), record.to_vec());
-    let answers = (library(&mut first, given), rust(&mut second, given));
-    same(seed, call, answers.0, answers.1);
-    assert!(
-        first == second,
-        "{call} leaves another record at seed {seed}"
-    );
+/// The answer of a call that may change the record, and the record after it.
+fn changed(record: &[u8], call: impl Fn(&mut [u8]) -> (u64, u64)) -> ((u64, u64), Vec<u8>) {
+    let mut copy = record.to_vec();
+    (call(&mut copy), copy)
 }
 
-/// A question on both sides. Which list a leak writes is left free, so each side's list is tried.
+/// A question on all sides. Which list a leak writes is left free, so each side's list is tried.
 fn compare_safety(
     numbers: &mut Numbers,
     seed: u64,
@@ -119,18 +115,15 @@ fn compare_safety(
         _ => (numbers.bits() | numbers.bits()) & within,
     };
     let room = 5 + 6 * (n + 2) - usize::from(numbers.once_in(16));
-    let (mut first, mut second) = (vec![0xEE; room], vec![0xEE; room]);
-    let ours = library::safety(record, trust, s, o, right, &mut first);
-    let theirs = fast::safety(record, trust, s, o, right, &mut second);
-    let kind = |answer: (u64, u64)| (answer.0, answer.1 != 0);
-    same(seed, "safety", kind(ours), kind(theirs));
-    for (side, answer, out) in [("library", ours, first), ("Rust", theirs, second)] {
-        let fits = list_fits(record, trust, (s, o, right), answer.1, &out);
+    same(seed, "safety", |calls| {
+        let mut out = vec![0xEE; room];
+        let answer = (calls.safety)(record, trust, s, o, right, &mut out);
         assert!(
-            fits,
-            "the list of the {side}'s safety is wrong at seed {seed}: trust {trust:x}, {s} {o} {right}, {out:?}"
+            list_fits(record, trust, (s, o, right), answer.1, &out),
+            "a list of safety is wrong at seed {seed}: trust {trust:x}, {s} {o} {right}, {out:?}"
         );
-    }
+        (answer.0, answer.1 != 0)
+    });
 }
 
 /// Whether a buffer holds what an answer says: nothing, or a list by untrusted subjects after which the right is held.
@@ -155,6 +148,6 @@ fn list_fits(
     let mut after = record.to_vec();
     let untrusted = list[5..].chunks(6).all(|c| trust >> c[2] & 1 == 0);
     untrusted
-        && fast::run(&mut after, list) == (0, value - 1)
-        && fast::held(&after, s, o, right) == (0, 1)
+        && (PLAIN.run)(&mut after, list) == (0, value - 1)
+        && (PLAIN.held)(&after, s, o, right) == (0, 1)
 }

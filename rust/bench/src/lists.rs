@@ -1,7 +1,7 @@
 //! Lists of commands as bytes.
 
-use crate::fast;
 use crate::numbers::Numbers;
+use crate::plain;
 use crate::stations::lowest_owner;
 
 /// Commands as a list.
@@ -49,7 +49,7 @@ pub fn accepted_commands(numbers: &mut Numbers, start: &[u8], count: usize) -> V
         turn += 1;
         for _ in 0..20 {
             let command = likely_command(numbers, &record, code);
-            if fast::command(&mut record, command).0 == 0 {
+            if plain::command(&mut record, command).0 == 0 {
                 commands.push(command);
                 break;
             }

@@ -1,9 +1,11 @@
-//! Times of several calls on two sides, measured in turn so that what else the machine does reaches all of them alike.
+//! Times of several calls on three sides, measured in turn so that what else the machine does reaches all of them alike.
 
 use std::time::{Duration, Instant};
 
+use crate::sides::{Calls, LIBRARY, PLAIN, SSE2};
+
 /// Rounds of each side of each case.
-const ROUNDS: usize = 301;
+const ROUNDS: usize = 401;
 
 /// How long a round should take: short, so that many rounds are not interrupted.
 const ROUND: Duration = Duration::from_micros(40);
@@ -11,11 +13,8 @@ const ROUND: Duration = Duration::from_micros(40);
 /// A function that makes so many calls and says how long they took.
 type Side = Box<dyn FnMut(u32) -> Duration>;
 
-/// One call on both sides.
-pub struct Case {
-    library: Side,
-    rust: Side,
-}
+/// One call on all sides: the library, plain Rust and SSE2.
+pub struct Case([Side; 3]);
 
 /// The time that so many calls take.
 fn timed(mut call: impl FnMut() + 'static) -> Side {
@@ -29,45 +28,25 @@ fn timed(mut call: impl FnMut() + 'static) -> Side {
 }
 
 impl Case {
-    pub fn new(library: impl FnMut() + 'static, rust: impl FnMut() + 'static) -> Case {
-        Case {
-            library: timed(library),
-            rust: timed(rust),
-        }
+    /// A call made from the calls of each side.
+    pub fn new<F: FnMut() + 'static>(call: impl Fn(Calls) -> F) -> Case {
+        Case([LIBRARY, PLAIN, SSE2].map(|calls| timed(call(calls))))
     }
 }
 
-/// Nanoseconds a call: the shortest round's and the median round's.
-#[derive(Clone, Copy)]
-pub struct Time {
-    pub shortest: f64,
-    pub median: f64,
-}
-
-/// The times of a case.
+/// The times of a case: nanoseconds a call in the shortest round.
 #[derive(Clone, Copy)]
 pub struct Times {
-    pub library: Time,
-    pub rust: Time,
+    pub library: f64,
+    pub plain: f64,
+    pub sse2: f64,
 }
 
-impl Times {
-    /// How many times as long the library takes, by the shortest rounds.
-    pub fn ratio(&self) -> f64 {
-        self.library.shortest / self.rust.shortest
-    }
-
-    /// The same by the median rounds.
-    pub fn median_ratio(&self) -> f64 {
-        self.library.median / self.rust.median
-    }
-}
-
-/// A side with the number of calls that fills a round, and the rounds measured so far.
+/// A side with the number of calls that fills a round, and the shortest round so far.
 struct Track {
     side: Side,
     calls: u32,
-    rounds: Vec<Duration>,
+    shortest: Duration,
 }
 
 impl Track {
@@ -79,43 +58,36 @@ impl Track {
         Track {
             side,
             calls,
-            rounds: Vec::new(),
+            shortest: Duration::MAX,
         }
     }
 
     fn round(&mut self) {
-        self.rounds.push((self.side)(self.calls));
+        self.shortest = self.shortest.min((self.side)(self.calls));
     }
 
-    /// The shortest and the median round, of which each call does so many parts.
-    fn time(mut self, parts: usize) -> Time {
-        self.rounds.sort();
-        let share = f64::from(self.calls) * parts as f64;
-        let nanoseconds = |round: Duration| round.as_nanos() as f64 / share;
-        Time {
-            shortest: nanoseconds(self.rounds[0]),
-            median: nanoseconds(self.rounds[ROUNDS / 2]),
-        }
+    /// Nanoseconds of one part in the shortest round, where each call does so many.
+    fn time(&self, parts: usize) -> f64 {
+        self.shortest.as_nanos() as f64 / (f64::from(self.calls) * parts as f64)
     }
 }
 
 /// The times of one part of each case, where a call does so many. Every round goes through all cases, the library first.
 pub fn in_turn(cases: Vec<Case>, parts: usize) -> Vec<Times> {
-    let mut tracks: Vec<(Track, Track)> = cases
+    let mut tracks: Vec<[Track; 3]> = cases
         .into_iter()
-        .map(|case| (Track::new(case.library), Track::new(case.rust)))
+        .map(|Case(sides)| sides.map(Track::new))
         .collect();
     for _ in 0..ROUNDS {
-        for (library, rust) in &mut tracks {
-            library.round();
-            rust.round();
-        }
+        tracks.iter_mut().flatten().for_each(Track::round);
     }
-    tracks
-        .into_iter()
-        .map(|(library, rust)| Times {
-            library: library.time(parts),
-            rust: rust.time(parts),
-        })
-        .collect()
+    let times = |tracks: &[Track; 3]| {
+        let [library, plain, sse2] = tracks.each_ref().map(|track| track.time(parts));
+        Times {
+            library,
+            plain,
+            sse2,
+        }
+    };
+    tracks.iter().map(times).collect()
 }

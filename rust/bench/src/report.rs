@@ -8,9 +8,24 @@ use crate::stations::Shape;
 pub fn heading(title: &str) {
     println!("\n{title}");
     println!(
-        "{:<16}{:>9}{:>10}{:>9}{:>7}{:>15}{:>12}{:>14}",
-        "call", "n, p", "library", "Rust", "ratio", "library grows", "Rust grows", "median ratio"
+        "{:<16}{:>9}{}{:>15}{:>13}",
+        "call", "n, p", TIMES_HEADING, "library grows", "plain grows"
     );
+}
+
+/// The heading of the columns that `times` fills.
+const TIMES_HEADING: &str = "   library  plain Rust  ratio  SSE2 Rust  ratio";
+
+/// The times of the three sides, and how many times as long as each Rust the library takes.
+fn times(times: &Times) -> String {
+    format!(
+        "{:>10.1}{:>12.1}{:>7.2}{:>11.1}{:>7.2}",
+        times.library,
+        times.plain,
+        times.library / times.plain,
+        times.sse2,
+        times.library / times.sse2
+    )
 }
 
 /// How many times as long as at the size before, where there is one.
@@ -25,22 +40,16 @@ fn growth(now: f64, before: Option<f64>) -> String {
 pub fn by_size(call: &str, parts: usize, case: impl Fn(Size) -> Case) {
     let all = in_turn(SIZES.map(case).into(), parts);
     let mut before: Option<Times> = None;
-    for (size, times) in SIZES.iter().zip(all) {
+    for (size, now) in SIZES.iter().zip(all) {
         println!(
-            "{:<16}{:>9}{:>10.1}{:>9.1}{:>7.2}{:>15}{:>12}{:>14.2}",
+            "{:<16}{:>9}{}{:>15}{:>13}",
             call,
             format!("{}, {}", size.n, size.p),
-            times.library.shortest,
-            times.rust.shortest,
-            times.ratio(),
-            growth(
-                times.library.shortest,
-                before.map(|times| times.library.shortest)
-            ),
-            growth(times.rust.shortest, before.map(|times| times.rust.shortest)),
-            times.median_ratio()
+            times(&now),
+            growth(now.library, before.map(|times| times.library)),
+            growth(now.plain, before.map(|times| times.plain))
         );
-        before = Some(times);
+        before = Some(now);
     }
 }
 
@@ -51,15 +60,8 @@ pub fn by_shape(size: Size) {
         size.n, size.p
     );
     println!(
-        "{:<22}{:<13}{:>9}{:>9}{:>7}{:>17}{:>14}{:>14}",
-        "shape",
-        "call",
-        "library",
-        "Rust",
-        "ratio",
-        "library / valid",
-        "Rust / valid",
-        "median ratio"
+        "{:<22}{:<13}{}{:>17}{:>15}",
+        "shape", "call", TIMES_HEADING, "library / valid", "plain / valid"
     );
     for shape in Shape::ALL {
         let all = vec![
@@ -67,18 +69,15 @@ pub fn by_shape(size: Size) {
             cases::all_trusted(shape, size),
             cases::root_untrusted(shape, size),
         ];
-        let times = in_turn(all, 1);
-        for (call, line) in ["valid", "all trusted", "U untrusted"].iter().zip(&times) {
+        let lines = in_turn(all, 1);
+        for (call, line) in ["valid", "all trusted", "U untrusted"].iter().zip(&lines) {
             println!(
-                "{:<22}{:<13}{:>9.1}{:>9.1}{:>7.2}{:>17.2}{:>14.2}{:>14.2}",
+                "{:<22}{:<13}{}{:>17.2}{:>15.2}",
                 shape.name(),
                 call,
-                line.library.shortest,
-                line.rust.shortest,
-                line.ratio(),
-                line.library.shortest / times[0].library.shortest,
-                line.rust.shortest / times[0].rust.shortest,
-                line.median_ratio()
+                times(line),
+                line.library / lines[0].library,
+                line.plain / lines[0].plain
             );
         }
     }

@@ -1,8 +1,12 @@
 //! The five calls in Rust written for speed, with no proof: what the library is timed against. A refusal is its number, 0 where
 //! the call is answered.
+//!
+//! This source is two modules, `plain::fast` and `sse2::fast`. Each takes its lanes, on which the scan works, from the module
+//! it is in.
 
 mod change;
-mod lanes;
+mod eight;
+pub mod parts;
 mod rooted;
 mod safety;
 mod scan;
@@ -13,6 +17,7 @@ mod witness;
 
 pub use safety::safety;
 
+use super::lanes;
 use scan::scan;
 use station::Station;
 use tables::Tables;

@@ -1,12 +1,16 @@
 //! The validity of a record, by one pass over its rows in blocks of byte columns.
 
-use super::lanes::{BLOCK, Lanes};
+use super::lanes::{BLOCK, LANE, Lane};
+use super::parts::{part, part_mut};
 use super::rooted::rooted;
 use super::subjects::subject_columns;
 use super::tables::Tables;
 
 /// The place of the first cell.
 const FIRST: usize = 7;
+
+/// The lanes that are united at once: as many as eight vector registers have.
+const UNION: usize = 128 / LANE;
 
 /// The refusal 1 to 5 of a record, or 0 with its tables filled. The tables are zero at first.
 #[inline]
@@ -26,7 +30,12 @@ pub fn scan(record: &[u8], tables: &mut Tables) -> u64 {
     if length as usize != 2 + n * width || cells.len() != n * width {
         return 4;
     }
-    if valid(cells, n, width, tables) { 0 } else { 5 }
+    let fits = if width < BLOCK * LANE {
+        narrow(cells, n, width, tables)
+    } else {
+        valid(cells, n, width, tables)
+    };
+    if fits { 0 } else { 5 }
 }
 
 /// Whether the n rows of `width` bytes are a valid matrix.
@@ -37,52 +46,47 @@ fn valid(cells: &[u8], n: usize, width: usize, tables: &mut Tables) -> bool {
     let root = cells[1] & 2 != 0 && tables.tally[1] == 2;
     root && !subjects.wrong.any()
         && plains_fit(n, width, tables)
-        && (!subjects.absent.any() || zero_rows(cells, width))
+        && (!subjects.absent.any() || zero_rows(&cells[..n * width], width))
         && (!subjects.higher.any() || rooted(tables, n))
 }
 
-/// The bits set in some row of the 16 N byte columns from j on, written into the table.
-///
-/// # Safety
-/// `cells` is n rows of `width` bytes, and j + 16 N is at most `width`.
+/// Whether rows that are shorter than a block, under 16 bytes on every side, are a valid matrix. They are copied, so that a
+/// block may go on into the next rows and beyond the last; what it finds there isn't looked at.
+#[inline(never)]
+fn narrow(cells: &[u8], n: usize, width: usize, tables: &mut Tables) -> bool {
+    let mut copy = [0; 128];
+    copy[..cells.len()].copy_from_slice(cells);
+    valid(&copy, n, width, tables)
+}
+
+/// The bits set in some row of N lanes from byte column j on, written into the table.
 #[inline(always)]
-unsafe fn union<const N: usize>(
-    cells: &[u8],
-    n: usize,
-    width: usize,
-    j: usize,
-    tables: &mut Tables,
-) {
-    let mut seen = [Lanes::zero(); N];
+fn union<const N: usize>(cells: &[u8], n: usize, width: usize, j: usize, tables: &mut Tables) {
+    let mut seen = [Lane::every(0); N];
     for row in 0..n {
-        let at = row * width + j;
-        for (part, lanes) in seen.iter_mut().enumerate() {
-            // SAFETY: a row below n ends within the cells, and so do the block's bytes of it.
-            *lanes |= unsafe { Lanes::load(cells, at + BLOCK * part) };
+        let bytes = part::<N>(cells, row * width + j);
+        for (seen, bytes) in seen.iter_mut().zip(bytes) {
+            *seen |= Lane::of(bytes);
         }
     }
-    for (part, lanes) in seen.iter().enumerate() {
-        lanes.store(&mut tables.seen, j + BLOCK * part);
+    for (to, seen) in part_mut::<N>(&mut tables.seen, j).iter_mut().zip(seen) {
+        seen.store(to);
     }
 }
 
-/// The bits seen in the plain columns, which begin at byte column 2 n.
+/// The bits seen in the plain columns, which begin at byte column 2 n. A last part that would go beyond the row begins
+/// earlier and repeats some.
 #[inline(always)]
 fn plain_columns(cells: &[u8], n: usize, width: usize, tables: &mut Tables) {
-    if width < BLOCK {
+    if width < UNION * LANE {
+        let last = width.saturating_sub(BLOCK * LANE);
+        for j in (2 * n..width).step_by(BLOCK * LANE) {
+            union::<BLOCK>(cells, n, width, j.min(last), tables);
+        }
         return;
     }
-    let mut j = 2 * n;
-    while j + 8 * BLOCK <= width {
-        // SAFETY: the cells are n rows of `width` bytes, and the block ends within a row.
-        unsafe { union::<8>(cells, n, width, j, tables) };
-        j += 8 * BLOCK;
-    }
-    while j < width {
-        let start = j.min(width - BLOCK);
-        // SAFETY: as above.
-        unsafe { union::<1>(cells, n, width, start, tables) };
-        j = start + BLOCK;
+    for j in (2 * n..width).step_by(UNION * LANE) {
+        union::<UNION>(cells, n, width, j.min(width - UNION * LANE), tables);
     }
 }
 

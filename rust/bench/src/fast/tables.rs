@@ -1,7 +1,7 @@
 //! What the pass over a record's rows keeps of each byte column. A column's low byte, with own and control, is its second.
 
 /// The bytes of a row that 64 subject columns have.
-const SUBJECT_BYTES: usize = 128;
+pub const SUBJECT_BYTES: usize = 128;
 
 /// Tables over byte columns.
 pub struct Tables {

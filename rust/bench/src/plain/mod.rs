@@ -1,0 +1,9 @@
+//! The five calls in plain Rust: safe, with no intrinsics, in loops that LLVM turns into vector instructions.
+
+#![forbid(unsafe_code)]
+
+#[path = "../fast/mod.rs"]
+mod fast;
+mod lanes;
+
+pub use fast::{command, held, run, safety, valid};
