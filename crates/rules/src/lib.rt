@@ -10,6 +10,7 @@ ghost use mathlib.Core.Path.{_≡_};
 ghost use mathlib.Core.Bool.{_&&_};
 ghost use Prim.Native.Nat.{_<_};
 ghost use Rattle.matrix.specs.State.{exists, existsName};
+ghost use Rattle.matrix.specs.Valid.{Valid};
 ghost use Rattle.matrix.specs.Tests.{kindFits, present, free, permitted};
 ghost use Rattle.matrix.specs.Reading.{stateOf};
 ghost use Rattle.states.specs.Needs.{basicOf};
@@ -34,19 +35,19 @@ pub fn kind_fits(kind: Kind, x: Name) -> bool
 
 // Whether s and o exist.
 fn both_exist(b: &[u8], n: usize, p: usize, c: Command) -> bool
-    requires { ⌜ CommandIn (now b) n p c ⌝ }
+    requires { ⌜ CommandIn (now b) n p c × Valid (stateOf (now b)) ⌝ }
     ensures { λ t. ⌜ t ≡ (exists (stateOf (now (b .entry))) (c .s) && existsName (stateOf (now (b .entry))) (c .o)) ⌝ }
 {
     let o = c.o;
     if states::subject_exists(b, n, p, c.s) {
-        return states::exists_by(b, n, p, c.i, o);
+        return states::exists_by(b, n, p, c.i, c.s, o);
     }
     false
 }
 
 // Whether the names that a command needs exist.
 pub fn names_present(b: &[u8], n: usize, p: usize, c: Command) -> bool
-    requires { ⌜ CommandIn (now b) n p c ⌝ }
+    requires { ⌜ CommandIn (now b) n p c × Valid (stateOf (now b)) ⌝ }
     ensures { λ t. ⌜ t ≡ present (stateOf (now (b .entry))) c (c .act) ⌝ }
 {
     let act = c.act;
@@ -56,7 +57,7 @@ pub fn names_present(b: &[u8], n: usize, p: usize, c: Command) -> bool
         Act::Grant(_) => both_exist(b, n, p, c),
         Act::Delete(_) => both_exist(b, n, p, c),
         Act::CreateObject => true,
-        Act::DestroyObject => states::exists_by(b, n, p, c.i, o),
+        Act::DestroyObject => states::exists_by(b, n, p, c.i, c.s, o),
         Act::CreateSubject => true,
         Act::DestroySubject => states::subject_exists(b, n, p, c.s),
     }

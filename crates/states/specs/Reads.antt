@@ -2,7 +2,7 @@
 use Prim.Native.Nat.{ℕ, _+_, _<_}
 use native.Mathlib.Omega.{arith}
 use mathlib.Core.Path.{_≡_, sym, _∙_, ap, ap₂, subst}
-use mathlib.Core.Bool.{Bool, true, not, _&&_, and-comm}
+use mathlib.Core.Bool.{Bool, true, false, not, _&&_, and-comm}
 use mathlib.Core.List.{List}
 use lib.Dec.{eqb, ltb}
 use borrow.Author.Tests.{lt-ltb, ltb-true, ne-eqb}
@@ -13,17 +13,20 @@ use Rattle.matrix.specs.declared.Right.{Right}
 use Rattle.matrix.specs.declared.Right.the-variants.{Own, Control, Basic}
 use Rattle.matrix.specs.Bounded.{least}
 use Rattle.matrix.specs.Names.{named, columnOf}
-use Rattle.matrix.specs.Rights.{codeOf}
+use Rattle.matrix.specs.Rights.{codeOf, rightOf}
 use Rattle.matrix.specs.State.{has, existsName}
 use Rattle.matrix.specs.Owners.{ownerOf}
 use Rattle.matrix.specs.Tests.{otherController}
 use Rattle.matrix.specs.Bytes.{bit}
-use Rattle.matrix.specs.Shape.{shapeOf}
-use Rattle.matrix.specs.Reading.{cellAt, stateOf}
-use Rattle.laws.specs.Bounded.{any-hit, least-same, any-least}
-use Rattle.codec.specs.Codes.{codeOf-room}
+use Rattle.matrix.specs.Valid.{Valid}
+use Rattle.matrix.specs.Shape.{shapeOf, bitsOf}
+use Rattle.matrix.specs.Reading.{cellAt, bitAt, stateOf}
+use Rattle.laws.specs.Bounded.{any-found, least-same, any-least}
+use Rattle.codec.specs.Bits.{any-bit}
+use Rattle.codec.specs.Cells.{cell-below}
+use Rattle.codec.specs.Codes.{codeOf-room, codeOf-rightOf}
 use Rattle.codec.specs.Columns.{named-below}
-use Rattle.codec.specs.Update.{bit-named}
+use Rattle.codec.specs.Update.{has-state, bitAt-named, bit-named}
 use Rattle.owners.specs.Framed.{valid-framed, owner-same}
 use Rattle.cells.specs.Station.{Station}
 use Rattle.cells.specs.Rows.{rowHas}
@@ -84,11 +87,18 @@ object-found {b} {n} {p} {o} {r} {x} h e f =
     ∙ sym (any-least (stateOf b .top) (λ w. stateOf b .owns w (Plain o)))
     ∙ sym (ap (λ (x : Name). existsName (stateOf b) x) e)
 
--- an object exists where the test t of a row for own is passed
-pub object-owned : {b : List ℕ} {n p o i : ℕ} {x : Name} {t : Bool} → NameIn b n p x → x ≡ Plain o → i < n → t ≡ stateOf b .owns i x → t ≡ true → true ≡ existsName (stateOf b) x
-object-owned {b} {n} {p} {o} {i} h e l own f =
-    sym (any-hit (stateOf b .top) (λ w. stateOf b .owns w (Plain o)) i (rw (top-is b n p (h .station)) l) (sym (own ∙ ap (λ (x : Name). stateOf b .owns i x) e) ∙ f))
-    ∙ sym (ap (λ (x : Name). existsName (stateOf b) x) e)
+-- in a valid record an object exists where a row's cell v over it is not zero
+pub object-touched : {b : List ℕ} {n p o w v : ℕ} {x : Name} → NameIn b n p x → Valid (stateOf b) → w < n → x ≡ Plain o → v ≡ cellAt b w o → (v ≡ 0 → ⊥) → true ≡ existsName (stateOf b) x
+object-touched {b} {o = o} {w = w} {x = x} h valid l e f ne =
+    let z : eqb (cellAt b w o) 0 ≡ false = ne-eqb (cellAt b w o) 0 (λ k. ne (f ∙ k)) in
+    let found = any-found (bitsOf (shapeOf b)) (λ j. bit j (cellAt b w o)) (any-bit _ _ (cell-below b w o (h .station .octets)) ∙ ap not z) in
+    let j = found .0 in
+    let named-in : named (shapeOf b .n) (shapeOf b .p) x ≡ true = rw (← h .station .subjects, ← h .station .plains) (h .column) in
+    let set : has (stateOf b) (rightOf j) w x ≡ true =
+    has-state b (rightOf j) w x ∙ ap (λ (i : ℕ). bitAt b i w x) (codeOf-rightOf j)
+    ∙ bitAt-named b j w x (rw (← h .station .subjects) l) named-in (found .1)
+    ∙ ap (λ (y : Name). bit j (cellAt b w (columnOf y))) e ∙ found .2 in
+    sym (valid .column (rightOf j) w x set)
 
 -- a subject is controlled by another where the search of its column finds a row r
 pub other-found : {b : List ℕ} {n p o r : ℕ} → Station b n p → o < n → r ≡ least n (rowHas b o 1 o) → ltb r n ≡ otherController (stateOf b) (Subject o)

@@ -13,6 +13,7 @@ ghost use Rattle.matrix.specs.Names.{columnOf, nameOf};
 ghost use Rattle.matrix.specs.Rights.{codeOf};
 ghost use Rattle.matrix.specs.State.{has, exists, existsName};
 ghost use Rattle.matrix.specs.Owners.{ownerOf, walk};
+ghost use Rattle.matrix.specs.Valid.{Valid};
 ghost use Rattle.matrix.specs.Tests.{otherController};
 ghost use Rattle.matrix.specs.Reading.{stateOf};
 ghost use Rattle.cells.specs.Station.{Station};
@@ -82,16 +83,19 @@ pub fn name_exists(b: &[u8], n: usize, p: usize, x: Name) -> bool
     }
 }
 
-// Whether a name exists, asked for subject i, who is likely to own it: a plain object that i owns exists, and the search for another owner
-// is left out.
-pub fn exists_by(b: &[u8], n: usize, p: usize, i: usize, x: Name) -> bool
-    requires { ⌜ NameIn (now b) n p x × (i < n) ⌝ }
+// Whether a name exists in a valid record, asked for subjects i and s, who are likely to have a right over it: where one of them has any,
+// a plain object exists, and the search for its owner is left out.
+pub fn exists_by(b: &[u8], n: usize, p: usize, i: usize, s: usize, x: Name) -> bool
+    requires { ⌜ NameIn (now b) n p x × Valid (stateOf (now b)) × (i < n) × (s < n) ⌝ }
     ensures { λ t. ⌜ t ≡ existsName (stateOf (now (b .entry))) x ⌝ }
 {
     match x {
-        Name::Subject(s) => subject_exists(b, n, p, s),
-        Name::Plain(_) => {
-            if has_bit(b, n, p, Right::Own, i, x) {
+        Name::Subject(w) => subject_exists(b, n, p, w),
+        Name::Plain(o) => {
+            if cells::cell(b, n, p, i, o) != 0 {
+                return true;
+            }
+            if cells::cell(b, n, p, s, o) != 0 {
                 return true;
             }
             name_exists(b, n, p, x)

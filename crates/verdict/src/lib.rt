@@ -9,6 +9,7 @@ use matrix::Walked;
 ghost use mathlib.Core.Path.{_≡_};
 ghost use mathlib.Core.Bool.{true};
 ghost use Rattle.matrix.specs.Commands.{kindOf};
+ghost use Rattle.matrix.specs.Valid.{Valid};
 ghost use Rattle.matrix.specs.Tests.{kindFits};
 ghost use Rattle.matrix.specs.Reading.{stateOf};
 ghost use Rattle.states.specs.Needs.{Guessed};
@@ -148,7 +149,7 @@ fn judge_late(b: &[u8], n: usize, p: usize, owners: &[u8; 128], c: Command) -> V
 
 // The tests 8 to 11: the number of the first that is not passed, or 0.
 fn judge_early(b: &[u8], n: usize, p: usize, c: Command, kind: Kind) -> usize
-    requires { ⌜ CommandIn (now b) n p c × (kind ≡ kindOf (c .act)) ⌝ }
+    requires { ⌜ CommandIn (now b) n p c × (kind ≡ kindOf (c .act)) × Valid (stateOf (now b)) ⌝ }
     ensures { λ r. ⌜ r ≡ early (stateOf (now (b .entry))) c ⌝ }
 {
     let o = c.o;
