@@ -15,16 +15,19 @@ abbrev pub countFour : List ℕ → ℕ → ℕ → ℕ → ℕ → ℕ → ℕ
 countFour b at m k x j =
     x + getD b (at + j) 0 / 2 ^ k % 2 + getD b (at + m + j) 0 / 2 ^ k % 2 + getD b (at + m + m + j) 0 / 2 ^ k % 2 + getD b (at + m + m + m + j) 0 / 2 ^ k % 2
 
-abbrev pub lastFour : List ℕ → ℕ → ℕ → ℕ → ℕ → ℕ → ℕ
-lastFour b at m row x j =
-    cond (bit 0 (getD b (at + m + m + m + j) 0)) (row + 3)
-    (cond (bit 0 (getD b (at + m + m + j) 0)) (row + 2) (cond (bit 0 (getD b (at + m + j) 0)) (row + 1) (cond (bit 0 (getD b (at + j) 0)) row x)))
+-- the four bytes p, q, s and t of a byte column, of rows whose first is the number `row`
+abbrev pub marked : ℕ → ℕ → ℕ → ℕ → ℕ → ℕ → ℕ
+marked row x p q s t = bitOr (bitOr (bitOr x (cond (bit 0 (bitOr (bitOr (bitOr p q) s) t)) row 0)) (bitOr q t % 2)) (bitOr s t % 2 * 2)
 
--- four rows from row r on, for which the lists have room
+abbrev pub markFour : List ℕ → ℕ → ℕ → ℕ → ℕ → ℕ → ℕ
+markFour b at m row x j = marked row x (getD b (at + j) 0) (getD b (at + m + j) 0) (getD b (at + m + m + j) 0) (getD b (at + m + m + m + j) 0)
+
+-- four rows from row r on, a multiple of 4, for which the lists have room
 pub record RoomFour (b : List ℕ) (m w r at : ℕ) : Type 0 where
   pub bytes : m ≤ 512
   pub width : w ≤ 128
   pub inside : w ≤ m
   pub rows : r + 4 ≤ 64
+  pub aligned : r % 4 ≡ 0
   pub place : at ≡ 7 + r * m
   pub fits : at + 4 * m ≤ length b

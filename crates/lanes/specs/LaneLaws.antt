@@ -1,18 +1,18 @@
 -- Laws of what is kept for each byte column: one row more, and what a merged number tells.
-use Prim.Native.Nat.{ℕ, zero, suc, _+_, _/_, _%_, _^_, _≤_}
+use Prim.Native.Nat.{ℕ, zero, suc, _+_, _/_, _%_, _^_, _≤_, _<_}
 use native.Mathlib.Nat.{div-one}
 use native.Mathlib.Numerals.{add-one}
 use native.Mathlib.Omega.{arith}
 use mathlib.Core.Path.{_≡_, refl, _∙_, ap}
 use mathlib.Core.Logic.{⊎-elim}
-use mathlib.Core.Bool.{Bool, true, false, cond}
+use mathlib.Core.Bool.{Bool, true, false, cond, _||_}
 use lib.Dec.{eqb}
-use lib.Bits.{bitOr}
+use lib.Bits.{bitOr, or-shr, or-mod}
 use borrow.Author.Tests.{eqb-true, eqb-false, eq-eqb, ne-eqb}
 use Rattle.laws.specs.Tests.{way}
 use Rattle.matrix.specs.Bounded.{count}
 use Rattle.matrix.specs.Bytes.{bit}
-use Rattle.lanes.specs.Lanes.{merged, lastOf}
+use Rattle.lanes.specs.Lanes.{merged}
 
 -- the lowest bit is the remainder by 2
 pub bit-low : (v : ℕ) → bit 0 v ≡ eqb (v % 2) 1
@@ -39,18 +39,31 @@ pub count-step : (r : ℕ) (f : ℕ → Bool) → count r f + cond (f r) 1 0 ≡
 unfolding count
 count-step r f = rw add-one refl
 
-pub last-step : (r : ℕ) (f : ℕ → Bool) → cond (f r) r (lastOf r f) ≡ lastOf (r + 1) f
-unfolding lastOf
-last-step r f = rw add-one refl
-
 pub count-le : (n : ℕ) (f : ℕ → Bool) → count n f ≤ n
 unfolding count
 count-le zero f = omega arith
 count-le (suc n) f = let h : count n f ≤ n = count-le n f in ⊎-elim (λ e. rw e (omega arith)) (λ e. rw e (omega arith)) (way (f n))
 
--- the row that is stored, where bit 0 is set and where it is not
-pub mark-hit : (v row before : ℕ) → v % 2 ≡ 1 → cond (bit 0 v) row before ≡ row
-mark-hit v row before h = rw (bit-low-set v h) refl
+-- what is picked, where bit 0 is set and where it is not
+pub pick-hit : (v row : ℕ) → v % 2 ≡ 1 → cond (bit 0 v) row 0 ≡ row
+pick-hit v row h = rw (bit-low-set v h) refl
 
-pub mark-miss : (v row before : ℕ) → (v % 2 ≡ 1 → ⊥) → cond (bit 0 v) row before ≡ before
-mark-miss v row before h = let e : bit 0 v ≡ false = bit-low v ∙ ne-eqb (v % 2) 1 h in rw e refl
+pub pick-miss : (v row : ℕ) → (v % 2 ≡ 1 → ⊥) → cond (bit 0 v) row 0 ≡ 0
+pick-miss v row h = let e : bit 0 v ≡ false = bit-low v ∙ ne-eqb (v % 2) 1 h in rw e refl
+
+-- one of two numbers has the bit
+pub or-bit : (k a b : ℕ) → bit k (bitOr a b) ≡ (bit k a || bit k b)
+unfolding bit
+or-bit k a b =
+    ap (λ (x : ℕ). eqb (x % 2) 1) (or-shr a b k) ∙ ap (λ (x : ℕ). eqb x 1) (or-mod (a / 2 ^ k) (b / 2 ^ k) 1)
+    ∙ digits (a / 2 ^ k % 2) (b / 2 ^ k % 2) (omega arith) (omega arith)
+  where
+    digits : (x y : ℕ) → x < 2 → y < 2 → eqb (bitOr x y) 1 ≡ (eqb x 1 || eqb y 1)
+    digits zero zero h l = refl
+    digits zero (suc zero) h l = refl
+    digits (suc zero) zero h l = refl
+    digits (suc zero) (suc zero) h l = refl
+    digits zero (suc (suc y)) h l = absurd (omega arith)
+    digits (suc zero) (suc (suc y)) h l = absurd (omega arith)
+    digits (suc (suc x)) zero h l = absurd (omega arith)
+    digits (suc (suc x)) (suc y) h l = absurd (omega arith)

@@ -10,8 +10,8 @@ use lib.ListN.{length, getD}
 use Rattle.matrix.specs.Bounded.{count}
 use Rattle.matrix.specs.Bytes.{bit}
 use Rattle.lanes.specs.Lists.{Holds, Stored, holds-next}
-use Rattle.lanes.specs.Lanes.{merged, lastOf, byteAt, bitIn, Lanes, Matrix, Room}
-use Rattle.lanes.specs.LaneLaws.{bit-count, merged-step, count-step, last-step, count-le}
+use Rattle.lanes.specs.Lanes.{merged, markOf, byteAt, bitIn, Lanes, Matrix, Room}
+use Rattle.lanes.specs.LaneLaws.{bit-count, merged-step, count-step, count-le}
 
 -- a count of at most r rows fits a byte with room for one more
 pub count-room : (w r : ℕ) (f : ℕ → ℕ → Bool) (l : List ℕ) → Holds 128 w (λ j. count r (f j)) l → r < 64 → (j : ℕ) → j < w → getD l j 0 < 255
@@ -33,11 +33,11 @@ module _ (b : List ℕ) (m r at : ℕ) (place : at ≡ 7 + r * m) where
       holds-next 128 w _ _ (λ x j. x + getD b (at + j) 0 / 2 ^ k % 2) old new h s
       (λ j l. ap (λ (x : ℕ). count r (bitIn b m k j) + x) (ap (λ (x : ℕ). x / 2 ^ k % 2) (byte-here j) ∙ bit-count k (byteAt b m r j)) ∙ count-step r (bitIn b m k j))
 
-  pub next-last : (w : ℕ) (old new : List ℕ) → Holds 128 w (λ j. lastOf r (bitIn b m 0 j)) old
-      → Stored w (λ j. cond (bit 0 (getD b (at + j) 0)) r (getD old j 0)) old new → Holds 128 w (λ j. lastOf (r + 1) (bitIn b m 0 j)) new
-  next-last w old new h s =
-      holds-next 128 w _ _ (λ x j. cond (bit 0 (getD b (at + j) 0)) r x) old new h s
-      (λ j l. ap (λ (x : ℕ). cond (bit 0 x) r (lastOf r (bitIn b m 0 j))) (byte-here j) ∙ last-step r (bitIn b m 0 j))
+  pub next-mark : (w : ℕ) (old new : List ℕ) → Holds 128 w (λ j. markOf r (bitIn b m 0 j)) old
+      → Stored w (λ j. bitOr (getD old j 0) (cond (bit 0 (getD b (at + j) 0)) r 0)) old new → Holds 128 w (λ j. markOf (r + 1) (bitIn b m 0 j)) new
+  next-mark w old new h s =
+      holds-next 128 w _ _ (λ x j. bitOr x (cond (bit 0 (getD b (at + j) 0)) r 0)) old new h s
+      (λ j l. ap (λ (x : ℕ). bitOr (markOf r (bitIn b m 0 j)) (cond (bit 0 x) r 0)) (byte-here j) ∙ merged-step r (λ v. cond (bitIn b m 0 j v) v 0))
 
 -- the place of the next row, and that a row below n lies in the bytes
 pub next-place : (r m at : ℕ) → at ≡ 7 + r * m → at + m ≡ 7 + (r + 1) * m

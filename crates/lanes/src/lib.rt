@@ -1,4 +1,4 @@
-// The passes over one row of a record: what is seen, counted and found last in each byte column.
+// The passes over one row of a record: what is seen, counted and marked in each byte column.
 ghost use mathlib.Core.Path.{_≡_};
 ghost use mathlib.Core.Bool.{cond};
 ghost use Prim.Native.Nat.{ℕ, _+_, _/_, _%_, _^_, _≤_, _<_};
@@ -28,20 +28,20 @@ fn tally(counts: &mut [u8; 128], b: &[u8], at: usize, w: usize, k: u8)
     }
 }
 
-// The row's number where the byte has bit 0, else the number before.
-pub fn pick(v: u8, row: u8, before: u8) -> u8
-    ensures { λ r. ⌜ r ≡ cond (bit 0 v) row before ⌝ }
+// The row's number where the byte has bit 0, else 0.
+pub fn pick(v: u8, row: u8) -> u8
+    ensures { λ r. ⌜ r ≡ cond (bit 0 v) row 0 ⌝ }
 {
-    if v % 2 == 1 { row } else { before }
+    if v % 2 == 1 { row } else { 0 }
 }
 
-// The row's number is stored for each of its first w byte columns that has bit 0.
+// The row's number joins what is marked for each of its first w byte columns that has bit 0.
 fn mark(last: &mut [u8; 128], b: &[u8], at: usize, w: usize, row: u8)
     requires { ⌜ (w ≤ 128) × (at + w ≤ length (now b)) × (length (now last) ≡ 128) ⌝ }
-    ensures { λ _. ⌜ Stored w (λ j. cond (bit 0 (getD (now (b .entry)) (at + j) 0)) row (getD (now (last .entry)) j 0)) (now (last .entry)) (now (last .exit)) ⌝ }
+    ensures { λ _. ⌜ Stored w (λ j. bitOr (getD (now (last .entry)) j 0) (cond (bit 0 (getD (now (b .entry)) (at + j) 0)) row 0)) (now (last .entry)) (now (last .exit)) ⌝ }
 {
     for j in 0..w {
-        last[j] = pick(b[at + j], row, last[j]);
+        last[j] = last[j] | pick(b[at + j], row);
     }
 }
 

@@ -1,8 +1,8 @@
 -- The lists that the pass has filled hold what the tests of a matrix ask for.
 use Prim.Native.Nat.{ℕ, _+_, _*_, _≤_, _<_}
 use native.Mathlib.Omega.{arith}
-use mathlib.Core.Path.{_≡_, _∙_, ap}
-use mathlib.Core.Bool.{cond, not, _&&_}
+use mathlib.Core.Path.{_≡_, refl, sym, _∙_, ap}
+use mathlib.Core.Bool.{Bool, true, false, cond, not, _&&_}
 use mathlib.Core.List.{List}
 use lib.Dec.{eqb}
 use lib.ListN.{getD}
@@ -10,14 +10,21 @@ use Rattle.matrix.specs.Bounded.{any, all}
 use Rattle.matrix.specs.Bytes.{bit}
 use Rattle.laws.specs.Bounded.{all-same}
 use Rattle.lanes.specs.Lanes.{merged, byteAt, Lanes}
-use Rattle.owner_table.specs.Counts.{last-below}
 use Rattle.owner_table.specs.Followed.{followed, followed-same}
-use Rattle.validity.specs.Fast.{subjectRight, plainRight, lastOwner, allAscend, testsPass}
-use Rattle.validity.specs.Cells.{ownBit, controlBit, zeroCell}
+use Rattle.validity.specs.Fast.{subjectRight, plainRight, ownerMark, allAscend, testsPass}
+use Rattle.validity.specs.Sound.{Framed}
+use Rattle.validity.specs.Tested.{tests-framed, mark-inside}
+use Rattle.validity.specs.Cells.{ownBit, controlBit, zeroCell, cell-bits}
 use Rattle.columns.specs.Checks.{zeroFrom, zeroColumn, judged, subjectTest, plainTest}
 use Rattle.owner_table.specs.Table.{ownerIn, Inside}
 use Rattle.lanes.specs.Zeros.{merged-zero}
 use Rattle.validity.specs.Merged.{merged-zeros, merged-bit, all-pairs}
+
+-- a third test that is the same where the first two pass
+and-last : (t u : Bool) {v w : Bool} → (t ≡ true → u ≡ true → v ≡ w) → (t && u && v) ≡ (t && u && w)
+and-last true true h = h refl refl
+and-last true false h = refl
+and-last false u h = refl
 
 module _ (b : List ℕ) (n k m : ℕ) (seen own control last : List ℕ) (lanes : Lanes b m (2 * n) n seen own control last)
     (width : m ≡ 2 * k) (inside : n ≤ k) where
@@ -48,25 +55,37 @@ module _ (b : List ℕ) (n k m : ℕ) (seen own control last : List ℕ) (lanes 
       let q : bit 1 (getD seen (2 * c + 1) 0) ≡ any n (λ w. controlBit b m w c) = ap (bit 1) g ∙ merged-bit 1 n (column (2 * c + 1)) in
       λ i. cond (p i) (not (q i)) (column-zero c l i)
 
-  owner-last : (s : ℕ) → s < n → ownerIn last s ≡ lastOwner n (ownBit b m) s
-  owner-last s l = lanes .owner .value (2 * s + 1) (omega arith)
+  owner-marked : (s : ℕ) → s < n → ownerIn last s ≡ ownerMark n (ownBit b m) s
+  owner-marked s l = lanes .owner .value (2 * s + 1) (omega arith)
 
-  -- every owner in the table is a subject
-  pub owners-inside : 0 < n → Inside n (ownerIn last)
-  owners-inside some = record { below = λ s l. rw (owner-last s l) (last-below n (λ w. ownBit b m w s) some) }
+  module _ (p : ℕ) (count : k ≡ n + p) (some : 0 < n) where
+    abbrev Here : Type 0
+    Here = Framed n (n + p) (ownBit b m) (controlBit b m) (zeroCell b m)
 
-  ascend-passed : 0 < n → all n (λ s. eqb (followed (ownerIn last) 64 s) 0) ≡ allAscend n (ownBit b m)
-  ascend-passed some =
-      all-same n _ _ (λ s l. ap (λ (x : ℕ). eqb x 0)
-      (followed-same (ownerIn last) (lastOwner n (ownBit b m)) (λ s. s < n) owner-last (λ s h. last-below n (λ w. ownBit b m w s) some) 64 s l))
+    marks-below : Here → (s : ℕ) → s < n → ownerMark n (ownBit b m) s < n
+    marks-below = mark-inside n p (ownBit b m) (controlBit b m) (zeroCell b m) (cell-bits b m) some
 
-  -- what the code tests is what is to be tested
-  pub all-passed : (p : ℕ) → k ≡ n + p → 0 < n
-      → (all n (subjectTest b m seen own control) && all p (λ i. plainTest seen (2 * (n + i))) && all n (λ s. eqb (followed (ownerIn last) 64 s) 0))
-      ≡ testsPass n p (ownBit b m) (controlBit b m) (zeroCell b m)
-  all-passed p e some =
-      let whole : all n (subjectTest b m seen own control) ≡ all n (subjectRight n (n + p) (ownBit b m) (controlBit b m) (zeroCell b m)) =
-      all-same n _ _ subject-passed ∙ ap (λ (i : ℕ). all n (subjectRight n i (ownBit b m) (controlBit b m) (zeroCell b m))) e in
-      let rest : all p (λ i. plainTest seen (2 * (n + i))) ≡ all p (λ i. plainRight n (ownBit b m) (controlBit b m) (zeroCell b m) (n + i)) =
-      all-same p _ _ (λ i l. plain-passed (n + i) (omega arith)) in
-      λ i. whole i && rest i && ascend-passed some i
+    subjects-passed : all n (subjectTest b m seen own control) ≡ all n (subjectRight n (n + p) (ownBit b m) (controlBit b m) (zeroCell b m))
+    subjects-passed = all-same n _ _ subject-passed ∙ ap (λ (i : ℕ). all n (subjectRight n i (ownBit b m) (controlBit b m) (zeroCell b m))) count
+
+    plains-passed : all p (λ i. plainTest seen (2 * (n + i))) ≡ all p (λ i. plainRight n (ownBit b m) (controlBit b m) (zeroCell b m) (n + i))
+    plains-passed = all-same p _ _ (λ i l. plain-passed (n + i) (omega arith))
+
+    -- where the tests of all columns pass, every owner in the table is a subject
+    pub owners-inside : all n (subjectTest b m seen own control) ≡ true → all p (λ i. plainTest seen (2 * (n + i))) ≡ true → Inside n (ownerIn last)
+    owners-inside g h =
+        let f : Here = tests-framed n p _ _ _ (cell-bits b m) some (sym subjects-passed ∙ g) (sym plains-passed ∙ h) in
+        record { below = λ s l. rw (owner-marked s l) (marks-below f s l) }
+
+    ascend-passed : Here → all n (λ s. eqb (followed (ownerIn last) 64 s) 0) ≡ allAscend n (ownBit b m)
+    ascend-passed f =
+        all-same n _ _ (λ s l. ap (λ (x : ℕ). eqb x 0)
+        (followed-same (ownerIn last) (ownerMark n (ownBit b m)) (λ s. s < n) owner-marked (marks-below f) 64 s l))
+
+    -- what the code tests is what is to be tested
+    pub all-passed :
+        (all n (subjectTest b m seen own control) && all p (λ i. plainTest seen (2 * (n + i))) && all n (λ s. eqb (followed (ownerIn last) 64 s) 0))
+        ≡ testsPass n p (ownBit b m) (controlBit b m) (zeroCell b m)
+    all-passed =
+        (λ i. subjects-passed i && plains-passed i && all n (λ s. eqb (followed (ownerIn last) 64 s) 0))
+        ∙ and-last _ _ (λ g h. ascend-passed (tests-framed n p _ _ _ (cell-bits b m) some g h))

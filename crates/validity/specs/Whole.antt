@@ -15,9 +15,9 @@ use Rattle.matrix.specs.Reading.{stateOf}
 use Rattle.matrix.specs.Record.{validMatrix}
 use Rattle.laws.specs.Tests.{and-left, and-right}
 use Rattle.lanes.specs.Lists.{Holds}
-use Rattle.lanes.specs.Lanes.{merged, lastOf, Lanes}
+use Rattle.lanes.specs.Lanes.{merged, Lanes}
 use Rattle.owner_table.specs.Followed.{followed}
-use Rattle.validity.specs.Fast.{lastOwner, testsPass}
+use Rattle.validity.specs.Fast.{ownerMark, testsPass}
 use Rattle.validity.specs.Cells.{ownBit, controlBit, zeroCell}
 use Rattle.validity.specs.Valid.{valid-tests, valid-owner}
 use Rattle.columns.specs.Checks.{subjectTest, plainTest}
@@ -30,7 +30,7 @@ use Rattle.validity.specs.OwnersTold.{OwnersTold}
 -- lists of zeros, before the first row
 pub lanes-none : (b : List ℕ) (m w : ℕ) {last : List ℕ} → m ≤ 512 → w ≤ 128 → last ≡ replicate 128 0
     → Lanes b m w 0 (replicate 512 0) (replicate 128 0) (replicate 128 0) last
-unfolding merged count lastOf
+unfolding merged count
 lanes-none b m w h l e =
     record {
       saw = record { size = length-replicate {A = ℕ} 512 0; value = λ j g. getD-replicate 512 j 0 0 (omega arith) };
@@ -63,8 +63,8 @@ module _ (b : List ℕ) (n p : ℕ) (seen own control last : List ℕ) (whole : 
       ∙ (λ i. testsPass (e i) (q i) (ownBit b (2 * (e i + q i))) (controlBit b (2 * (e i + q i))) (zeroCell b (2 * (e i + q i))))
       ∙ valid-tests b octets (omega arith) (omega arith)
 
-  pub table-inside : Inside n (ownerIn last)
-  table-inside = owners-inside b n (n + p) (2 * (n + p)) seen own control last lanes refl (omega arith) (whole .head .low)
+  pub table-inside : S ≡ true → P ≡ true → Inside n (ownerIn last)
+  table-inside = owners-inside b n (n + p) (2 * (n + p)) seen own control last lanes refl (omega arith) p refl (whole .head .low)
 
   -- in a valid matrix the table tells who owns each subject
   table-told : validMatrix (shapeOf b) (stateOf b) ≡ true → Tabled (stateOf b) last
@@ -78,7 +78,7 @@ module _ (b : List ℕ) (n p : ℕ) (seen own control last : List ℕ) (whole : 
         owner =
             λ v w l m own.
             valid-owner b octets (omega arith) (omega arith) h v w l m own
-            ∙ (λ i. lastOwner (sym e i) (ownBit b (2 * (sym e i + sym q i))) v)
+            ∙ (λ i. ownerMark (sym e i) (ownBit b (2 * (sym e i + sym q i))) v)
             ∙ sym (lanes .owner .value (2 * v + 1) (omega arith));
       }
 

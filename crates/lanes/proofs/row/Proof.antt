@@ -1,6 +1,6 @@
 -- `lanes::row` meets its contract. Each list by the law of one row more.
 use native.Mathlib.Omega.{arith}
-use Rattle.lanes.specs.RowLaws.{count-room, next-merged, next-count, next-last}
+use Rattle.lanes.specs.RowLaws.{count-room, next-merged, next-count, next-mark}
 use borrow.Author.Needs.{needs}
 use Rattle.lanes.proofs.row.Statement.{statement}
 use Rattle.lanes.proofs.row.Tie as tie
@@ -33,7 +33,7 @@ returns c =
       saw = next-merged (a .b .now) (a .m) (a .r) (a .at) at (a .m) _ _ (s .pre .1 .saw) (c .before .before .before .before .before .before .merge .ensures);
       owned = next-count (a .b .now) (a .m) (a .r) (a .at) at 0 (a .w) _ _ (s .pre .1 .owned) (c .before .before .before .before .tally .ensures);
       controlled = next-count (a .b .now) (a .m) (a .r) (a .at) at 1 (a .w) _ _ (s .pre .1 .controlled) (c .before .before .tally2 .ensures);
-      owner = next-last (a .b .now) (a .m) (a .r) (a .at) at (a .w) _ _ (s .pre .1 .owner) (c .mark .ensures);
+      owner = next-mark (a .b .now) (a .m) (a .r) (a .at) at (a .w) _ _ (s .pre .1 .owner) (c .mark .ensures);
     }
 
 pub row-spec : {M : Type 1} → statement M

@@ -1,6 +1,6 @@
 -- `rows::four` meets its contract. Each list by the law of four rows more.
 use native.Mathlib.Omega.{arith}
-use Rattle.four_rows.specs.FourLaws.{count-room-four, next-merged-four, next-count-four, next-last-four}
+use Rattle.four_rows.specs.FourLaws.{count-room-four, next-merged-four, next-count-four, next-mark-four}
 use borrow.Author.Needs.{needs}
 use Rattle.rows.proofs.four.Statement.{statement}
 use Rattle.rows.proofs.four.Tie as tie
@@ -45,7 +45,7 @@ returns c =
       saw = next-merged-four (a .b .now) (a .m) (a .r) (a .at) at (a .m) _ _ (s .pre .1 .saw) (c .before .before .before .before .before .before .merge-four .ensures);
       owned = next-count-four (a .b .now) (a .m) (a .r) (a .at) at 0 (a .w) _ _ (s .pre .1 .owned) (c .before .before .before .before .tally-four .ensures);
       controlled = next-count-four (a .b .now) (a .m) (a .r) (a .at) at 1 (a .w) _ _ (s .pre .1 .controlled) (c .before .before .tally-four2 .ensures);
-      owner = next-last-four (a .b .now) (a .m) (a .r) (a .at) at (a .w) _ _ (s .pre .1 .owner) (c .mark-four .ensures);
+      owner = next-mark-four (a .b .now) (a .m) (a .r) (a .at) at (a .w) _ _ (s .pre .0 .aligned) (s .pre .1 .owner) (c .mark-four .ensures);
     }
 
 pub four-spec : {M : Type 1} → statement M
