@@ -1,9 +1,9 @@
 -- What four rows, from the one that begins at `at` on, make of what is kept for byte column j.
-use Prim.Native.Nat.{ℕ, _+_, _*_, _/_, _%_, _^_, _≤_}
+use Prim.Native.Nat.{ℕ, _+_, _*_, _%_, _≤_}
 use mathlib.Core.Path.{_≡_}
 use mathlib.Core.Bool.{cond}
 use mathlib.Core.List.{List}
-use lib.Bits.{bitOr}
+use lib.Bits.{bitOr, bitXor}
 use lib.ListN.{length, getD}
 use Rattle.matrix.specs.Bytes.{bit}
 
@@ -11,9 +11,13 @@ abbrev pub mergedFour : List ℕ → ℕ → ℕ → ℕ → ℕ → ℕ
 mergedFour b at m x j =
     bitOr (bitOr (bitOr (bitOr x (getD b (at + j) 0)) (getD b (at + m + j) 0)) (getD b (at + m + m + j) 0)) (getD b (at + m + m + m + j) 0)
 
-abbrev pub countFour : List ℕ → ℕ → ℕ → ℕ → ℕ → ℕ → ℕ
-countFour b at m k x j =
-    x + getD b (at + j) 0 / 2 ^ k % 2 + getD b (at + m + j) 0 / 2 ^ k % 2 + getD b (at + m + m + j) 0 / 2 ^ k % 2 + getD b (at + m + m + m + j) 0 / 2 ^ k % 2
+abbrev pub lowsFour : List ℕ → ℕ → ℕ → ℕ → ℕ → ℕ
+lowsFour b at m x j =
+    x + getD b (at + j) 0 % 4 + getD b (at + m + j) 0 % 4 + getD b (at + m + m + j) 0 % 4 + getD b (at + m + m + m + j) 0 % 4
+
+abbrev pub pairedFour : List ℕ → ℕ → ℕ → ℕ → ℕ → ℕ
+pairedFour b at m x j =
+    bitXor (bitXor (bitXor (bitXor x (getD b (at + j) 0)) (getD b (at + m + j) 0)) (getD b (at + m + m + j) 0)) (getD b (at + m + m + m + j) 0)
 
 -- the four bytes p, q, s and t of a byte column, of rows whose first is the number `row`
 abbrev pub marked : ℕ → ℕ → ℕ → ℕ → ℕ → ℕ → ℕ

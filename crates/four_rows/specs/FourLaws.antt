@@ -1,24 +1,23 @@
 -- What four rows more do to each of the four lists.
-use Prim.Native.Nat.{ℕ, _+_, _*_, _/_, _%_, _^_, _≤_, _<_}
+use Prim.Native.Nat.{ℕ, _+_, _*_, _%_, _≤_, _<_}
 use native.Mathlib.Nat.{div-one}
 use native.Mathlib.Omega.{arith}
 use mathlib.Core.Path.{_≡_, refl, sym, _∙_, ap}
 use mathlib.Core.Bool.{Bool, cond, _||_}
 use mathlib.Core.List.{List, []}
-use lib.Bits.{bitOr}
+use lib.Bits.{bitOr, bitXor}
 use lib.ListN.{length, getD}
-use Rattle.matrix.specs.Bounded.{count}
 use Rattle.matrix.specs.Bytes.{bit}
 use Rattle.lanes.specs.Lists.{Holds, Stored, holds-next}
-use Rattle.lanes.specs.Lanes.{merged, markOf, byteAt, bitIn, Matrix}
-use Rattle.lanes.specs.LaneLaws.{bit-count, or-bit, merged-step, count-step, count-le}
+use Rattle.lanes.specs.Lanes.{merged, lows, paired, markOf, byteAt, bitIn, Matrix}
+use Rattle.lanes.specs.LaneLaws.{bit-count, or-bit, merged-step, lows-step, paired-step, lows-le}
 use Rattle.lanes.specs.RowLaws.{next-place, row-inside}
-use Rattle.four_rows.specs.Four.{mergedFour, countFour, marked, markFour, RoomFour}
+use Rattle.four_rows.specs.Four.{mergedFour, lowsFour, pairedFour, marked, markFour, RoomFour}
 use Rattle.four_rows.specs.Marks.{each, each-once}
 
--- a count of at most r rows fits a byte with room for four more
-pub count-room-four : (w r : ℕ) (f : ℕ → ℕ → Bool) (l : List ℕ) → Holds 128 w (λ j. count r (f j)) l → r + 4 ≤ 64 → (j : ℕ) → j < w → getD l j 0 < 252
-count-room-four w r f l s h j b = let e : getD l j 0 ≡ count r (f j) = s .value j b in omega (arith, count-le r (f j))
+-- the low bits of at most r rows fit a byte with room for four more
+pub lows-room-four : (w r : ℕ) (f : ℕ → ℕ → ℕ) (l : List ℕ) → Holds 128 w (λ j. lows r (f j)) l → r + 4 ≤ 64 → (j : ℕ) → j < w → getD l j 0 < 244
+lows-room-four w r f l s h j b = let e : getD l j 0 ≡ lows r (f j) = s .value j b in omega (arith, lows-le r (f j))
 
 -- four steps, one after another, of whatever is kept
 four-steps : {A : Type 0} (g : ℕ → A) (r : ℕ) → g (r + 1 + 1 + 1 + 1) ≡ g (r + 4)
@@ -57,16 +56,25 @@ module _ (b : List ℕ) (m r at : ℕ) (place : at ≡ 7 + r * m) where
       (λ j l. merged-once (r + 1 + 1 + 1) (at + m + m + m) j _ place-3 (merged-once (r + 1 + 1) (at + m + m) j _ place-2
       (merged-once (r + 1) (at + m) j _ place-1 (merged-once r at j _ place refl))) ∙ four-steps (λ v. merged v (λ u. byteAt b m u j)) r)
 
-  count-once : (k v i j x : ℕ) → i ≡ 7 + v * m → x ≡ count v (bitIn b m k j) → x + getD b (i + j) 0 / 2 ^ k % 2 ≡ count (v + 1) (bitIn b m k j)
-  count-once k v i j x e q =
-      (λ t. q t + byte-at v i j e t / 2 ^ k % 2) ∙ ap (λ (y : ℕ). count v (bitIn b m k j) + y) (bit-count k (byteAt b m v j)) ∙ count-step v (bitIn b m k j)
+  lows-once : (v i j x : ℕ) → i ≡ 7 + v * m → x ≡ lows v (λ u. byteAt b m u j) → x + getD b (i + j) 0 % 4 ≡ lows (v + 1) (λ u. byteAt b m u j)
+  lows-once v i j x e q = (λ t. q t + byte-at v i j e t % 4) ∙ lows-step v (λ u. byteAt b m u j)
 
-  pub next-count-four : (k w : ℕ) (old new : List ℕ) → Holds 128 w (λ j. count r (bitIn b m k j)) old
-      → Stored w (λ j. countFour b at m k (getD old j 0) j) old new → Holds 128 w (λ j. count (r + 4) (bitIn b m k j)) new
-  next-count-four k w old new h s =
-      holds-next 128 w _ _ (countFour b at m k) old new h s
-      (λ j l. count-once k (r + 1 + 1 + 1) (at + m + m + m) j _ place-3 (count-once k (r + 1 + 1) (at + m + m) j _ place-2
-      (count-once k (r + 1) (at + m) j _ place-1 (count-once k r at j _ place refl))) ∙ four-steps (λ v. count v (bitIn b m k j)) r)
+  pub next-lows-four : (w : ℕ) (old new : List ℕ) → Holds 128 w (λ j. lows r (λ v. byteAt b m v j)) old
+      → Stored w (λ j. lowsFour b at m (getD old j 0) j) old new → Holds 128 w (λ j. lows (r + 4) (λ v. byteAt b m v j)) new
+  next-lows-four w old new h s =
+      holds-next 128 w _ _ (lowsFour b at m) old new h s
+      (λ j l. lows-once (r + 1 + 1 + 1) (at + m + m + m) j _ place-3 (lows-once (r + 1 + 1) (at + m + m) j _ place-2
+      (lows-once (r + 1) (at + m) j _ place-1 (lows-once r at j _ place refl))) ∙ four-steps (λ v. lows v (λ u. byteAt b m u j)) r)
+
+  paired-once : (v i j x : ℕ) → i ≡ 7 + v * m → x ≡ paired v (λ u. byteAt b m u j) → bitXor x (getD b (i + j) 0) ≡ paired (v + 1) (λ u. byteAt b m u j)
+  paired-once v i j x e q = (λ t. bitXor (q t) (byte-at v i j e t)) ∙ paired-step v (λ u. byteAt b m u j)
+
+  pub next-paired-four : (w : ℕ) (old new : List ℕ) → Holds 128 w (λ j. paired r (λ v. byteAt b m v j)) old
+      → Stored w (λ j. pairedFour b at m (getD old j 0) j) old new → Holds 128 w (λ j. paired (r + 4) (λ v. byteAt b m v j)) new
+  next-paired-four w old new h s =
+      holds-next 128 w _ _ (pairedFour b at m) old new h s
+      (λ j l. paired-once (r + 1 + 1 + 1) (at + m + m + m) j _ place-3 (paired-once (r + 1 + 1) (at + m + m) j _ place-2
+      (paired-once (r + 1) (at + m) j _ place-1 (paired-once r at j _ place refl))) ∙ four-steps (λ v. paired v (λ u. byteAt b m u j)) r)
 
   mark-once : (v u i j x : ℕ) → u ≡ v → i ≡ 7 + v * m → x ≡ markOf v (bitIn b m 0 j)
       → bitOr x (cond (bit 0 (getD b (i + j) 0)) u 0) ≡ markOf (v + 1) (bitIn b m 0 j)
