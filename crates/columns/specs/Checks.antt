@@ -1,9 +1,9 @@
 -- What the code tests, in the terms of the lists that the pass over the rows has filled.
 use Prim.Native.Nat.{ℕ, _+_, _*_, _%_, _≤_, _<_}
 use mathlib.Core.Path.{_≡_}
-use mathlib.Core.Bool.{Bool, cond, not, _&&_}
+use mathlib.Core.Bool.{Bool, cond, not, _&&_, _||_}
 use mathlib.Core.List.{List}
-use lib.Dec.{eqb, leb}
+use lib.Dec.{eqb}
 use lib.Bits.{bitOr}
 use lib.ListN.{length, getD}
 use Rattle.matrix.specs.Bytes.{bit}
@@ -17,20 +17,25 @@ zeroFrom b at m = eqb (merged m (λ j. getD b (at + j) 0)) 0
 abbrev pub zeroColumn : List ℕ → ℕ → Bool
 zeroColumn seen j = eqb (getD seen j 0) 0 && eqb (getD seen (j + 1) 0) 0
 
--- a subject by whether it exists, by the number of its owners and of those that control it, and by whether its column and row are zero
+-- The counts of U, and those of another subject that exists: `tally` is the number of its owners and twice that of those that control it,
+-- and bit 1 of `odd` says whether an odd number control it.
+abbrev pub rootCounts : ℕ → ℕ → Bool
+rootCounts tally odd = eqb tally 2 && bit 1 odd
+
+abbrev pub otherCounts : ℕ → ℕ → Bool
+otherCounts tally odd = eqb tally 3 || eqb tally 5 && not (bit 1 odd)
+
+-- a subject by whether it exists, by its counts, and by whether its column and row are zero
 abbrev pub judged : Bool → ℕ → ℕ → ℕ → Bool → Bool
-judged present s owners controllers zeros =
-    cond present
-    (cond (eqb s 0) (eqb owners 0 && eqb controllers 1) (eqb owners 1 && leb controllers 2))
-    (not (eqb s 0) && zeros)
+judged present s tally odd zeros = cond present (cond (eqb s 0) (rootCounts tally odd) (otherCounts tally odd)) (not (eqb s 0) && zeros)
 
 -- subject s, whose row begins at `at`
 abbrev pub subjectAt : List ℕ → ℕ → List ℕ → List ℕ → List ℕ → ℕ → ℕ → Bool
-subjectAt b m seen own control s at =
-    judged (bit 1 (getD b (at + (2 * s + 1)) 0)) s (getD own (2 * s + 1) 0) (getD control (2 * s + 1) 0) (zeroColumn seen (2 * s) && zeroFrom b at m)
+subjectAt b m seen tally odd s at =
+    judged (bit 1 (getD b (at + (2 * s + 1)) 0)) s (getD tally (2 * s + 1) 0) (getD odd (2 * s + 1) 0) (zeroColumn seen (2 * s) && zeroFrom b at m)
 
 unfoldable pub subjectTest : List ℕ → ℕ → List ℕ → List ℕ → List ℕ → ℕ → Bool
-subjectTest b m seen own control s = subjectAt b m seen own control s (7 + s * m)
+subjectTest b m seen tally odd s = subjectAt b m seen tally odd s (7 + s * m)
 
 -- the plain column at the byte columns j and j + 1
 unfoldable pub plainTest : List ℕ → ℕ → Bool

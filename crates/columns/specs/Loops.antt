@@ -5,7 +5,7 @@ use mathlib.Core.Path.{_≡_, refl, sym, _∙_, ap, subst}
 use mathlib.Core.Logic.{_⊎_, inl, inr}
 use mathlib.Core.Bool.{Bool, true, false, cond, not, _&&_}
 use mathlib.Core.List.{List}
-use lib.Dec.{eqb, leb}
+use lib.Dec.{eqb}
 use lib.Bits.{bitOr}
 use lib.ListN.{getD}
 use borrow.Author.Tests.{eqb-true, eqb-false, eq-eqb, ne-eqb}
@@ -16,7 +16,7 @@ use Rattle.laws.specs.Bounded.{all-same}
 use Rattle.lanes.specs.Lanes.{merged}
 use Rattle.lanes.specs.LaneLaws.{bit-low, bit-low-set, merged-step}
 use Rattle.lanes.specs.Zeros.{or-zero, merged-zero}
-use Rattle.columns.specs.Checks.{zeroFrom, zeroColumn, subjectAt, subjectTest, plainTest, plainWrong}
+use Rattle.columns.specs.Checks.{zeroFrom, zeroColumn, rootCounts, otherCounts, subjectAt, subjectTest, plainTest, plainWrong}
 
 -- bytes merged one after another
 pub merged-none : (f : ℕ → ℕ) → 0 ≡ merged 0 f
@@ -37,6 +37,27 @@ bit-one-set v h = eq-eqb (v / 2 % 2) 1 h
 bit-one-clear : (v : ℕ) → (v / 2 % 2 ≡ 1 → ⊥) → bit 1 v ≡ false
 unfolding bit
 bit-one-clear v h = ne-eqb (v / 2 % 2) 1 h
+
+-- the counts of a subject, as the code tests them one after another
+pub root-right : (t o : ℕ) → t ≡ 2 → eqb (o / 2 % 2) 1 ≡ rootCounts t o
+unfolding bit
+root-right t o e = rw (eq-eqb t 2 e) refl
+
+pub root-wrong : (t o : ℕ) → (t ≡ 2 → ⊥) → false ≡ rootCounts t o
+root-wrong t o ne = rw (ne-eqb t 2 ne) refl
+
+pub other-three : (t o : ℕ) → t ≡ 3 → true ≡ otherCounts t o
+other-three t o e = rw (eq-eqb t 3 e) refl
+
+pub other-five : (t o : ℕ) → (t ≡ 3 → ⊥) → t ≡ 5 → eqb (o / 2 % 2) 0 ≡ otherCounts t o
+other-five t o ne e = rw (ne-eqb t 3 ne, eq-eqb t 5 e) (even (way (eqb (o / 2 % 2) 1)))
+  where
+    even : (eqb (o / 2 % 2) 1 ≡ true) ⊎ (eqb (o / 2 % 2) 1 ≡ false) → eqb (o / 2 % 2) 0 ≡ not (bit 1 o)
+    even (inl h) = let q : o / 2 % 2 ≡ 1 = eqb-true (o / 2 % 2) 1 h in rw (bit-one-set o q) (ne-eqb (o / 2 % 2) 0 (omega arith))
+    even (inr h) = let q : o / 2 % 2 ≡ 1 → ⊥ = eqb-false (o / 2 % 2) 1 h in rw (bit-one-clear o q) (eq-eqb (o / 2 % 2) 0 (omega arith))
+
+pub other-wrong : (t o : ℕ) → (t ≡ 3 → ⊥) → (t ≡ 5 → ⊥) → false ≡ otherCounts t o
+other-wrong t o ne nf = rw (ne-eqb t 3 ne, ne-eqb t 5 nf) refl
 
 -- nothing is wrong with a plain column just where it passes its test
 plain-right : (seen : List ℕ) (j : ℕ) → eqb (plainWrong (getD seen j 0) (getD seen (j + 1) 0)) 0 ≡ plainTest seen j
@@ -73,24 +94,24 @@ pub absent-row : (s : ℕ) (z y r : Bool) → (s ≡ 0 → ⊥) → z ≡ true �
 absent-row s z y r ne e q = rw (ne-eqb s 0 ne, e) q
 
 -- a subject whose row begins at `at`: U, any other that exists, an absent one
-module _ (b : List ℕ) (m : ℕ) (seen own control : List ℕ) (s at : ℕ) (r : Bool) where
+module _ (b : List ℕ) (m : ℕ) (seen tally odd : List ℕ) (s at : ℕ) (r : Bool) where
   abbrev self : ℕ
   self = getD b (at + (2 * s + 1)) 0
 
-  pub subject-root : self / 2 % 2 ≡ 1 → s ≡ 0 → r ≡ (eqb (getD own (2 * s + 1) 0) 0 && eqb (getD control (2 * s + 1) 0) 1)
-      → r ≡ subjectAt b m seen own control s at
+  pub subject-root : self / 2 % 2 ≡ 1 → s ≡ 0 → r ≡ rootCounts (getD tally (2 * s + 1) 0) (getD odd (2 * s + 1) 0)
+      → r ≡ subjectAt b m seen tally odd s at
   subject-root h e q = rw (bit-one-set self h, eq-eqb s 0 e) q
 
-  pub subject-other : self / 2 % 2 ≡ 1 → (s ≡ 0 → ⊥) → r ≡ (eqb (getD own (2 * s + 1) 0) 1 && leb (getD control (2 * s + 1) 0) 2)
-      → r ≡ subjectAt b m seen own control s at
+  pub subject-other : self / 2 % 2 ≡ 1 → (s ≡ 0 → ⊥) → r ≡ otherCounts (getD tally (2 * s + 1) 0) (getD odd (2 * s + 1) 0)
+      → r ≡ subjectAt b m seen tally odd s at
   subject-other h ne q = rw (bit-one-set self h, ne-eqb s 0 ne) q
 
   pub subject-absent : (self / 2 % 2 ≡ 1 → ⊥) → r ≡ (not (eqb s 0) && (zeroColumn seen (2 * s) && zeroFrom b at m))
-      → r ≡ subjectAt b m seen own control s at
+      → r ≡ subjectAt b m seen tally odd s at
   subject-absent h q = rw (bit-one-clear self h) q
 
 -- the test of subject s, by its row's place
-pub subject-test : (b : List ℕ) (m : ℕ) (seen own control : List ℕ) (s at : ℕ) (r t : Bool) → at ≡ 7 + s * m
-    → r ≡ subjectAt b m seen own control s at → r ≡ t → subjectTest b m seen own control s ≡ t
+pub subject-test : (b : List ℕ) (m : ℕ) (seen tally odd : List ℕ) (s at : ℕ) (r t : Bool) → at ≡ 7 + s * m
+    → r ≡ subjectAt b m seen tally odd s at → r ≡ t → subjectTest b m seen tally odd s ≡ t
 unfolding subjectTest
-subject-test b m seen own control s at r t place e q = ap (subjectAt b m seen own control s) (sym place) ∙ sym e ∙ q
+subject-test b m seen tally odd s at r t place e q = ap (subjectAt b m seen tally odd s) (sym place) ∙ sym e ∙ q

@@ -2,11 +2,11 @@
 ghost use mathlib.Core.Path.{_≡_};
 ghost use mathlib.Core.Bool.{not, _&&_};
 ghost use Prim.Native.Nat.{_+_, _*_, _≤_, _<_};
-ghost use lib.Dec.{eqb, leb};
+ghost use lib.Dec.{eqb};
 ghost use lib.ListN.{length};
 ghost use Rattle.matrix.specs.Bounded.{all};
 ghost use Rattle.lanes.specs.Lanes.{Matrix};
-ghost use Rattle.columns.specs.Checks.{zeroFrom, zeroColumn, subjectAt, subjectTest, plainTest, plainWrong, Placed};
+ghost use Rattle.columns.specs.Checks.{zeroFrom, zeroColumn, rootCounts, otherCounts, subjectAt, subjectTest, plainTest, plainWrong, Placed};
 
 // The m bytes from `at` on are all zero. All of them are looked at, so that the compiler may take many at once.
 fn zero_from(b: &[u8], at: usize, m: usize) -> bool
@@ -20,18 +20,30 @@ fn zero_from(b: &[u8], at: usize, m: usize) -> bool
     any == 0
 }
 
-// U has no owner, and nobody else controls it.
-fn root_counts(own: u8, control: u8) -> bool
-    ensures { λ r. ⌜ r ≡ (eqb own 0 && eqb control 1) ⌝ }
+// U has no owner, and nobody else controls it: of a tally of 2, which is the number of owners and twice that of those that control, an odd
+// number control.
+fn root_counts(tally: u8, odd: u8) -> bool
+    ensures { λ r. ⌜ r ≡ rootCounts tally odd ⌝ }
 {
-    if own == 0 { control == 1 } else { false }
+    if tally == 2 {
+        (odd >> 1) % 2 == 1
+    } else {
+        false
+    }
 }
 
-// Any other subject has one owner, and at most one besides itself controls it.
-fn other_counts(own: u8, control: u8) -> bool
-    ensures { λ r. ⌜ r ≡ (eqb own 1 && leb control 2) ⌝ }
+// Any other subject has one owner, and at most one besides itself controls it: 3, or 5 of which an even number control.
+fn other_counts(tally: u8, odd: u8) -> bool
+    ensures { λ r. ⌜ r ≡ otherCounts tally odd ⌝ }
 {
-    if own == 1 { control <= 2 } else { false }
+    if tally == 3 {
+        return true;
+    }
+    if tally == 5 {
+        (odd >> 1) % 2 == 0
+    } else {
+        false
+    }
 }
 
 // Nothing is seen in the two byte columns from j on.
@@ -65,21 +77,21 @@ fn absent(b: &[u8], seen: &[u8; 512], s: usize, at: usize, m: usize) -> bool
 fn subject(
     b: &[u8],
     seen: &[u8; 512],
-    own: &[u8; 128],
-    control: &[u8; 128],
+    tally: &[u8; 128],
+    odd: &[u8; 128],
     s: usize,
     at: usize,
     m: usize,
 ) -> bool
-    requires { ⌜ Placed (now b) (now seen) s at m × (length (now own) ≡ 128) × (length (now control) ≡ 128) ⌝ }
-    ensures { λ r. ⌜ r ≡ subjectAt (now (b .entry)) m (now (seen .entry)) (now (own .entry)) (now (control .entry)) s at ⌝ }
+    requires { ⌜ Placed (now b) (now seen) s at m × (length (now tally) ≡ 128) × (length (now odd) ≡ 128) ⌝ }
+    ensures { λ r. ⌜ r ≡ subjectAt (now (b .entry)) m (now (seen .entry)) (now (tally .entry)) (now (odd .entry)) s at ⌝ }
 {
     let low = 2 * s + 1;
     if (b[at + low] >> 1) % 2 == 1 {
         if s == 0 {
-            root_counts(own[low], control[low])
+            root_counts(tally[low], odd[low])
         } else {
-            other_counts(own[low], control[low])
+            other_counts(tally[low], odd[low])
         }
     } else {
         absent(b, seen, s, at, m)
@@ -90,17 +102,17 @@ fn subject(
 pub fn subjects(
     b: &[u8],
     seen: &[u8; 512],
-    own: &[u8; 128],
-    control: &[u8; 128],
+    tally: &[u8; 128],
+    odd: &[u8; 128],
     n: usize,
     m: usize,
 ) -> bool
-    requires { ⌜ Matrix (now b) n m (2 * n) × (length (now seen) ≡ 512) × (length (now own) ≡ 128) × (length (now control) ≡ 128) ⌝ }
-    ensures { λ r. ⌜ r ≡ all n (subjectTest (now (b .entry)) m (now (seen .entry)) (now (own .entry)) (now (control .entry))) ⌝ }
+    requires { ⌜ Matrix (now b) n m (2 * n) × (length (now seen) ≡ 512) × (length (now tally) ≡ 128) × (length (now odd) ≡ 128) ⌝ }
+    ensures { λ r. ⌜ r ≡ all n (subjectTest (now (b .entry)) m (now (seen .entry)) (now (tally .entry)) (now (odd .entry))) ⌝ }
 {
     let mut at = 7;
     for s in 0..n {
-        if !subject(b, seen, own, control, s, at, m) {
+        if !subject(b, seen, tally, odd, s, at, m) {
             return false;
         }
         at += m;

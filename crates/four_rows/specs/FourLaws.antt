@@ -1,26 +1,37 @@
 -- What four rows more do to each of the four lists.
-use Prim.Native.Nat.{ℕ, _+_, _*_, _/_, _%_, _^_, _≤_, _<_}
+use Prim.Native.Nat.{ℕ, _+_, _*_, _%_, _≤_, _<_}
+use native.Mathlib.Nat.{div-one}
 use native.Mathlib.Omega.{arith}
-use mathlib.Core.Path.{_≡_, refl, _∙_, ap}
-use mathlib.Core.Bool.{Bool, cond}
+use mathlib.Core.Path.{_≡_, refl, sym, _∙_, ap}
+use mathlib.Core.Bool.{Bool, cond, _||_}
 use mathlib.Core.List.{List, []}
-use lib.Bits.{bitOr}
+use lib.Bits.{bitOr, bitXor}
 use lib.ListN.{length, getD}
-use Rattle.matrix.specs.Bounded.{count}
 use Rattle.matrix.specs.Bytes.{bit}
 use Rattle.lanes.specs.Lists.{Holds, Stored, holds-next}
-use Rattle.lanes.specs.Lanes.{merged, lastOf, byteAt, bitIn, Matrix}
-use Rattle.lanes.specs.LaneLaws.{bit-count, merged-step, count-step, last-step, count-le}
+use Rattle.lanes.specs.Lanes.{merged, lows, paired, markOf, byteAt, bitIn, Matrix}
+use Rattle.lanes.specs.LaneLaws.{bit-count, or-bit, merged-step, lows-step, paired-step, lows-le}
 use Rattle.lanes.specs.RowLaws.{next-place, row-inside}
-use Rattle.four_rows.specs.Four.{mergedFour, countFour, lastFour, RoomFour}
+use Rattle.four_rows.specs.Four.{mergedFour, lowsFour, pairedFour, marked, markFour, RoomFour}
+use Rattle.four_rows.specs.Marks.{each, each-once}
 
--- a count of at most r rows fits a byte with room for four more
-pub count-room-four : (w r : ℕ) (f : ℕ → ℕ → Bool) (l : List ℕ) → Holds 128 w (λ j. count r (f j)) l → r + 4 ≤ 64 → (j : ℕ) → j < w → getD l j 0 < 252
-count-room-four w r f l s h j b = let e : getD l j 0 ≡ count r (f j) = s .value j b in omega (arith, count-le r (f j))
+-- the low bits of at most r rows fit a byte with room for four more
+pub lows-room-four : (w r : ℕ) (f : ℕ → ℕ → ℕ) (l : List ℕ) → Holds 128 w (λ j. lows r (f j)) l → r + 4 ≤ 64 → (j : ℕ) → j < w → getD l j 0 < 244
+lows-room-four w r f l s h j b = let e : getD l j 0 ≡ lows r (f j) = s .value j b in omega (arith, lows-le r (f j))
 
 -- four steps, one after another, of whatever is kept
 four-steps : {A : Type 0} (g : ℕ → A) (r : ℕ) → g (r + 1 + 1 + 1 + 1) ≡ g (r + 4)
 four-steps g r = ap g (omega arith)
+
+-- what the four rows' numbers make of what is marked, by the lowest bits of their bytes
+marked-each : (r x p q s t : ℕ) → r % 4 ≡ 0 → marked r x p q s t ≡ each x r (bit 0 p) (bit 0 q) (bit 0 s) (bit 0 t)
+marked-each r x p q s t four = (λ i. bitOr (bitOr (bitOr x (cond (any i) r 0)) (low q t i)) (low s t i * 2)) ∙ sym (each-once x r four (bit 0 p) (bit 0 q) (bit 0 s) (bit 0 t))
+  where
+    any : bit 0 (bitOr (bitOr (bitOr p q) s) t) ≡ (bit 0 p || bit 0 q || bit 0 s || bit 0 t)
+    any = or-bit 0 (bitOr (bitOr p q) s) t ∙ ap (λ (z : Bool). z || bit 0 t) (or-bit 0 (bitOr p q) s ∙ ap (λ (z : Bool). z || bit 0 s) (or-bit 0 p q))
+
+    low : (a b : ℕ) → bitOr a b % 2 ≡ cond (bit 0 a || bit 0 b) 1 0
+    low a b = ap (λ (z : ℕ). z % 2) (sym (div-one (bitOr a b))) ∙ bit-count 0 (bitOr a b) ∙ ap (λ (z : Bool). cond z 1 0) (or-bit 0 a b)
 
 module _ (b : List ℕ) (m r at : ℕ) (place : at ≡ 7 + r * m) where
   place-1 : at + m ≡ 7 + (r + 1) * m
@@ -45,26 +56,37 @@ module _ (b : List ℕ) (m r at : ℕ) (place : at ≡ 7 + r * m) where
       (λ j l. merged-once (r + 1 + 1 + 1) (at + m + m + m) j _ place-3 (merged-once (r + 1 + 1) (at + m + m) j _ place-2
       (merged-once (r + 1) (at + m) j _ place-1 (merged-once r at j _ place refl))) ∙ four-steps (λ v. merged v (λ u. byteAt b m u j)) r)
 
-  count-once : (k v i j x : ℕ) → i ≡ 7 + v * m → x ≡ count v (bitIn b m k j) → x + getD b (i + j) 0 / 2 ^ k % 2 ≡ count (v + 1) (bitIn b m k j)
-  count-once k v i j x e q =
-      (λ t. q t + byte-at v i j e t / 2 ^ k % 2) ∙ ap (λ (y : ℕ). count v (bitIn b m k j) + y) (bit-count k (byteAt b m v j)) ∙ count-step v (bitIn b m k j)
+  lows-once : (v i j x : ℕ) → i ≡ 7 + v * m → x ≡ lows v (λ u. byteAt b m u j) → x + getD b (i + j) 0 % 4 ≡ lows (v + 1) (λ u. byteAt b m u j)
+  lows-once v i j x e q = (λ t. q t + byte-at v i j e t % 4) ∙ lows-step v (λ u. byteAt b m u j)
 
-  pub next-count-four : (k w : ℕ) (old new : List ℕ) → Holds 128 w (λ j. count r (bitIn b m k j)) old
-      → Stored w (λ j. countFour b at m k (getD old j 0) j) old new → Holds 128 w (λ j. count (r + 4) (bitIn b m k j)) new
-  next-count-four k w old new h s =
-      holds-next 128 w _ _ (countFour b at m k) old new h s
-      (λ j l. count-once k (r + 1 + 1 + 1) (at + m + m + m) j _ place-3 (count-once k (r + 1 + 1) (at + m + m) j _ place-2
-      (count-once k (r + 1) (at + m) j _ place-1 (count-once k r at j _ place refl))) ∙ four-steps (λ v. count v (bitIn b m k j)) r)
+  pub next-lows-four : (w : ℕ) (old new : List ℕ) → Holds 128 w (λ j. lows r (λ v. byteAt b m v j)) old
+      → Stored w (λ j. lowsFour b at m (getD old j 0) j) old new → Holds 128 w (λ j. lows (r + 4) (λ v. byteAt b m v j)) new
+  next-lows-four w old new h s =
+      holds-next 128 w _ _ (lowsFour b at m) old new h s
+      (λ j l. lows-once (r + 1 + 1 + 1) (at + m + m + m) j _ place-3 (lows-once (r + 1 + 1) (at + m + m) j _ place-2
+      (lows-once (r + 1) (at + m) j _ place-1 (lows-once r at j _ place refl))) ∙ four-steps (λ v. lows v (λ u. byteAt b m u j)) r)
 
-  last-once : (v u i j x : ℕ) → u ≡ v → i ≡ 7 + v * m → x ≡ lastOf v (bitIn b m 0 j) → cond (bit 0 (getD b (i + j) 0)) u x ≡ lastOf (v + 1) (bitIn b m 0 j)
-  last-once v u i j x n e q = (λ t. cond (bit 0 (byte-at v i j e t)) (n t) (q t)) ∙ last-step v (bitIn b m 0 j)
+  paired-once : (v i j x : ℕ) → i ≡ 7 + v * m → x ≡ paired v (λ u. byteAt b m u j) → bitXor x (getD b (i + j) 0) ≡ paired (v + 1) (λ u. byteAt b m u j)
+  paired-once v i j x e q = (λ t. bitXor (q t) (byte-at v i j e t)) ∙ paired-step v (λ u. byteAt b m u j)
 
-  pub next-last-four : (w : ℕ) (old new : List ℕ) → Holds 128 w (λ j. lastOf r (bitIn b m 0 j)) old
-      → Stored w (λ j. lastFour b at m r (getD old j 0) j) old new → Holds 128 w (λ j. lastOf (r + 4) (bitIn b m 0 j)) new
-  next-last-four w old new h s =
-      holds-next 128 w _ _ (lastFour b at m r) old new h s
-      (λ j l. last-once (r + 1 + 1 + 1) (r + 3) (at + m + m + m) j _ (omega arith) place-3 (last-once (r + 1 + 1) (r + 2) (at + m + m) j _ (omega arith) place-2
-      (last-once (r + 1) (r + 1) (at + m) j _ refl place-1 (last-once r r at j _ refl place refl))) ∙ four-steps (λ v. lastOf v (bitIn b m 0 j)) r)
+  pub next-paired-four : (w : ℕ) (old new : List ℕ) → Holds 128 w (λ j. paired r (λ v. byteAt b m v j)) old
+      → Stored w (λ j. pairedFour b at m (getD old j 0) j) old new → Holds 128 w (λ j. paired (r + 4) (λ v. byteAt b m v j)) new
+  next-paired-four w old new h s =
+      holds-next 128 w _ _ (pairedFour b at m) old new h s
+      (λ j l. paired-once (r + 1 + 1 + 1) (at + m + m + m) j _ place-3 (paired-once (r + 1 + 1) (at + m + m) j _ place-2
+      (paired-once (r + 1) (at + m) j _ place-1 (paired-once r at j _ place refl))) ∙ four-steps (λ v. paired v (λ u. byteAt b m u j)) r)
+
+  mark-once : (v u i j x : ℕ) → u ≡ v → i ≡ 7 + v * m → x ≡ markOf v (bitIn b m 0 j)
+      → bitOr x (cond (bit 0 (getD b (i + j) 0)) u 0) ≡ markOf (v + 1) (bitIn b m 0 j)
+  mark-once v u i j x n e q = (λ t. bitOr (q t) (cond (bit 0 (byte-at v i j e t)) (n t) 0)) ∙ merged-step v (λ u. cond (bitIn b m 0 j u) u 0)
+
+  pub next-mark-four : (w : ℕ) (old new : List ℕ) → r % 4 ≡ 0 → Holds 128 w (λ j. markOf r (bitIn b m 0 j)) old
+      → Stored w (λ j. markFour b at m r (getD old j 0) j) old new → Holds 128 w (λ j. markOf (r + 4) (bitIn b m 0 j)) new
+  next-mark-four w old new four h s =
+      holds-next 128 w _ _ (markFour b at m r) old new h s
+      (λ j l. marked-each r (markOf r (bitIn b m 0 j)) (getD b (at + j) 0) (getD b (at + m + j) 0) (getD b (at + m + m + j) 0) (getD b (at + m + m + m + j) 0) four
+      ∙ mark-once (r + 1 + 1 + 1) (r + 3) (at + m + m + m) j _ (omega arith) place-3 (mark-once (r + 1 + 1) (r + 2) (at + m + m) j _ (omega arith) place-2
+      (mark-once (r + 1) (r + 1) (at + m) j _ refl place-1 (mark-once r r at j _ refl place refl))) ∙ four-steps (λ v. markOf v (bitIn b m 0 j)) r)
 
 -- the place four rows on, and that four rows below n lie in the bytes
 pub place-four : (r m at : ℕ) → at ≡ 7 + r * m → at + 4 * m ≡ 7 + (r + 4) * m
@@ -78,18 +100,18 @@ four-inside n r m at l e =
     let q : at + m + m + m + m ≤ 7 + n * m = row-inside n (r + 1 + 1 + 1) m (at + m + m + m) (omega arith) (place-3 [] m r at e) in
     omega arith
 
-pub room-four : (b : List ℕ) (n m w r at : ℕ) → Matrix b n m w → r + 4 ≤ n → at ≡ 7 + r * m → RoomFour b m w r at
-room-four b n m w r at f l e =
+pub room-four : (b : List ℕ) (n m w r at : ℕ) → Matrix b n m w → r + 4 ≤ n → r % 4 ≡ 0 → at ≡ 7 + r * m → RoomFour b m w r at
+room-four b n m w r at f l four e =
     let q : at + 4 * m ≤ 7 + n * m = four-inside n r m at l e in
     let h : 7 + n * m ≤ length b = f .holds in
     let k : n ≤ 64 = f .rows in
-    record { bytes = f .bytes; width = f .width; inside = f .inside; rows = omega arith; place = e; fits = omega arith }
+    record { bytes = f .bytes; width = f .width; inside = f .inside; rows = omega arith; aligned = four; place = e; fits = omega arith }
 
--- the numbers that are picked one after another
-pub last-four-made : (b : List ℕ) (at m row x y z u v old j : ℕ) → x ≡ old → y ≡ cond (bit 0 (getD b (at + j) 0)) row x
-    → z ≡ cond (bit 0 (getD b (at + m + j) 0)) (row + 1) y → u ≡ cond (bit 0 (getD b (at + m + m + j) 0)) (row + 2) z
-    → v ≡ cond (bit 0 (getD b (at + m + m + m + j) 0)) (row + 3) u → v ≡ lastFour b at m row old j
-last-four-made b at m row x y z u v old j e p q s t =
-    t ∙ ap (λ (i : ℕ). cond (bit 0 (getD b (at + m + m + m + j) 0)) (row + 3) i)
-    (s ∙ ap (λ (i : ℕ). cond (bit 0 (getD b (at + m + m + j) 0)) (row + 2) i)
-    (q ∙ ap (λ (i : ℕ). cond (bit 0 (getD b (at + m + j) 0)) (row + 1) i) (p ∙ ap (λ (i : ℕ). cond (bit 0 (getD b (at + j) 0)) row i) e)))
+-- what is stored, with what was picked
+pub mark-made : (b : List ℕ) (at m row x h old j : ℕ) → x ≡ old
+    → h ≡ cond (bit 0 (bitOr (bitOr (bitOr (getD b (at + j) 0) (getD b (at + m + j) 0)) (getD b (at + m + m + j) 0)) (getD b (at + m + m + m + j) 0))) row 0
+    → bitOr (bitOr (bitOr x h) (bitOr (getD b (at + m + j) 0) (getD b (at + m + m + m + j) 0) % 2))
+    (bitOr (getD b (at + m + m + j) 0) (getD b (at + m + m + m + j) 0) % 2 * 2) ≡ markFour b at m row old j
+mark-made b at m row x h old j e p =
+    λ i. bitOr (bitOr (bitOr (e i) (p i)) (bitOr (getD b (at + m + j) 0) (getD b (at + m + m + m + j) 0) % 2))
+    (bitOr (getD b (at + m + m + j) 0) (getD b (at + m + m + m + j) 0) % 2 * 2)

@@ -3,7 +3,7 @@ ghost use mathlib.Core.Path.{_≡_};
 ghost use Prim.Native.Nat.{ℕ, _+_, _*_, _≤_, _<_};
 ghost use lib.ListN.{length, getD};
 ghost use Rattle.lanes.specs.Lists.{Stored};
-ghost use Rattle.four_rows.specs.Four.{mergedFour, countFour, lastFour};
+ghost use Rattle.four_rows.specs.Four.{mergedFour, lowsFour, pairedFour, markFour};
 
 // The bits of four rows' m bytes join those that are seen in each byte column.
 pub fn merge_four(seen: &mut [u8; 512], b: &[u8], at: usize, m: usize)
@@ -18,35 +18,47 @@ pub fn merge_four(seen: &mut [u8; 512], b: &[u8], at: usize, m: usize)
     }
 }
 
-// Bit k of four rows' first w bytes is counted in each byte column.
-pub fn tally_four(counts: &mut [u8; 128], b: &[u8], at: usize, m: usize, w: usize, k: u8)
-    requires { ⌜ (w ≤ 128) × (w ≤ m) × (at + 4 * m ≤ length (now b)) × (length (now counts) ≡ 128) × (k < 8) × ((j : ℕ) → j < w → getD (now counts) j 0 < 252) ⌝ }
-    ensures { λ _. ⌜ Stored w (λ j. countFour (now (b .entry)) at m k (getD (now (counts .entry)) j 0) j) (now (counts .entry)) (now (counts .exit)) ⌝ }
+// The two low bits of four rows' first w bytes are added up in each byte column, and their bits change those that an odd number of rows have.
+pub fn count_four(
+    tally: &mut [u8; 128],
+    odd: &mut [u8; 128],
+    b: &[u8],
+    at: usize,
+    m: usize,
+    w: usize,
+)
+    requires { ⌜ (w ≤ 128) × (w ≤ m) × (at + 4 * m ≤ length (now b)) × (length (now tally) ≡ 128) × (length (now odd) ≡ 128) × ((j : ℕ) → j < w → getD (now tally) j 0 < 244) ⌝ }
+    ensures low { λ _. ⌜ Stored w (λ j. lowsFour (now (b .entry)) at m (getD (now (tally .entry)) j 0) j) (now (tally .entry)) (now (tally .exit)) ⌝ }
+    ensures parity { λ _. ⌜ Stored w (λ j. pairedFour (now (b .entry)) at m (getD (now (odd .entry)) j 0) j) (now (odd .entry)) (now (odd .exit)) ⌝ }
 {
     let at1 = at + m;
     let at2 = at1 + m;
     let at3 = at2 + m;
     for j in 0..w {
-        counts[j] = counts[j]
-            + (b[at + j] >> k) % 2
-            + (b[at1 + j] >> k) % 2
-            + (b[at2 + j] >> k) % 2
-            + (b[at3 + j] >> k) % 2;
+        let p = b[at + j];
+        let q = b[at1 + j];
+        let x = b[at2 + j];
+        let y = b[at3 + j];
+        tally[j] = tally[j] + p % 4 + q % 4 + x % 4 + y % 4;
+        odd[j] = odd[j] ^ p ^ q ^ x ^ y;
     }
 }
 
-// The number of the last of four rows that has bit 0 is stored for each of the first w byte columns.
+// The numbers of four rows join what is marked for each of the first w byte columns that has bit 0. The first of the four is a multiple
+// of 4, so that the four numbers differ in their two low bits alone, and one pick does for the rest of them.
 pub fn mark_four(last: &mut [u8; 128], b: &[u8], at: usize, m: usize, w: usize, row: u8)
-    requires { ⌜ (w ≤ 128) × (w ≤ m) × (at + 4 * m ≤ length (now b)) × (length (now last) ≡ 128) × (row < 64) ⌝ }
-    ensures { λ _. ⌜ Stored w (λ j. lastFour (now (b .entry)) at m row (getD (now (last .entry)) j 0) j) (now (last .entry)) (now (last .exit)) ⌝ }
+    requires { ⌜ (w ≤ 128) × (w ≤ m) × (at + 4 * m ≤ length (now b)) × (length (now last) ≡ 128) ⌝ }
+    ensures { λ _. ⌜ Stored w (λ j. markFour (now (b .entry)) at m row (getD (now (last .entry)) j 0) j) (now (last .entry)) (now (last .exit)) ⌝ }
 {
     let at1 = at + m;
     let at2 = at1 + m;
     let at3 = at2 + m;
     for j in 0..w {
-        let first = lanes::pick(b[at + j], row, last[j]);
-        let second = lanes::pick(b[at1 + j], row + 1, first);
-        let third = lanes::pick(b[at2 + j], row + 2, second);
-        last[j] = lanes::pick(b[at3 + j], row + 3, third);
+        let p = b[at + j];
+        let q = b[at1 + j];
+        let x = b[at2 + j];
+        let y = b[at3 + j];
+        let high = lanes::pick(p | q | x | y, row);
+        last[j] = last[j] | high | ((q | y) % 2) | ((x | y) % 2) * 2;
     }
 }

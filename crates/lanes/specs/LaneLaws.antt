@@ -1,18 +1,18 @@
 -- Laws of what is kept for each byte column: one row more, and what a merged number tells.
-use Prim.Native.Nat.{ℕ, zero, suc, _+_, _/_, _%_, _^_, _≤_}
-use native.Mathlib.Nat.{div-one}
+use Prim.Native.Nat.{ℕ, zero, suc, _+_, _*_, _/_, _%_, _^_, _≤_, _<_}
+use native.Mathlib.Nat.{div-one, zero-div}
 use native.Mathlib.Numerals.{add-one}
 use native.Mathlib.Omega.{arith}
 use mathlib.Core.Path.{_≡_, refl, _∙_, ap}
 use mathlib.Core.Logic.{⊎-elim}
-use mathlib.Core.Bool.{Bool, true, false, cond}
+use mathlib.Core.Bool.{Bool, true, false, cond, _||_}
 use lib.Dec.{eqb}
-use lib.Bits.{bitOr}
+use lib.Bits.{bitOr, bitXor, or-shr, or-mod, xor-shr, xor-add-and}
 use borrow.Author.Tests.{eqb-true, eqb-false, eq-eqb, ne-eqb}
 use Rattle.laws.specs.Tests.{way}
 use Rattle.matrix.specs.Bounded.{count}
 use Rattle.matrix.specs.Bytes.{bit}
-use Rattle.lanes.specs.Lanes.{merged, lastOf}
+use Rattle.lanes.specs.Lanes.{merged, lows, paired}
 
 -- the lowest bit is the remainder by 2
 pub bit-low : (v : ℕ) → bit 0 v ≡ eqb (v % 2) 1
@@ -35,22 +35,69 @@ pub merged-step : (r : ℕ) (f : ℕ → ℕ) → bitOr (merged r f) (f r) ≡ m
 unfolding merged
 merged-step r f = rw add-one refl
 
-pub count-step : (r : ℕ) (f : ℕ → Bool) → count r f + cond (f r) 1 0 ≡ count (r + 1) f
-unfolding count
-count-step r f = rw add-one refl
+pub lows-step : (r : ℕ) (f : ℕ → ℕ) → lows r f + f r % 4 ≡ lows (r + 1) f
+unfolding lows
+lows-step r f = rw add-one refl
 
-pub last-step : (r : ℕ) (f : ℕ → Bool) → cond (f r) r (lastOf r f) ≡ lastOf (r + 1) f
-unfolding lastOf
-last-step r f = rw add-one refl
+pub paired-step : (r : ℕ) (f : ℕ → ℕ) → bitXor (paired r f) (f r) ≡ paired (r + 1) f
+unfolding paired
+paired-step r f = rw add-one refl
 
 pub count-le : (n : ℕ) (f : ℕ → Bool) → count n f ≤ n
 unfolding count
 count-le zero f = omega arith
 count-le (suc n) f = let h : count n f ≤ n = count-le n f in ⊎-elim (λ e. rw e (omega arith)) (λ e. rw e (omega arith)) (way (f n))
 
--- the row that is stored, where bit 0 is set and where it is not
-pub mark-hit : (v row before : ℕ) → v % 2 ≡ 1 → cond (bit 0 v) row before ≡ row
-mark-hit v row before h = rw (bit-low-set v h) refl
+pub lows-le : (n : ℕ) (f : ℕ → ℕ) → lows n f ≤ 3 * n
+unfolding lows
+lows-le zero f = omega arith
+lows-le (suc n) f = let h : lows n f ≤ 3 * n = lows-le n f in omega arith
 
-pub mark-miss : (v row before : ℕ) → (v % 2 ≡ 1 → ⊥) → cond (bit 0 v) row before ≡ before
-mark-miss v row before h = let e : bit 0 v ≡ false = bit-low v ∙ ne-eqb (v % 2) 1 h in rw e refl
+-- the low bits added up: how many numbers have bit 0, and twice how many have bit 1
+pub lows-counts : (n : ℕ) (f : ℕ → ℕ) → lows n f ≡ count n (λ i. bit 0 (f i)) + 2 * count n (λ i. bit 1 (f i))
+unfolding lows count
+lows-counts zero f = omega arith
+lows-counts (suc n) f =
+    let h : lows n f ≡ count n (λ i. bit 0 (f i)) + 2 * count n (λ i. bit 1 (f i)) = lows-counts n f in
+    let p : f n / 1 % 2 ≡ cond (bit 0 (f n)) 1 0 = bit-count 0 (f n) in
+    let q : f n / 2 % 2 ≡ cond (bit 1 (f n)) 1 0 = bit-count 1 (f n) in
+    omega arith
+
+-- a bit is set in an odd number of them
+pub paired-bit : (k n : ℕ) (f : ℕ → ℕ) → bit k (paired n f) ≡ eqb (count n (λ i. bit k (f i)) % 2) 1
+unfolding bit paired count
+paired-bit k n f = ap (λ (x : ℕ). eqb x 1) (digit n)
+  where
+    odd : (a b : ℕ) → bitXor a b % 2 ≡ (a + b) % 2
+    odd a b = omega (arith, xor-add-and a b)
+
+    digit : (n : ℕ) → paired n f / 2 ^ k % 2 ≡ count n (λ i. bit k (f i)) % 2
+    digit zero = ap (λ (x : ℕ). x % 2) (zero-div (2 ^ k))
+    digit (suc n) =
+        let h : paired n f / 2 ^ k % 2 ≡ count n (λ i. bit k (f i)) % 2 = digit n in
+        let q : f n / 2 ^ k % 2 ≡ cond (bit k (f n)) 1 0 = bit-count k (f n) in
+        ap (λ (x : ℕ). x % 2) (xor-shr (paired n f) (f n) k) ∙ odd (paired n f / 2 ^ k) (f n / 2 ^ k) ∙ omega arith
+
+-- what is picked, where bit 0 is set and where it is not
+pub pick-hit : (v row : ℕ) → v % 2 ≡ 1 → cond (bit 0 v) row 0 ≡ row
+pick-hit v row h = rw (bit-low-set v h) refl
+
+pub pick-miss : (v row : ℕ) → (v % 2 ≡ 1 → ⊥) → cond (bit 0 v) row 0 ≡ 0
+pick-miss v row h = let e : bit 0 v ≡ false = bit-low v ∙ ne-eqb (v % 2) 1 h in rw e refl
+
+-- one of two numbers has the bit
+pub or-bit : (k a b : ℕ) → bit k (bitOr a b) ≡ (bit k a || bit k b)
+unfolding bit
+or-bit k a b =
+    ap (λ (x : ℕ). eqb (x % 2) 1) (or-shr a b k) ∙ ap (λ (x : ℕ). eqb x 1) (or-mod (a / 2 ^ k) (b / 2 ^ k) 1)
+    ∙ digits (a / 2 ^ k % 2) (b / 2 ^ k % 2) (omega arith) (omega arith)
+  where
+    digits : (x y : ℕ) → x < 2 → y < 2 → eqb (bitOr x y) 1 ≡ (eqb x 1 || eqb y 1)
+    digits zero zero h l = refl
+    digits zero (suc zero) h l = refl
+    digits (suc zero) zero h l = refl
+    digits (suc zero) (suc zero) h l = refl
+    digits zero (suc (suc y)) h l = absurd (omega arith)
+    digits (suc zero) (suc (suc y)) h l = absurd (omega arith)
+    digits (suc (suc x)) zero h l = absurd (omega arith)
+    digits (suc (suc x)) (suc y) h l = absurd (omega arith)

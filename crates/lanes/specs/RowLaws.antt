@@ -1,21 +1,20 @@
 -- What one row more does to each of the four lists.
-use Prim.Native.Nat.{ℕ, _+_, _*_, _/_, _%_, _^_, _≤_, _<_}
+use Prim.Native.Nat.{ℕ, _+_, _*_, _%_, _≤_, _<_}
 use native.Mathlib.Nat.{add-mul, one-mul, mul-le-mul-right}
 use native.Mathlib.Omega.{arith}
 use mathlib.Core.Path.{_≡_, _∙_, ap, subst}
-use mathlib.Core.Bool.{Bool, cond}
+use mathlib.Core.Bool.{cond}
 use mathlib.Core.List.{List}
-use lib.Bits.{bitOr}
+use lib.Bits.{bitOr, bitXor}
 use lib.ListN.{length, getD}
-use Rattle.matrix.specs.Bounded.{count}
 use Rattle.matrix.specs.Bytes.{bit}
 use Rattle.lanes.specs.Lists.{Holds, Stored, holds-next}
-use Rattle.lanes.specs.Lanes.{merged, lastOf, byteAt, bitIn, Lanes, Matrix, Room}
-use Rattle.lanes.specs.LaneLaws.{bit-count, merged-step, count-step, last-step, count-le}
+use Rattle.lanes.specs.Lanes.{merged, lows, paired, markOf, byteAt, bitIn, Lanes, Matrix, Room}
+use Rattle.lanes.specs.LaneLaws.{merged-step, lows-step, paired-step, lows-le}
 
--- a count of at most r rows fits a byte with room for one more
-pub count-room : (w r : ℕ) (f : ℕ → ℕ → Bool) (l : List ℕ) → Holds 128 w (λ j. count r (f j)) l → r < 64 → (j : ℕ) → j < w → getD l j 0 < 255
-count-room w r f l s h j b = let e : getD l j 0 ≡ count r (f j) = s .value j b in omega (arith, count-le r (f j))
+-- the low bits of at most r rows fit a byte with room for one more
+pub lows-room : (w r : ℕ) (f : ℕ → ℕ → ℕ) (l : List ℕ) → Holds 128 w (λ j. lows r (f j)) l → r < 64 → (j : ℕ) → j < w → getD l j 0 < 253
+lows-room w r f l s h j b = let e : getD l j 0 ≡ lows r (f j) = s .value j b in omega (arith, lows-le r (f j))
 
 module _ (b : List ℕ) (m r at : ℕ) (place : at ≡ 7 + r * m) where
   byte-here : (j : ℕ) → getD b (at + j) 0 ≡ byteAt b m r j
@@ -27,17 +26,23 @@ module _ (b : List ℕ) (m r at : ℕ) (place : at ≡ 7 + r * m) where
       holds-next 512 w _ _ (λ x j. bitOr x (getD b (at + j) 0)) old new h s
       (λ j l. ap (λ (x : ℕ). bitOr (merged r (λ v. byteAt b m v j)) x) (byte-here j) ∙ merged-step r (λ v. byteAt b m v j))
 
-  pub next-count : (k w : ℕ) (old new : List ℕ) → Holds 128 w (λ j. count r (bitIn b m k j)) old
-      → Stored w (λ j. getD old j 0 + getD b (at + j) 0 / 2 ^ k % 2) old new → Holds 128 w (λ j. count (r + 1) (bitIn b m k j)) new
-  next-count k w old new h s =
-      holds-next 128 w _ _ (λ x j. x + getD b (at + j) 0 / 2 ^ k % 2) old new h s
-      (λ j l. ap (λ (x : ℕ). count r (bitIn b m k j) + x) (ap (λ (x : ℕ). x / 2 ^ k % 2) (byte-here j) ∙ bit-count k (byteAt b m r j)) ∙ count-step r (bitIn b m k j))
+  pub next-lows : (w : ℕ) (old new : List ℕ) → Holds 128 w (λ j. lows r (λ v. byteAt b m v j)) old
+      → Stored w (λ j. getD old j 0 + getD b (at + j) 0 % 4) old new → Holds 128 w (λ j. lows (r + 1) (λ v. byteAt b m v j)) new
+  next-lows w old new h s =
+      holds-next 128 w _ _ (λ x j. x + getD b (at + j) 0 % 4) old new h s
+      (λ j l. ap (λ (x : ℕ). lows r (λ v. byteAt b m v j) + x % 4) (byte-here j) ∙ lows-step r (λ v. byteAt b m v j))
 
-  pub next-last : (w : ℕ) (old new : List ℕ) → Holds 128 w (λ j. lastOf r (bitIn b m 0 j)) old
-      → Stored w (λ j. cond (bit 0 (getD b (at + j) 0)) r (getD old j 0)) old new → Holds 128 w (λ j. lastOf (r + 1) (bitIn b m 0 j)) new
-  next-last w old new h s =
-      holds-next 128 w _ _ (λ x j. cond (bit 0 (getD b (at + j) 0)) r x) old new h s
-      (λ j l. ap (λ (x : ℕ). cond (bit 0 x) r (lastOf r (bitIn b m 0 j))) (byte-here j) ∙ last-step r (bitIn b m 0 j))
+  pub next-paired : (w : ℕ) (old new : List ℕ) → Holds 128 w (λ j. paired r (λ v. byteAt b m v j)) old
+      → Stored w (λ j. bitXor (getD old j 0) (getD b (at + j) 0)) old new → Holds 128 w (λ j. paired (r + 1) (λ v. byteAt b m v j)) new
+  next-paired w old new h s =
+      holds-next 128 w _ _ (λ x j. bitXor x (getD b (at + j) 0)) old new h s
+      (λ j l. ap (λ (x : ℕ). bitXor (paired r (λ v. byteAt b m v j)) x) (byte-here j) ∙ paired-step r (λ v. byteAt b m v j))
+
+  pub next-mark : (w : ℕ) (old new : List ℕ) → Holds 128 w (λ j. markOf r (bitIn b m 0 j)) old
+      → Stored w (λ j. bitOr (getD old j 0) (cond (bit 0 (getD b (at + j) 0)) r 0)) old new → Holds 128 w (λ j. markOf (r + 1) (bitIn b m 0 j)) new
+  next-mark w old new h s =
+      holds-next 128 w _ _ (λ x j. bitOr x (cond (bit 0 (getD b (at + j) 0)) r 0)) old new h s
+      (λ j l. ap (λ (x : ℕ). bitOr (markOf r (bitIn b m 0 j)) (cond (bit 0 x) r 0)) (byte-here j) ∙ merged-step r (λ v. cond (bitIn b m 0 j v) v 0))
 
 -- the place of the next row, and that a row below n lies in the bytes
 pub next-place : (r m at : ℕ) → at ≡ 7 + r * m → at + m ≡ 7 + (r + 1) * m
@@ -57,6 +62,6 @@ row-room b n m w r at f l e =
     record { bytes = f .bytes; width = f .width; inside = f .inside; row = omega arith; place = e; fits = omega arith }
 
 -- the loop's end
-pub lanes-done : (b : List ℕ) (m w r n : ℕ) (seen own control last : List ℕ) → r ≤ n → n ≤ r → Lanes b m w r seen own control last
-    → Lanes b m w n seen own control last
-lanes-done b m w r n seen own control last h l f = subst (λ (i : ℕ). Lanes b m w i seen own control last) (omega arith) f
+pub lanes-done : (b : List ℕ) (m w r n : ℕ) (seen tally odd last : List ℕ) → r ≤ n → n ≤ r → Lanes b m w r seen tally odd last
+    → Lanes b m w n seen tally odd last
+lanes-done b m w r n seen tally odd last h l f = subst (λ (i : ℕ). Lanes b m w i seen tally odd last) (omega arith) f

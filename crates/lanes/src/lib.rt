@@ -1,8 +1,8 @@
-// The passes over one row of a record: what is seen, counted and found last in each byte column.
+// The passes over one row of a record: what is seen, counted and marked in each byte column.
 ghost use mathlib.Core.Path.{_≡_};
 ghost use mathlib.Core.Bool.{cond};
-ghost use Prim.Native.Nat.{ℕ, _+_, _/_, _%_, _^_, _≤_, _<_};
-ghost use lib.Bits.{bitOr};
+ghost use Prim.Native.Nat.{ℕ, _+_, _%_, _≤_, _<_};
+ghost use lib.Bits.{bitOr, bitXor};
 ghost use lib.ListN.{length, getD};
 ghost use Rattle.matrix.specs.Bytes.{bit};
 ghost use Rattle.lanes.specs.Lists.{Stored};
@@ -18,38 +18,41 @@ fn merge(seen: &mut [u8; 512], b: &[u8], at: usize, m: usize)
     }
 }
 
-// Bit k of a row's first w bytes is counted in each byte column.
-fn tally(counts: &mut [u8; 128], b: &[u8], at: usize, w: usize, k: u8)
-    requires { ⌜ (w ≤ 128) × (at + w ≤ length (now b)) × (length (now counts) ≡ 128) × (k < 8) × ((j : ℕ) → j < w → getD (now counts) j 0 < 255) ⌝ }
-    ensures { λ _. ⌜ Stored w (λ j. getD (now (counts .entry)) j 0 + getD (now (b .entry)) (at + j) 0 / 2 ^ k % 2) (now (counts .entry)) (now (counts .exit)) ⌝ }
+// The two low bits of a row's first w bytes are added up in each byte column, and its bits change those that an odd number of rows have.
+fn count(tally: &mut [u8; 128], odd: &mut [u8; 128], b: &[u8], at: usize, w: usize)
+    requires { ⌜ (w ≤ 128) × (at + w ≤ length (now b)) × (length (now tally) ≡ 128) × (length (now odd) ≡ 128) × ((j : ℕ) → j < w → getD (now tally) j 0 < 253) ⌝ }
+    ensures low { λ _. ⌜ Stored w (λ j. getD (now (tally .entry)) j 0 + getD (now (b .entry)) (at + j) 0 % 4) (now (tally .entry)) (now (tally .exit)) ⌝ }
+    ensures parity { λ _. ⌜ Stored w (λ j. bitXor (getD (now (odd .entry)) j 0) (getD (now (b .entry)) (at + j) 0)) (now (odd .entry)) (now (odd .exit)) ⌝ }
 {
     for j in 0..w {
-        counts[j] = counts[j] + (b[at + j] >> k) % 2;
+        let v = b[at + j];
+        tally[j] = tally[j] + v % 4;
+        odd[j] = odd[j] ^ v;
     }
 }
 
-// The row's number where the byte has bit 0, else the number before.
-pub fn pick(v: u8, row: u8, before: u8) -> u8
-    ensures { λ r. ⌜ r ≡ cond (bit 0 v) row before ⌝ }
+// The row's number where the byte has bit 0, else 0.
+pub fn pick(v: u8, row: u8) -> u8
+    ensures { λ r. ⌜ r ≡ cond (bit 0 v) row 0 ⌝ }
 {
-    if v % 2 == 1 { row } else { before }
+    if v % 2 == 1 { row } else { 0 }
 }
 
-// The row's number is stored for each of its first w byte columns that has bit 0.
+// The row's number joins what is marked for each of its first w byte columns that has bit 0.
 fn mark(last: &mut [u8; 128], b: &[u8], at: usize, w: usize, row: u8)
     requires { ⌜ (w ≤ 128) × (at + w ≤ length (now b)) × (length (now last) ≡ 128) ⌝ }
-    ensures { λ _. ⌜ Stored w (λ j. cond (bit 0 (getD (now (b .entry)) (at + j) 0)) row (getD (now (last .entry)) j 0)) (now (last .entry)) (now (last .exit)) ⌝ }
+    ensures { λ _. ⌜ Stored w (λ j. bitOr (getD (now (last .entry)) j 0) (cond (bit 0 (getD (now (b .entry)) (at + j) 0)) row 0)) (now (last .entry)) (now (last .exit)) ⌝ }
 {
     for j in 0..w {
-        last[j] = pick(b[at + j], row, last[j]);
+        last[j] = last[j] | pick(b[at + j], row);
     }
 }
 
 // One row joins the four lists.
 pub fn row(
     seen: &mut [u8; 512],
-    own: &mut [u8; 128],
-    control: &mut [u8; 128],
+    tally: &mut [u8; 128],
+    odd: &mut [u8; 128],
     last: &mut [u8; 128],
     b: &[u8],
     at: usize,
@@ -57,11 +60,10 @@ pub fn row(
     w: usize,
     r: usize,
 )
-    requires { ⌜ Room (now b) m w r at × Lanes (now b) m w r (now seen) (now own) (now control) (now last) ⌝ }
-    ensures { λ _. ⌜ Lanes (now (b .entry)) m w (r + 1) (now (seen .exit)) (now (own .exit)) (now (control .exit)) (now (last .exit)) ⌝ }
+    requires { ⌜ Room (now b) m w r at × Lanes (now b) m w r (now seen) (now tally) (now odd) (now last) ⌝ }
+    ensures { λ _. ⌜ Lanes (now (b .entry)) m w (r + 1) (now (seen .exit)) (now (tally .exit)) (now (odd .exit)) (now (last .exit)) ⌝ }
 {
     merge(seen, b, at, m);
-    tally(own, b, at, w, 0);
-    tally(control, b, at, w, 1);
+    count(tally, odd, b, at, w);
     mark(last, b, at, w, r as u8);
 }

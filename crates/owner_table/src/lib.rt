@@ -8,7 +8,7 @@ ghost use Rattle.lanes.specs.Lists.{Stored};
 ghost use Rattle.owner_table.specs.Followed.{followed};
 ghost use Rattle.owner_table.specs.Table.{ownerIn, Inside};
 
-// A table of owners from the last row that owns each subject's low byte column.
+// A table of owners from what is marked for each subject's low byte column.
 fn owners(t: &mut [u8; 64], last: &[u8; 128], n: usize)
     requires { ⌜ (n ≤ 64) × (length (now t) ≡ 64) × (length (now last) ≡ 128) ⌝ }
     ensures { λ _. ⌜ Stored n (ownerIn (now (last .entry))) (now (t .entry)) (now (t .exit)) ⌝ }

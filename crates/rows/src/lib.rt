@@ -6,8 +6,8 @@ ghost use Rattle.four_rows.specs.Four.{RoomFour};
 // Four rows join the four lists.
 fn four(
     seen: &mut [u8; 512],
-    own: &mut [u8; 128],
-    control: &mut [u8; 128],
+    tally: &mut [u8; 128],
+    odd: &mut [u8; 128],
     last: &mut [u8; 128],
     b: &[u8],
     at: usize,
@@ -15,38 +15,37 @@ fn four(
     w: usize,
     r: usize,
 )
-    requires { ⌜ RoomFour (now b) m w r at × Lanes (now b) m w r (now seen) (now own) (now control) (now last) ⌝ }
-    ensures { λ _. ⌜ Lanes (now (b .entry)) m w (r + 4) (now (seen .exit)) (now (own .exit)) (now (control .exit)) (now (last .exit)) ⌝ }
+    requires { ⌜ RoomFour (now b) m w r at × Lanes (now b) m w r (now seen) (now tally) (now odd) (now last) ⌝ }
+    ensures { λ _. ⌜ Lanes (now (b .entry)) m w (r + 4) (now (seen .exit)) (now (tally .exit)) (now (odd .exit)) (now (last .exit)) ⌝ }
 {
     four_rows::merge_four(seen, b, at, m);
-    four_rows::tally_four(own, b, at, m, w, 0);
-    four_rows::tally_four(control, b, at, m, w, 1);
+    four_rows::count_four(tally, odd, b, at, m, w);
     four_rows::mark_four(last, b, at, m, w, r as u8);
 }
 
 // All n rows of a record: the four lists, of zeros at first, hold what is to be known of each byte column.
 pub fn scan(
     seen: &mut [u8; 512],
-    own: &mut [u8; 128],
-    control: &mut [u8; 128],
+    tally: &mut [u8; 128],
+    odd: &mut [u8; 128],
     last: &mut [u8; 128],
     b: &[u8],
     n: usize,
     m: usize,
     w: usize,
 )
-    requires { ⌜ Matrix (now b) n m w × Lanes (now b) m w 0 (now seen) (now own) (now control) (now last) ⌝ }
-    ensures { λ _. ⌜ Lanes (now (b .entry)) m w n (now (seen .exit)) (now (own .exit)) (now (control .exit)) (now (last .exit)) ⌝ }
+    requires { ⌜ Matrix (now b) n m w × Lanes (now b) m w 0 (now seen) (now tally) (now odd) (now last) ⌝ }
+    ensures { λ _. ⌜ Lanes (now (b .entry)) m w n (now (seen .exit)) (now (tally .exit)) (now (odd .exit)) (now (last .exit)) ⌝ }
 {
     let mut at = 7;
     let mut r: usize = 0;
     while r + 4 <= n {
-        four(seen, own, control, last, b, at, m, w, r);
+        four(seen, tally, odd, last, b, at, m, w, r);
         at += 4 * m;
         r += 4;
     }
     while r < n {
-        lanes::row(seen, own, control, last, b, at, m, w, r);
+        lanes::row(seen, tally, odd, last, b, at, m, w, r);
         at += m;
         r += 1;
     }

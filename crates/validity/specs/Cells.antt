@@ -21,12 +21,13 @@ use Rattle.matrix.specs.Reading.{stateOf, cellAt, bitAt}
 use Rattle.matrix.specs.Record.{emptyCell}
 use Rattle.laws.specs.Tests.{way, same-test, and-left, and-right, and-both}
 use Rattle.laws.specs.Bounded.{any-same}
-use Rattle.codec.specs.Bits.{bit-low, any-bit}
+use Rattle.codec.specs.Bits.{bit-low, bit-zero, any-bit}
 use Rattle.codec.specs.Codes.{codeOf-rightOf}
 use Rattle.codec.specs.Cells.{cell-below}
 use Rattle.codec.specs.Update.{has-state, bitAt-cell}
 use Rattle.lanes.specs.Lanes.{byteAt, bitIn}
 use Rattle.validity.specs.Fast.{columnExists}
+use Rattle.validity.specs.Sound.{Bits}
 
 -- the bytes of a row
 abbrev pub rowBytes : List ℕ → ℕ
@@ -66,6 +67,13 @@ two-zero hi lo = same-test _ _ forth back
 
     back : (eqb hi 0 && eqb lo 0) ≡ true → eqb (hi * 256 + lo) 0 ≡ true
     back h = let a : hi ≡ 0 = eqb-true hi 0 (and-left _ _ h) in let e : lo ≡ 0 = eqb-true lo 0 (and-right (eqb hi 0) _ h) in eq-eqb (hi * 256 + lo) 0 (omega arith)
+
+-- a zero cell has neither bit
+pub cell-bits : (b : List ℕ) (m : ℕ) → Bits (ownBit b m) (controlBit b m) (zeroCell b m)
+cell-bits b m = record { own = λ w c z. ap (bit 0) (low w c z) ∙ bit-zero 0; control = λ w c z. ap (bit 1) (low w c z) ∙ bit-zero 1 }
+  where
+    low : (w c : ℕ) → zeroCell b m w c ≡ true → byteAt b m w (2 * c + 1) ≡ 0
+    low w c z = eqb-true _ 0 (and-right (eqb (byteAt b m w (2 * c)) 0) _ z)
 
 module _ (b : List ℕ) (octets : Octets b) where
   -- a low bit of a cell of the record, own or control

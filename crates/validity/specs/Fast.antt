@@ -4,7 +4,7 @@ use Prim.Native.Nat.{ℕ, _+_}
 use mathlib.Core.Bool.{Bool, cond, not, _&&_, _||_}
 use lib.Dec.{eqb, ltb, leb}
 use Rattle.matrix.specs.Bounded.{any, all, count, least}
-use Rattle.lanes.specs.Lanes.{lastOf}
+use Rattle.lanes.specs.Lanes.{markOf}
 use Rattle.owner_table.specs.Followed.{followed}
 
 -- the row that a subject's owner is followed to; a subject with no owner stays where it is
@@ -48,12 +48,12 @@ subjectRight n k O C Z s =
 unfoldable pub plainRight : ℕ → (ℕ → ℕ → Bool) → (ℕ → ℕ → Bool) → (ℕ → ℕ → Bool) → ℕ → Bool
 plainRight n O C Z c = cond (any n (λ w. O w c)) (not (any n (λ w. C w c))) (all n (λ w. Z w c))
 
--- the owner of each subject, 0 if it has none, and that following it 64 times comes to U
-abbrev pub lastOwner : ℕ → (ℕ → ℕ → Bool) → ℕ → ℕ
-lastOwner n O s = lastOf n (λ w. O w s)
+-- the owner of each subject that has just one, 0 if it has none, and that following it 64 times comes to U
+abbrev pub ownerMark : ℕ → (ℕ → ℕ → Bool) → ℕ → ℕ
+ownerMark n O s = markOf n (λ w. O w s)
 
 abbrev pub allAscend : ℕ → (ℕ → ℕ → Bool) → Bool
-allAscend n O = all n (λ s. eqb (followed (lastOwner n O) 64 s) 0)
+allAscend n O = all n (λ s. eqb (followed (ownerMark n O) 64 s) 0)
 
 abbrev pub testsPass : ℕ → ℕ → (ℕ → ℕ → Bool) → (ℕ → ℕ → Bool) → (ℕ → ℕ → Bool) → Bool
 testsPass n p O C Z = all n (subjectRight n (n + p) O C Z) && all p (λ i. plainRight n O C Z (n + i)) && allAscend n O

@@ -1,17 +1,17 @@
 -- What numbers merged tell of each of them.
-use Prim.Native.Nat.{ℕ, zero, suc, _+_, _*_, _/_, _%_, _^_, _<_}
+use Prim.Native.Nat.{ℕ, zero, suc, _+_, _*_, _/_, _%_, _<_}
 use native.Mathlib.Omega.{arith}
-use mathlib.Core.Path.{_≡_, refl, _∙_, ap, subst}
+use mathlib.Core.Path.{_≡_, _∙_, ap, subst}
 use mathlib.Core.Logic.{_⊎_, inl, inr}
 use mathlib.Core.Bool.{Bool, true, false, _&&_, _||_}
 use lib.Dec.{eqb}
-use lib.Bits.{bitOr, or-shr, or-mod}
 use borrow.Author.Tests.{eqb-true, eqb-false}
 use Rattle.matrix.specs.Bounded.{any, all}
 use Rattle.matrix.specs.Bytes.{bit}
 use Rattle.laws.specs.Tests.{way, same-test, and-left, and-right, and-both}
 use Rattle.laws.specs.Bounded.{all-each, each-all}
 use Rattle.lanes.specs.Lanes.{merged}
+use Rattle.lanes.specs.LaneLaws.{or-bit}
 use Rattle.lanes.specs.Zeros.{merged-zero}
 use Rattle.codec.specs.Bits.{bit-zero}
 
@@ -27,22 +27,6 @@ merged-zeros n f g = rw (merged-zero n f, merged-zero n g) (both n (λ i. eqb (f
         (each-all n u (λ i l. and-right (t i) _ (all-each n (λ i. t i && u i) h i l))))
 
 -- one of them has the bit
-or-bit : (k a b : ℕ) → bit k (bitOr a b) ≡ (bit k a || bit k b)
-unfolding bit
-or-bit k a b =
-    ap (λ (x : ℕ). eqb (x % 2) 1) (or-shr a b k) ∙ ap (λ (x : ℕ). eqb x 1) (or-mod (a / 2 ^ k) (b / 2 ^ k) 1)
-    ∙ digits (a / 2 ^ k % 2) (b / 2 ^ k % 2) (omega arith) (omega arith)
-  where
-    digits : (x y : ℕ) → x < 2 → y < 2 → eqb (bitOr x y) 1 ≡ (eqb x 1 || eqb y 1)
-    digits zero zero h l = refl
-    digits zero (suc zero) h l = refl
-    digits (suc zero) zero h l = refl
-    digits (suc zero) (suc zero) h l = refl
-    digits zero (suc (suc y)) h l = absurd (omega arith)
-    digits (suc zero) (suc (suc y)) h l = absurd (omega arith)
-    digits (suc (suc x)) zero h l = absurd (omega arith)
-    digits (suc (suc x)) (suc y) h l = absurd (omega arith)
-
 pub merged-bit : (k n : ℕ) (f : ℕ → ℕ) → bit k (merged n f) ≡ any n (λ i. bit k (f i))
 unfolding merged any
 merged-bit k zero f = bit-zero k

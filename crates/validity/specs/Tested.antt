@@ -10,9 +10,9 @@ use Rattle.matrix.specs.Bounded.{any, all, count, least}
 use Rattle.laws.specs.Tests.{way, clash, holds, fails-not, same-test, and-left, and-right, and-both, or-left, or-right, or-other}
 use Rattle.laws.specs.Bounded.{all-each, each-all, any-none, none-any, least-none}
 use Rattle.laws.specs.Counting.{none-count}
-use Rattle.owner_table.specs.Counts.{last-below, last-none, last-least}
+use Rattle.owner_table.specs.Counts.{mark-none, mark-least}
 use Rattle.owner_table.specs.Followed.{followed, followed-same, longer, within}
-use Rattle.validity.specs.Fast.{ownerStep, zeroAbsent, plainFree, rootAlone, oneEach, ascends, fiveHold, subjectRight, plainRight, lastOwner, allAscend, testsPass}
+use Rattle.validity.specs.Fast.{ownerStep, zeroAbsent, plainFree, rootAlone, oneEach, ascends, fiveHold, subjectRight, plainRight, ownerMark, allAscend, testsPass}
 use Rattle.validity.specs.Sound.{Bits, Framed, five-framed, framed-absent, framed-plain, framed-root, framed-one}
 
 module _ (n p : ℕ) (O C Z : ℕ → ℕ → Bool) (bits : Bits O C Z) (some : 0 < n) where
@@ -39,7 +39,7 @@ module _ (n p : ℕ) (O C Z : ℕ → ℕ → Bool) (bits : Bits O C Z) (some : 
   unfolding plainRight
   owned-free c h e = not-true (any n (λ w. C w c)) (rw e at h)
 
-  tests-framed : all n (subjectRight n (n + p) O C Z) ≡ true → all p (λ i. plainRight n O C Z (n + i)) ≡ true → Here
+  pub tests-framed : all n (subjectRight n (n + p) O C Z) ≡ true → all p (λ i. plainRight n O C Z (n + i)) ≡ true → Here
   tests-framed a b =
       record {
         root = root;
@@ -101,8 +101,8 @@ module _ (n p : ℕ) (O C Z : ℕ → ℕ → Bool) (bits : Bits O C Z) (some : 
   abbrev Exists : ℕ → Type 0
   Exists s = (s < n) × (C s s ≡ true)
 
-  root-last : Here → lastOwner n O 0 ≡ 0
-  root-last f = last-none n (λ w. O w 0) (none-count n (λ w. O w 0) (f .root-owner))
+  root-mark : Here → ownerMark n O 0 ≡ 0
+  root-mark f = mark-none n (λ w. O w 0) (none-count n (λ w. O w 0) (f .root-owner))
 
   root-step : Here → ownerStep n O 0 ≡ 0
   root-step f =
@@ -111,12 +111,12 @@ module _ (n p : ℕ) (O C Z : ℕ → ℕ → Bool) (bits : Bits O C Z) (some : 
       rw (e, l) refl
 
   step-least : Here → (s : ℕ) → s < n → (s ≡ 0 → ⊥) → C s s ≡ true → ownerStep n O s ≡ least n (λ w. O w s)
-  step-least f s l ne e = rw (lt-ltb _ n (last-least n (λ w. O w s) (f .owner s l ne e) .1)) refl
+  step-least f s l ne e = rw (lt-ltb _ n (mark-least n (λ w. O w s) (f .owner s l ne e) .1)) refl
 
-  same-owner : Here → (s : ℕ) → Exists s → lastOwner n O s ≡ ownerStep n O s
+  same-owner : Here → (s : ℕ) → Exists s → ownerMark n O s ≡ ownerStep n O s
   same-owner f s x =
-      ⊎-elim (λ z. subst (λ (i : ℕ). lastOwner n O i ≡ ownerStep n O i) (sym (eqb-true s 0 z)) (root-last f ∙ sym (root-step f)))
-      (λ z. last-least n (λ w. O w s) (f .owner s (x .0) (eqb-false s 0 z) (x .1)) .0 ∙ sym (step-least f s (x .0) (eqb-false s 0 z) (x .1)))
+      ⊎-elim (λ z. subst (λ (i : ℕ). ownerMark n O i ≡ ownerStep n O i) (sym (eqb-true s 0 z)) (root-mark f ∙ sym (root-step f)))
+      (λ z. mark-least n (λ w. O w s) (f .owner s (x .0) (eqb-false s 0 z) (x .1)) .0 ∙ sym (step-least f s (x .0) (eqb-false s 0 z) (x .1)))
       (way (eqb s 0))
 
   owner-exists : Here → (s : ℕ) → Exists s → Exists (ownerStep n O s)
@@ -127,7 +127,7 @@ module _ (n p : ℕ) (O C Z : ℕ → ℕ → Bool) (bits : Bits O C Z) (some : 
 
       at-owner : (s ≡ 0 → ⊥) → Exists (least n (λ w. O w s))
       at-owner ne =
-          let w = last-least n (λ w. O w s) (f .owner s (x .0) ne (x .1)) in (
+          let w = mark-least n (λ w. O w s) (f .owner s (x .0) ne (x .1)) in (
             w .1,
             holds (C (least n (λ w. O w s)) (least n (λ w. O w s)))
                 (λ e. clash (w .2) (bits .own (least n (λ w. O w s)) s (f .row (least n (λ w. O w s)) s (w .1) (let l : s < n = x .0 in omega arith) e))),
@@ -137,26 +137,29 @@ module _ (n p : ℕ) (O C Z : ℕ → ℕ → Bool) (bits : Bits O C Z) (some : 
       go (inl z) = subst (λ (i : ℕ). Exists (ownerStep n O i)) (sym (eqb-true s 0 z)) at-root
       go (inr z) = subst (λ (i : ℕ). Exists i) (sym (step-least f s (x .0) (eqb-false s 0 z) (x .1))) (at-owner (eqb-false s 0 z))
 
-  same-path : Here → (j s : ℕ) → Exists s → followed (lastOwner n O) j s ≡ followed (ownerStep n O) j s
-  same-path f = followed-same (lastOwner n O) (ownerStep n O) (λ s. (s < n) × (C s s ≡ true)) (same-owner f) (owner-exists f)
-
-  last-inside : (s : ℕ) → s < n → lastOwner n O s < n
-  last-inside s l = last-below n (λ w. O w s) some
+  same-path : Here → (j s : ℕ) → Exists s → followed (ownerMark n O) j s ≡ followed (ownerStep n O) j s
+  same-path f = followed-same (ownerMark n O) (ownerStep n O) (λ s. (s < n) × (C s s ≡ true)) (same-owner f) (owner-exists f)
 
   -- an absent subject has no owner
-  absent-last : Here → (s : ℕ) → s < n → C s s ≡ false → lastOwner n O s ≡ 0
-  absent-last f s l e = last-none n (λ w. O w s) (λ w m. bits .own w s (f .column s w l m e))
+  absent-mark : Here → (s : ℕ) → s < n → C s s ≡ false → ownerMark n O s ≡ 0
+  absent-mark f s l e = mark-none n (λ w. O w s) (λ w m. bits .own w s (f .column s w l m e))
+
+  -- the owner of a subject, or 0, is a subject
+  pub mark-inside : Here → (s : ℕ) → s < n → ownerMark n O s < n
+  mark-inside f s l =
+      ⊎-elim (λ e. subst (λ (i : ℕ). i < n) (sym (same-owner f s (l, e))) (owner-exists f s (l, e) .0))
+      (λ e. subst (λ (i : ℕ). i < n) (sym (absent-mark f s l e)) some) (way (C s s))
 
   framed-ascend : n ≤ 64 → Here → ascends n O C ≡ true → allAscend n O ≡ true
   unfolding followed
   framed-ascend most f h = each-all n _ (λ s l. eq-eqb _ 0 (go s l (way (C s s))))
     where
-      go : (s : ℕ) → s < n → (C s s ≡ true) ⊎ (C s s ≡ false) → followed (lastOwner n O) 64 s ≡ 0
+      go : (s : ℕ) → s < n → (C s s ≡ true) ⊎ (C s s ≡ false) → followed (ownerMark n O) 64 s ≡ 0
       go s l (inl e) =
           let q : followed (ownerStep n O) n s ≡ 0 = eqb-true _ 0 (or-other {t = not (C s s)} (all-each n (λ s. not (C s s) || eqb (followed (ownerStep n O) n s) 0) h s l) (rw e refl)) in
           let t : n + (64 - n) ≡ 64 = omega arith in
-          rw t at (longer n (lastOwner n O) last-inside (root-last f) n (64 - n) s (same-path f n s (l, e) ∙ q))
-      go s l (inr e) = longer n (lastOwner n O) last-inside (root-last f) 1 63 s (absent-last f s l e)
+          rw t at (longer n (ownerMark n O) (mark-inside f) (root-mark f) n (64 - n) s (same-path f n s (l, e) ∙ q))
+      go s l (inr e) = longer n (ownerMark n O) (mark-inside f) (root-mark f) 1 63 s (absent-mark f s l e)
 
   ascend-framed : Here → allAscend n O ≡ true → ascends n O C ≡ true
   ascend-framed f h = each-all n _ (λ s l. go s l (way (C s s)))
@@ -164,8 +167,8 @@ module _ (n p : ℕ) (O C Z : ℕ → ℕ → Bool) (bits : Bits O C Z) (some : 
       go : (s : ℕ) → s < n → (C s s ≡ true) ⊎ (C s s ≡ false) → (not (C s s) || eqb (followed (ownerStep n O) n s) 0) ≡ true
       go s l (inl e) =
           or-right (not (C s s))
-          (eq-eqb _ 0 (sym (same-path f n s (l, e)) ∙ within n (lastOwner n O) last-inside (root-last f) 64 s l
-          (eqb-true _ 0 (all-each n (λ s. eqb (followed (lastOwner n O) 64 s) 0) h s l))))
+          (eq-eqb _ 0 (sym (same-path f n s (l, e)) ∙ within n (ownerMark n O) (mark-inside f) (root-mark f) 64 s l
+          (eqb-true _ 0 (all-each n (λ s. eqb (followed (ownerMark n O) 64 s) 0) h s l))))
       go s l (inr e) = or-left _ (fails-not e)
 
   -- The tests of one pass pass just where the five conditions hold.

@@ -1,28 +1,24 @@
 -- The definition's test of a record's matrix is the tests of one pass over its bytes.
-use Prim.Native.Nat.{ℕ, zero, suc, _+_, _*_, _≤_, _<_}
+use Prim.Native.Nat.{ℕ, zero, suc, _≤_, _<_}
 use mathlib.Core.Path.{_≡_, refl, sym, _∙_, ap}
 use mathlib.Core.Logic.{_⊎_, inl, inr}
 use mathlib.Core.Bool.{Bool, true, false, cond, not, _&&_, _||_}
 use mathlib.Core.List.{List}
 use lib.Dec.{eqb, ltb, leb}
-use borrow.Author.Tests.{eqb-true, ltb-true, ltb-false}
+use borrow.Author.Tests.{ltb-true, ltb-false}
 use Rattle.matrix.specs.declared.Name.{Name}
 use Rattle.matrix.specs.declared.Name.the-variants.{Subject, Plain}
 use Rattle.matrix.specs.Bounded.{least}
-use Rattle.matrix.specs.Bytes.{bit}
 use Rattle.matrix.specs.Shape.{shapeOf, columns}
 use Rattle.matrix.specs.Shaped.{Octets}
 use Rattle.matrix.specs.Reading.{stateOf}
 use Rattle.matrix.specs.Record.{absentZero, plainUncontrolled, rootRight, oneOwnerEach, climb, allRooted, validMatrix}
-use Rattle.laws.specs.Tests.{way, and-right}
+use Rattle.laws.specs.Tests.{way}
 use Rattle.laws.specs.Bounded.{all-same, count-same, least-same}
-use Rattle.codec.specs.Bits.{bit-zero}
-use Rattle.lanes.specs.Lanes.{byteAt}
 use Rattle.owner_table.specs.Followed.{followed}
 use Rattle.validity.specs.Fast.{ownerStep, zeroAbsent, plainFree, rootAlone, oneEach, ascends, fiveHold, testsPass}
-use Rattle.validity.specs.Sound.{Bits}
 use Rattle.validity.specs.Tested.{tests-five}
-use Rattle.validity.specs.Cells.{rowBytes, ownBit, controlBit, zeroCell, own-subject, control-subject, control-plain, empty-read, column-read}
+use Rattle.validity.specs.Cells.{rowBytes, ownBit, controlBit, zeroCell, own-subject, control-subject, control-plain, empty-read, column-read, cell-bits}
 
 -- climbing owners is following them, where the subjects below n have the same owners
 climb-follows : (n : ℕ) (owns : ℕ → Name → Bool) (O : ℕ → ℕ → Bool) → ((w s : ℕ) → w < n → s < n → owns w (Subject s) ≡ O w s)
@@ -87,17 +83,7 @@ module _ (b : List ℕ) (octets : Octets b) where
   unfolding validMatrix
   valid-five some = λ i. absent-same i && plain-same i && root-same some i && one-same i && rooted-same i
 
-  cell-bits : Bits O C Z
-  cell-bits =
-      record {
-        own = λ w c z. ap (bit 0) (low w c z) ∙ bit-zero 0;
-        control = λ w c z. ap (bit 1) (low w c z) ∙ bit-zero 1;
-      }
-    where
-      low : (w c : ℕ) → Z w c ≡ true → byteAt b (rowBytes b) w (2 * c + 1) ≡ 0
-      low w c z = eqb-true _ 0 (and-right (eqb (byteAt b (rowBytes b) w (2 * c)) 0) _ z)
-
   -- the matrix of a record is valid just where the tests of one pass over its bytes pass
   pub valid-tests : 0 < shapeOf b .n → shapeOf b .n ≤ 64
       → testsPass (shapeOf b .n) (shapeOf b .p) (ownBit b (rowBytes b)) (controlBit b (rowBytes b)) (zeroCell b (rowBytes b)) ≡ validMatrix (shapeOf b) (stateOf b)
-  valid-tests some most = tests-five n (shapeOf b .p) O C Z cell-bits some most ∙ sym (valid-five some)
+  valid-tests some most = tests-five n (shapeOf b .p) O C Z (cell-bits b (rowBytes b)) some most ∙ sym (valid-five some)

@@ -7,7 +7,7 @@ use mathlib.Core.List.{List}
 use lib.Dec.{eqb, leb}
 use lib.ListN.{length, getD, replicate, length-replicate, getD-replicate}
 use borrow.Author.Tests.{eqb-true, leb-true, eq-eqb, ne-eqb}
-use Rattle.matrix.specs.Bounded.{all, count}
+use Rattle.matrix.specs.Bounded.{all}
 use Rattle.matrix.specs.Bytes.{numberAt}
 use Rattle.matrix.specs.Shape.{shapeOf, knownVersion, inRange, sized, countOf, sizeOf}
 use Rattle.matrix.specs.Shaped.{Octets}
@@ -15,7 +15,7 @@ use Rattle.matrix.specs.Reading.{stateOf}
 use Rattle.matrix.specs.Record.{validMatrix}
 use Rattle.laws.specs.Tests.{and-left, and-right}
 use Rattle.lanes.specs.Lists.{Holds}
-use Rattle.lanes.specs.Lanes.{merged, lastOf, Lanes}
+use Rattle.lanes.specs.Lanes.{merged, lows, paired, Lanes}
 use Rattle.owner_table.specs.Followed.{followed}
 use Rattle.validity.specs.Fast.{testsPass}
 use Rattle.validity.specs.Cells.{ownBit, controlBit, zeroCell}
@@ -32,22 +32,22 @@ unread owners e = ap (λ (l : List ℕ). length l) e ∙ length-replicate {A = �
 -- lists of zeros, before the first row
 pub lanes-none : (b : List ℕ) (m w : ℕ) {last : List ℕ} → m ≤ 512 → w ≤ 128 → last ≡ replicate 128 0
     → Lanes b m w 0 (replicate 512 0) (replicate 128 0) (replicate 128 0) last
-unfolding merged count lastOf
+unfolding merged lows paired
 lanes-none b m w h l e =
     record {
       saw = record { size = length-replicate {A = ℕ} 512 0; value = λ j g. getD-replicate 512 j 0 0 (omega arith) };
-      owned = zeros;
-      controlled = zeros;
+      counted = zeros;
+      parity = zeros;
       owner = subst (Holds 128 w (λ j. 0)) (sym e) zeros;
     }
   where
     zeros : Holds 128 w (λ j. 0) (replicate 128 0)
     zeros = record { size = length-replicate {A = ℕ} 128 0; value = λ j g. getD-replicate 128 j 0 0 (omega arith) }
 
-module _ (b : List ℕ) (n p : ℕ) (seen own control last : List ℕ) (whole : Whole b n p) (octets : Octets b)
-    (lanes : Lanes b (2 * (n + p)) (2 * n) n seen own control last) where
+module _ (b : List ℕ) (n p : ℕ) (seen tally odd last : List ℕ) (whole : Whole b n p) (octets : Octets b)
+    (lanes : Lanes b (2 * (n + p)) (2 * n) n seen tally odd last) where
   abbrev S : Bool
-  S = all n (subjectTest b (2 * (n + p)) seen own control)
+  S = all n (subjectTest b (2 * (n + p)) seen tally odd)
 
   abbrev P : Bool
   P = all p (λ i. plainTest seen (2 * (n + i)))
@@ -61,12 +61,12 @@ module _ (b : List ℕ) (n p : ℕ) (seen own control last : List ℕ) (whole : 
       let most : n ≤ 64 = whole .head .high in
       let e : n ≡ shapeOf b .n = whole .head .subjects in
       let q : p ≡ shapeOf b .p = whole .head .plain in
-      all-passed b n (n + p) (2 * (n + p)) seen own control last lanes refl (omega arith) p refl some
+      all-passed b n (n + p) (2 * (n + p)) seen tally odd last lanes refl (omega arith) p refl some
       ∙ (λ i. testsPass (e i) (q i) (ownBit b (2 * (e i + q i))) (controlBit b (2 * (e i + q i))) (zeroCell b (2 * (e i + q i))))
       ∙ valid-tests b octets (omega arith) (omega arith)
 
-  pub table-inside : Inside n (ownerIn last)
-  table-inside = owners-inside b n (n + p) (2 * (n + p)) seen own control last lanes refl (omega arith) (whole .head .low)
+  pub table-inside : S ≡ true → P ≡ true → Inside n (ownerIn last)
+  table-inside = owners-inside b n (n + p) (2 * (n + p)) seen tally odd last lanes refl (omega arith) p refl (whole .head .low)
 
   -- an answer, with the size of the table of owners
   abbrev Judged : Bool → Type 0

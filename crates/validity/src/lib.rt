@@ -18,11 +18,11 @@ fn valid(b: &[u8], n: usize, p: usize, owners: &mut [u8; 128]) -> bool
     ensures table { λ r. ⌜ length (now (owners .exit)) ≡ 128 ⌝ }
 {
     let mut seen = [0u8; 512];
-    let mut own = [0u8; 128];
-    let mut control = [0u8; 128];
+    let mut tally = [0u8; 128];
+    let mut odd = [0u8; 128];
     let m = 2 * (n + p);
-    rows::scan(&mut seen, &mut own, &mut control, owners, b, n, m, 2 * n);
-    if !columns::subjects(b, &seen, &own, &control, n, m) {
+    rows::scan(&mut seen, &mut tally, &mut odd, owners, b, n, m, 2 * n);
+    if !columns::subjects(b, &seen, &tally, &odd, n, m) {
         return false;
     }
     if !columns::plains(&seen, n, p) {

@@ -1,13 +1,13 @@
 -- `columns::root_counts` meets its contract. Both tests, one after the other.
-use borrow.Author.Tests.{eq-eqb, ne-eqb}
+use Rattle.columns.specs.Loops.{root-right, root-wrong}
 use Rattle.columns.proofs.root_counts.Statement.{statement}
 use Rattle.columns.proofs.root_counts.Tie as tie
 
 returns : tie.Need-returns
-returns c = simp (eq-eqb _ _ (c .if1 .taken))
+returns c = root-right _ _ (c .if1 .taken)
 
 returns-2 : tie.Need-returns-2
-returns-2 c = simp (ne-eqb _ _ (c .if1 .left))
+returns-2 c = root-wrong _ _ (c .if1 .left)
 
 pub root-counts-spec : {M : Type 1} → statement M
 root-counts-spec = tie.close (tie.spec returns returns-2)

@@ -40,19 +40,19 @@ absent-requires c κs = search needs
 returns : tie.Need-returns
 returns c =
     let a = c .before .before .before .before .before .before .before .args in
-    subject-root (a .b .now) (a .m) (a .seen .now) (a .own .now) (a .control .now) (a .s) (a .at) _
+    subject-root (a .b .now) (a .m) (a .seen .now) (a .tally .now) (a .odd .now) (a .s) (a .at) _
     (c .before .before .before .before .if1 .taken) (c .before .before .before .if2 .taken) (c .root-counts .ensures)
 
 returns-2 : tie.Need-returns-2
 returns-2 c =
     let a = c .before .before .before .before .before .before .before .args in
-    subject-other (a .b .now) (a .m) (a .seen .now) (a .own .now) (a .control .now) (a .s) (a .at) _
+    subject-other (a .b .now) (a .m) (a .seen .now) (a .tally .now) (a .odd .now) (a .s) (a .at) _
     (c .before .before .before .before .if1 .taken) (c .before .before .before .if2 .left) (c .other-counts .ensures)
 
 returns-3 : tie.Need-returns-3
 returns-3 c =
     let a = c .before .before .before .before .args in
-    subject-absent (a .b .now) (a .m) (a .seen .now) (a .own .now) (a .control .now) (a .s) (a .at) _
+    subject-absent (a .b .now) (a .m) (a .seen .now) (a .tally .now) (a .odd .now) (a .s) (a .at) _
     (c .before .if1 .left) (c .absent .ensures)
 
 pub subject-spec : {M : Type 1} → statement M

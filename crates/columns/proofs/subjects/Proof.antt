@@ -15,10 +15,10 @@ use Rattle.columns.proofs.subjects.Statement.{statement}
 use Rattle.columns.proofs.subjects.Tie as tie
 
 abbrev Inv-loop : tie.InvT-loop
-Inv-loop b seen own control n m at₀ s₀ at s = (s ≤ n) × (at ≡ 7 + s * m) × (all s (subjectTest b m seen own control) ≡ true)
+Inv-loop b seen tally odd n m at₀ s₀ at s = (s ≤ n) × (at ≡ 7 + s * m) × (all s (subjectTest b m seen tally odd) ≡ true)
 
 abbrev μ-loop : tie.MeasureT-loop
-μ-loop b seen own control n m at₀ s₀ at s = n - s
+μ-loop b seen tally odd n m at₀ s₀ at s = n - s
 
 loop-holds : tie.Need-loop-holds Inv-loop μ-loop
 loop-holds c = (search needs, omega (arith, zero-mul (c .before .args .m)), all-none _)

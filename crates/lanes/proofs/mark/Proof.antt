@@ -1,9 +1,9 @@
 -- `lanes::mark` meets its contract. The invariant: the byte columns below j are marked, those from j on are as before.
 use borrow.Author.Needs.{needs}
-use Prim.Native.Nat.{ℕ, _+_, _-_, _≤_}
+use Prim.Native.Nat.{_+_, _-_, _≤_}
 use native.Mathlib.Nat.{le-refl}
-use mathlib.Core.Path.{_∙_, ap}
 use mathlib.Core.Bool.{cond}
+use lib.Bits.{bitOr}
 use lib.ListN.{getD}
 use Rattle.matrix.specs.Bytes.{bit}
 use Rattle.lanes.specs.Lists.{Stored, stored-none, stored-step, stored-done}
@@ -11,7 +11,7 @@ use Rattle.lanes.proofs.mark.Statement.{statement}
 use Rattle.lanes.proofs.mark.Tie as tie
 
 abbrev Inv-loop : tie.InvT-loop
-Inv-loop last₀ b at w row j₀ last j = (j ≤ w) × Stored j (λ i. cond (bit 0 (getD b (at + i) 0)) row (getD last₀ i 0)) last₀ last
+Inv-loop last₀ b at w row j₀ last j = (j ≤ w) × Stored j (λ i. bitOr (getD last₀ i 0) (cond (bit 0 (getD b (at + i) 0)) row 0)) last₀ last
 
 abbrev μ-loop : tie.MeasureT-loop
 μ-loop last₀ b at w row j₀ last j = w - j
@@ -19,14 +19,14 @@ abbrev μ-loop : tie.MeasureT-loop
 loop-holds : tie.Need-loop-holds Inv-loop μ-loop
 loop-holds c = (search needs, stored-none _ _)
 
+element-copy-out-last : tie.Need-element-copy-out-last Inv-loop μ-loop
+element-copy-out-last c = search needs
+
 add-pick : tie.Need-add-pick Inv-loop μ-loop
 add-pick c = search needs
 
 shared-slice-read-pick : tie.Need-shared-slice-read-pick Inv-loop μ-loop
 shared-slice-read-pick c = search needs
-
-element-copy-out-pick : tie.Need-element-copy-out-pick Inv-loop μ-loop
-element-copy-out-pick c = search needs
 
 pick-requires : tie.Need-pick-requires Inv-loop μ-loop
 pick-requires c κs = search needs
@@ -42,11 +42,9 @@ loop-less c = search needs
 
 loop-again : tie.Need-loop-again Inv-loop μ-loop
 loop-again c =
-    let a = c .before .before .before .before .before .before .args in
     let l = c .before .before .before .before .loop in (
       search needs,
-      stored-step _ _ _ _ _ (l .inv .1) (search needs)
-          (c .pick .ensures ∙ ap (λ (x : ℕ). cond (bit 0 (getD (a .b .now) (a .at + l .j) 0)) (a .row) x) (l .inv .1 .above (l .j) (le-refl (l .j)))),
+      stored-step _ _ _ _ _ (l .inv .1) (search needs) (λ i. bitOr (l .inv .1 .above (l .j) (le-refl (l .j)) i) (c .pick .ensures i)),
     )
 
 returns : tie.Need-returns Inv-loop μ-loop
@@ -59,9 +57,9 @@ mark-spec =
     Inv-loop
     μ-loop
     loop-holds
+    element-copy-out-last
     add-pick
     shared-slice-read-pick
-    element-copy-out-pick
     pick-requires
     element-write-last
     add-j

@@ -1,8 +1,8 @@
--- `rows::scan` meets its contract. The invariant of both loops: the lists hold what is known after r rows, and the next row begins at `at`.
-use Prim.Native.Nat.{_+_, _*_, _-_, _≤_, _<_}
+-- `rows::scan` meets its contract. The invariant of both loops: the lists hold what is known after r rows, and the next row begins at `at`. In the first loop r is a multiple of 4.
+use Prim.Native.Nat.{_+_, _*_, _-_, _%_, _≤_, _<_}
 use native.Mathlib.Nat.{zero-mul}
 use native.Mathlib.Omega.{arith}
-use mathlib.Core.Path.{_≡_}
+use mathlib.Core.Path.{_≡_, refl}
 use Rattle.lanes.specs.Lanes.{Lanes}
 use Rattle.lanes.specs.RowLaws.{next-place, row-inside, row-room, lanes-done}
 use Rattle.four_rows.specs.FourLaws.{place-four, four-inside, room-four}
@@ -10,19 +10,20 @@ use Rattle.rows.proofs.scan.Statement.{statement}
 use Rattle.rows.proofs.scan.Tie as tie
 
 abbrev Inv-loop : tie.InvT-loop
-Inv-loop seen₀ own₀ control₀ last₀ b n m w at₀ r₀ seen own control last at r = (r ≤ n) × (at ≡ 7 + r * m) × Lanes b m w r seen own control last
+Inv-loop seen₀ tally₀ odd₀ last₀ b n m w at₀ r₀ seen tally odd last at r =
+    (r ≤ n) × (at ≡ 7 + r * m) × Lanes b m w r seen tally odd last × (r % 4 ≡ 0)
 
 abbrev μ-loop : tie.MeasureT-loop
-μ-loop seen₀ own₀ control₀ last₀ b n m w at₀ r₀ seen own control last at r = n - r
+μ-loop seen₀ tally₀ odd₀ last₀ b n m w at₀ r₀ seen tally odd last at r = n - r
 
 abbrev Inv-loop2 : tie.InvT-loop2
-Inv-loop2 seen₀ own₀ control₀ last₀ b n m w at₀ r₀ seen own control last at r = (r ≤ n) × (at ≡ 7 + r * m) × Lanes b m w r seen own control last
+Inv-loop2 seen₀ tally₀ odd₀ last₀ b n m w at₀ r₀ seen tally odd last at r = (r ≤ n) × (at ≡ 7 + r * m) × Lanes b m w r seen tally odd last
 
 abbrev μ-loop2 : tie.MeasureT-loop2
-μ-loop2 seen₀ own₀ control₀ last₀ b n m w at₀ r₀ seen own control last at r = n - r
+μ-loop2 seen₀ tally₀ odd₀ last₀ b n m w at₀ r₀ seen tally odd last at r = n - r
 
 loop-holds : tie.Need-loop-holds Inv-loop μ-loop Inv-loop2 μ-loop2
-loop-holds c = (omega arith, omega (arith, zero-mul (c .before .args .m)), c .before .pre .1)
+loop-holds c = (omega arith, omega (arith, zero-mul (c .before .args .m)), c .before .pre .1, refl)
 
 add-loop : tie.Need-add-loop Inv-loop μ-loop Inv-loop2 μ-loop2
 add-loop c = record { fits = omega (arith, c .loop .inv .0, c .before .before .pre .0 .rows) }
@@ -32,7 +33,7 @@ four-requires c κs =
     let s = c .before .before .before .before .before .before .before in
     let l = c .before .before .before .before .before .loop in (
       room-four (s .args .b .now) (s .args .n) (s .args .m) (s .args .w) (l .r) (l .at) (s .pre .0)
-          (c .before .before .before .before .loop-test .taken) (l .inv .1),
+          (c .before .before .before .before .loop-test .taken) (l .inv .3) (l .inv .1),
       l .inv .2,
     )
 
@@ -70,10 +71,11 @@ loop-again : tie.Need-loop-again Inv-loop μ-loop Inv-loop2 μ-loop2
 loop-again c =
     let s = c .before .before .before .before .before .before .before .before in
     let l = c .before .before .before .before .before .before .loop in
-    (c .before .before .before .before .before .loop-test .taken, place-four (l .r) (s .args .m) (l .at) (l .inv .1), c .four .ensures)
+    let h : l .r % 4 ≡ 0 = l .inv .3 in
+    (c .before .before .before .before .before .loop-test .taken, place-four (l .r) (s .args .m) (l .at) (l .inv .1), c .four .ensures, omega arith)
 
 loop2-holds : tie.Need-loop2-holds Inv-loop μ-loop Inv-loop2 μ-loop2
-loop2-holds c = c .before .loop .inv
+loop2-holds c = let l = c .before .loop in (l .inv .0, l .inv .1, l .inv .2)
 
 row-requires : tie.Need-row-requires Inv-loop μ-loop Inv-loop2 μ-loop2
 row-requires c κs =

@@ -52,9 +52,15 @@ returns-2 c =
 
 rooted-requires : tie.Need-rooted-requires
 rooted-requires c κs =
-    let f = c .before .before .before .before .before .before .before .before .before in
-    let s = entry f .before in
-    (s .pre .0 .head .high, f .scan .ensures .owner .size, table-inside _ _ _ _ _ _ _ (s .pre .0) (octets f) (f .scan .ensures))
+    let d = c .before in
+    let e = d .before .before .before in
+    let f = e .before .before .before .before .before in
+    let s = entry f .before in (
+      s .pre .0 .head .high,
+      f .scan .ensures .owner .size,
+      table-inside _ _ _ _ _ _ _ (s .pre .0) (octets f) (f .scan .ensures) (sym (e .before .subjects .ensures) ∙ not-false _ (e .if1 .left))
+          (sym (d .before .plains .ensures) ∙ not-false _ (d .if2 .left)),
+    )
 
 returns-3 : tie.Need-returns-3
 returns-3 c =
