@@ -3,39 +3,40 @@
 
 use libc::STDIN_FILENO;
 use libc::STDOUT_FILENO;
+use matrix::Fields;
 use question::Safety;
-ghost use Prim.Native.Nat.{_<_};
+use reader::Read;
+ghost use mathlib.Core.Path.{_≡_};
+ghost use mathlib.Core.Bool.{true};
+ghost use Rattle.matrix.specs.CommandList.{wellFormed};
 
-// A byte as a number.
-fn print_byte(x: u8) {
+// A number, with one space before it.
+fn print_next(x: usize) {
+    io::write_all(STDOUT_FILENO, b" ");
     io::print_decimal(STDOUT_FILENO, x as u64);
 }
 
-// A byte as a number, with one space before it.
-fn print_next(x: u8) {
-    io::write_all(STDOUT_FILENO, b" ");
-    print_byte(x);
-}
-
-// The command numbered j of the list: code, i, s, o, k.
-fn print_command(out: &[u8; 401], j: usize)
-    requires { ⌜ j < 66 ⌝ }
-{
-    let at = 5 + 6 * j;
-    print_byte(out[at + 1]);
-    print_next(out[at + 2]);
-    print_next(out[at + 3]);
-    print_next(out[at + 4]);
-    print_next(out[at + 5]);
+// A command: code, i, s, o, k.
+fn print_command(c: Fields) {
+    io::print_decimal(STDOUT_FILENO, c.code as u64);
+    print_next(c.i);
+    print_next(c.s);
+    print_next(c.o);
+    print_next(c.k);
     io::write_all(STDOUT_FILENO, b"\n");
 }
 
-// The list, of at most 66 commands.
-fn print_list(out: &[u8; 401], count: usize) {
-    for j in 0..66 {
-        if j < count {
-            print_command(out, j);
-        }
+// The commands of a list, a line for each.
+fn print_list(list: &[u8])
+    requires { ⌜ wellFormed (now list) ≡ true ⌝ }
+{
+    let mut at = 0;
+    loop {
+        let Read::Command(c, after) = reader::read_one(list, at) else {
+            break;
+        };
+        print_command(c);
+        at = after;
     }
 }
 
@@ -58,7 +59,7 @@ fn main() {
         Safety::Refused(number) => print_count(b"refused ", number),
         Safety::Leaks(count) => {
             print_count(b"leaks ", count);
-            print_list(&out, count);
+            print_list(&out[..5 + 6 * count]);
         }
     }
 }
