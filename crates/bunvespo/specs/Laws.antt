@@ -14,8 +14,7 @@ use Rattle.matrix.specs.CommandList.{commandsOf}
 use Rattle.laws.specs.Tests.{way}
 use Rattle.question.specs.declared.Safety.{Safety}
 use Rattle.question.specs.declared.Safety.the-variants.{Safe, Leaks, Refused}
-use Rattle.question.specs.Asked.{listRoom, safetyRefusal, Written, Decided, Answers}
-use Rattle.bunvespo.specs.declared.Pair.{Pair}
+use Rattle.question.specs.Asked.{listRoom, safetyRefusal, Decided, Answers}
 use Rattle.bunvespo.specs.Pairs.{safetyPair, AnswersPair}
 
 -- r is the answer a, and it is known to be q

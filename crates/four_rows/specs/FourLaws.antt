@@ -8,9 +8,10 @@ use mathlib.Core.List.{List, []}
 use lib.Bits.{bitOr, bitXor}
 use lib.ListN.{length, getD}
 use Rattle.matrix.specs.Bytes.{bit}
+use Rattle.laws.specs.BitOps.{bit-or}
 use Rattle.lanes.specs.Lists.{Holds, Stored, holds-next}
 use Rattle.lanes.specs.Lanes.{merged, lows, paired, markOf, byteAt, bitIn, Matrix}
-use Rattle.lanes.specs.LaneLaws.{bit-count, or-bit, merged-step, lows-step, paired-step, lows-le}
+use Rattle.lanes.specs.LaneLaws.{bit-count, merged-step, lows-step, paired-step, lows-le}
 use Rattle.lanes.specs.RowLaws.{next-place, row-inside}
 use Rattle.four_rows.specs.Four.{mergedFour, lowsFour, pairedFour, marked, markFour, RoomFour}
 use Rattle.four_rows.specs.Marks.{each, each-once}
@@ -28,10 +29,10 @@ marked-each : (r x p q s t : ℕ) → r % 4 ≡ 0 → marked r x p q s t ≡ eac
 marked-each r x p q s t four = (λ i. bitOr (bitOr (bitOr x (cond (any i) r 0)) (low q t i)) (low s t i * 2)) ∙ sym (each-once x r four (bit 0 p) (bit 0 q) (bit 0 s) (bit 0 t))
   where
     any : bit 0 (bitOr (bitOr (bitOr p q) s) t) ≡ (bit 0 p || bit 0 q || bit 0 s || bit 0 t)
-    any = or-bit 0 (bitOr (bitOr p q) s) t ∙ ap (λ (z : Bool). z || bit 0 t) (or-bit 0 (bitOr p q) s ∙ ap (λ (z : Bool). z || bit 0 s) (or-bit 0 p q))
+    any = bit-or 0 (bitOr (bitOr p q) s) t ∙ ap (λ (z : Bool). z || bit 0 t) (bit-or 0 (bitOr p q) s ∙ ap (λ (z : Bool). z || bit 0 s) (bit-or 0 p q))
 
     low : (a b : ℕ) → bitOr a b % 2 ≡ cond (bit 0 a || bit 0 b) 1 0
-    low a b = ap (λ (z : ℕ). z % 2) (sym (div-one (bitOr a b))) ∙ bit-count 0 (bitOr a b) ∙ ap (λ (z : Bool). cond z 1 0) (or-bit 0 a b)
+    low a b = ap (λ (z : ℕ). z % 2) (sym (div-one (bitOr a b))) ∙ bit-count 0 (bitOr a b) ∙ ap (λ (z : Bool). cond z 1 0) (bit-or 0 a b)
 
 module _ (b : List ℕ) (m r at : ℕ) (place : at ≡ 7 + r * m) where
   place-1 : at + m ≡ 7 + (r + 1) * m

@@ -103,7 +103,10 @@ module _ (x r : ℕ) (four : r % 4 ≡ 0) where
   pub each-once : (d e f g : Bool) → each x r d e f g ≡ once x r d e f g
   each-once d e f g =
       split-same
-      (or-split (or-split (or-split (or-split (split x) (picked d r 0 (omega arith) (omega arith))) (picked e (r + 1) 1 refl (omega arith))) (picked f (r + 2) 2 refl (omega arith))) (picked g (r + 3) 3 refl (omega arith)))
+      (or-split
+      (or-split (or-split (or-split (split x) (picked d r 0 (omega arith) (omega arith))) (picked e (r + 1) 1 refl (omega arith)))
+      (picked f (r + 2) 2 refl (omega arith)))
+      (picked g (r + 3) 3 refl (omega arith)))
       (or-split (or-split (or-split (split x) (picked (d || e || f || g) r 0 (omega arith) (omega arith))) (first (e || g))) (second (f || g)))
       high
       (low-same (x % 4) d e f g (omega arith))

@@ -46,9 +46,9 @@ pub fn count_four(
 
 // The numbers of four rows join what is marked for each of the first w byte columns that has bit 0. The first of the four is a multiple
 // of 4, so that the four numbers differ in their two low bits alone, and one pick does for the rest of them.
-pub fn mark_four(last: &mut [u8; 128], b: &[u8], at: usize, m: usize, w: usize, row: u8)
-    requires { ⌜ (w ≤ 128) × (w ≤ m) × (at + 4 * m ≤ length (now b)) × (length (now last) ≡ 128) ⌝ }
-    ensures { λ _. ⌜ Stored w (λ j. markFour (now (b .entry)) at m row (getD (now (last .entry)) j 0) j) (now (last .entry)) (now (last .exit)) ⌝ }
+pub fn mark_four(marks: &mut [u8; 128], b: &[u8], at: usize, m: usize, w: usize, row: u8)
+    requires { ⌜ (w ≤ 128) × (w ≤ m) × (at + 4 * m ≤ length (now b)) × (length (now marks) ≡ 128) ⌝ }
+    ensures { λ _. ⌜ Stored w (λ j. markFour (now (b .entry)) at m row (getD (now (marks .entry)) j 0) j) (now (marks .entry)) (now (marks .exit)) ⌝ }
 {
     let at1 = at + m;
     let at2 = at1 + m;
@@ -59,6 +59,6 @@ pub fn mark_four(last: &mut [u8; 128], b: &[u8], at: usize, m: usize, w: usize, 
         let x = b[at2 + j];
         let y = b[at3 + j];
         let high = lanes::pick(p | q | x | y, row);
-        last[j] = last[j] | high | ((q | y) % 2) | ((x | y) % 2) * 2;
+        marks[j] = marks[j] | high | ((q | y) % 2) | ((x | y) % 2) * 2;
     }
 }

@@ -1,13 +1,13 @@
 -- Laws of what is kept for each byte column: one row more, and what a merged number tells.
-use Prim.Native.Nat.{ℕ, zero, suc, _+_, _*_, _/_, _%_, _^_, _≤_, _<_}
+use Prim.Native.Nat.{ℕ, zero, suc, _+_, _*_, _/_, _%_, _^_, _≤_}
 use native.Mathlib.Nat.{div-one, zero-div}
 use native.Mathlib.Numerals.{add-one}
 use native.Mathlib.Omega.{arith}
 use mathlib.Core.Path.{_≡_, refl, _∙_, ap}
 use mathlib.Core.Logic.{⊎-elim}
-use mathlib.Core.Bool.{Bool, true, false, cond, _||_}
+use mathlib.Core.Bool.{Bool, true, false, cond}
 use lib.Dec.{eqb}
-use lib.Bits.{bitOr, bitXor, or-shr, or-mod, xor-shr, xor-add-and}
+use lib.Bits.{bitOr, bitXor, xor-shr, xor-add-and}
 use borrow.Author.Tests.{eqb-true, eqb-false, eq-eqb, ne-eqb}
 use Rattle.laws.specs.Tests.{way}
 use Rattle.matrix.specs.Bounded.{count}
@@ -84,20 +84,3 @@ pick-hit v row h = rw (bit-low-set v h) refl
 
 pub pick-miss : (v row : ℕ) → (v % 2 ≡ 1 → ⊥) → cond (bit 0 v) row 0 ≡ 0
 pick-miss v row h = let e : bit 0 v ≡ false = bit-low v ∙ ne-eqb (v % 2) 1 h in rw e refl
-
--- one of two numbers has the bit
-pub or-bit : (k a b : ℕ) → bit k (bitOr a b) ≡ (bit k a || bit k b)
-unfolding bit
-or-bit k a b =
-    ap (λ (x : ℕ). eqb (x % 2) 1) (or-shr a b k) ∙ ap (λ (x : ℕ). eqb x 1) (or-mod (a / 2 ^ k) (b / 2 ^ k) 1)
-    ∙ digits (a / 2 ^ k % 2) (b / 2 ^ k % 2) (omega arith) (omega arith)
-  where
-    digits : (x y : ℕ) → x < 2 → y < 2 → eqb (bitOr x y) 1 ≡ (eqb x 1 || eqb y 1)
-    digits zero zero h l = refl
-    digits zero (suc zero) h l = refl
-    digits (suc zero) zero h l = refl
-    digits (suc zero) (suc zero) h l = refl
-    digits zero (suc (suc y)) h l = absurd (omega arith)
-    digits (suc zero) (suc (suc y)) h l = absurd (omega arith)
-    digits (suc (suc x)) zero h l = absurd (omega arith)
-    digits (suc (suc x)) (suc y) h l = absurd (omega arith)

@@ -38,11 +38,11 @@ bitIn b m k j r = bit k (byteAt b m r j)
 -- The four lists after r rows: the bits seen in each of the m byte columns; and of each of the first w, the low bits added up, which is the
 -- number of rows that have bit 0 (own) and twice that of rows that have bit 1 (control), the bits that an odd number of rows have, and the
 -- numbers of the rows that have bit 0, merged.
-pub record Lanes (b : List ℕ) (m w r : ℕ) (seen tally odd last : List ℕ) : Type 0 where
+pub record Lanes (b : List ℕ) (m w r : ℕ) (seen tally odd marks : List ℕ) : Type 0 where
   pub saw : Holds 512 m (λ j. merged r (λ v. byteAt b m v j)) seen
   pub counted : Holds 128 w (λ j. lows r (λ v. byteAt b m v j)) tally
   pub parity : Holds 128 w (λ j. paired r (λ v. byteAt b m v j)) odd
-  pub owner : Holds 128 w (λ j. markOf r (bitIn b m 0 j)) last
+  pub owner : Holds 128 w (λ j. markOf r (bitIn b m 0 j)) marks
 
 -- the sizes for which the lists have room
 pub record Room (b : List ℕ) (m w r at : ℕ) : Type 0 where

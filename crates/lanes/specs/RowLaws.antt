@@ -62,6 +62,6 @@ row-room b n m w r at f l e =
     record { bytes = f .bytes; width = f .width; inside = f .inside; row = omega arith; place = e; fits = omega arith }
 
 -- the loop's end
-pub lanes-done : (b : List ℕ) (m w r n : ℕ) (seen tally odd last : List ℕ) → r ≤ n → n ≤ r → Lanes b m w r seen tally odd last
-    → Lanes b m w n seen tally odd last
-lanes-done b m w r n seen tally odd last h l f = subst (λ (i : ℕ). Lanes b m w i seen tally odd last) (omega arith) f
+pub lanes-done : (b : List ℕ) (m w r n : ℕ) (seen tally odd marks : List ℕ) → r ≤ n → n ≤ r → Lanes b m w r seen tally odd marks
+    → Lanes b m w n seen tally odd marks
+lanes-done b m w r n seen tally odd marks h l f = subst (λ (i : ℕ). Lanes b m w i seen tally odd marks) (omega arith) f

@@ -39,12 +39,12 @@ pub fn pick(v: u8, row: u8) -> u8
 }
 
 // The row's number joins what is marked for each of its first w byte columns that has bit 0.
-fn mark(last: &mut [u8; 128], b: &[u8], at: usize, w: usize, row: u8)
-    requires { ⌜ (w ≤ 128) × (at + w ≤ length (now b)) × (length (now last) ≡ 128) ⌝ }
-    ensures { λ _. ⌜ Stored w (λ j. bitOr (getD (now (last .entry)) j 0) (cond (bit 0 (getD (now (b .entry)) (at + j) 0)) row 0)) (now (last .entry)) (now (last .exit)) ⌝ }
+fn mark(marks: &mut [u8; 128], b: &[u8], at: usize, w: usize, row: u8)
+    requires { ⌜ (w ≤ 128) × (at + w ≤ length (now b)) × (length (now marks) ≡ 128) ⌝ }
+    ensures { λ _. ⌜ Stored w (λ j. bitOr (getD (now (marks .entry)) j 0) (cond (bit 0 (getD (now (b .entry)) (at + j) 0)) row 0)) (now (marks .entry)) (now (marks .exit)) ⌝ }
 {
     for j in 0..w {
-        last[j] = last[j] | pick(b[at + j], row);
+        marks[j] = marks[j] | pick(b[at + j], row);
     }
 }
 
@@ -53,17 +53,17 @@ pub fn row(
     seen: &mut [u8; 512],
     tally: &mut [u8; 128],
     odd: &mut [u8; 128],
-    last: &mut [u8; 128],
+    marks: &mut [u8; 128],
     b: &[u8],
     at: usize,
     m: usize,
     w: usize,
     r: usize,
 )
-    requires { ⌜ Room (now b) m w r at × Lanes (now b) m w r (now seen) (now tally) (now odd) (now last) ⌝ }
-    ensures { λ _. ⌜ Lanes (now (b .entry)) m w (r + 1) (now (seen .exit)) (now (tally .exit)) (now (odd .exit)) (now (last .exit)) ⌝ }
+    requires { ⌜ Room (now b) m w r at × Lanes (now b) m w r (now seen) (now tally) (now odd) (now marks) ⌝ }
+    ensures { λ _. ⌜ Lanes (now (b .entry)) m w (r + 1) (now (seen .exit)) (now (tally .exit)) (now (odd .exit)) (now (marks .exit)) ⌝ }
 {
     merge(seen, b, at, m);
     count(tally, odd, b, at, w);
-    mark(last, b, at, w, r as u8);
+    mark(marks, b, at, w, r as u8);
 }

@@ -6,3 +6,4 @@ pub mod Passed
 pub mod Changed
 pub mod Walks
 pub mod Rules
+pub mod BitOps

@@ -5,7 +5,8 @@ use mathlib.Core.Bool.{Bool, _||_}
 use lib.Bits.{bitOr}
 use Rattle.matrix.specs.Bytes.{bit}
 use Rattle.masks.specs.Marks.{Added}
-use Rattle.masks.specs.Digits.{bit-or, bit-power}
+use Rattle.laws.specs.BitOps.{bit-or}
+use Rattle.masks.specs.Digits.{bit-power}
 use Rattle.codec.specs.Bits.{one-shifted}
 
 pub one-added : (set s : ℕ) → s < 64 → Added set s (bitOr set (1 * 2 ^ s % 18446744073709551616))

@@ -1,14 +1,12 @@
--- The bits of a conjunction, of a disjunction, of a complement, of a half and of a power of two.
-use Prim.Native.Nat.{ℕ, zero, suc, min, max, _+_, _-_, _*_, _/_, _%_, _^_, _≤_, _<_}
-use native.Mathlib.Nat.{mod-lt, pow-succ', add-mul, min-le-left, max-le, lt-of-le-of-lt, sub-le, div-eq-of-lt}
+-- The bits of a complement, of a half and of a power of two.
+use Prim.Native.Nat.{ℕ, suc, _+_, _-_, _*_, _/_, _%_, _^_, _≤_, _<_}
+use native.Mathlib.Nat.{mod-lt, pow-succ', add-mul, lt-of-le-of-lt, sub-le, div-eq-of-lt}
 use native.Mathlib.Numerals.{one-add}
 use native.Mathlib.Omega.{arith}
 use mathlib.Core.Path.{_≡_, refl, sym, _∙_, ap, ap₂, subst}
 use mathlib.Core.Logic.{⊎-elim}
-use mathlib.Core.Bool.{true, false, not, _&&_, _||_}
+use mathlib.Core.Bool.{true, false, not}
 use lib.Dec.{eqb, ltb}
-use lib.Arith.{digits-mod}
-use lib.Bits.{bitAnd, bitOr, and-shr, and-step, or-shr, or-step}
 use lib.Pow.{pow-pos, shr-shr, shr-lt, split, ones-lt, le-ones, ones-split}
 use borrow.Author.Tests.{eqb-true, eqb-false, eq-eqb, ne-eqb, ltb-true, ltb-false}
 use Rattle.matrix.specs.Bytes.{bit}
@@ -19,52 +17,6 @@ use Rattle.codec.specs.Bits.{bit-zero, bit-here, bit-other}
 pub bit-half : (j v : ℕ) → bit (suc j) v ≡ bit j (v / 2)
 unfolding bit
 bit-half j v = ap (λ (d : ℕ). eqb (d % 2) 1) (ap (λ (e : ℕ). v / 2 ^ e) (sym (one-add j)) ∙ sym (shr-shr v 1 j))
-
--- the lower of two digits is set where both are
-both-set : (x y : ℕ) → x < 2 → y < 2 → eqb (min x y) 1 ≡ (eqb x 1 && eqb y 1)
-both-set zero zero h l = refl
-both-set zero (suc zero) h l = refl
-both-set (suc zero) zero h l = refl
-both-set (suc zero) (suc zero) h l = refl
-both-set zero (suc (suc y)) h l = absurd (omega arith)
-both-set (suc zero) (suc (suc y)) h l = absurd (omega arith)
-both-set (suc (suc x)) y h l = absurd (omega arith)
-
-min-small : (x y : ℕ) → min (x % 2) (y % 2) < 2
-min-small x y = lt-of-le-of-lt (min-le-left (x % 2) (y % 2)) (mod-lt x (omega arith))
-
-pub bit-and : (j u v : ℕ) → bit j (bitAnd u v) ≡ (bit j u && bit j v)
-unfolding bit
-bit-and j u v =
-    ap (λ (d : ℕ). eqb d 1) digit ∙ both-set (u / 2 ^ j % 2) (v / 2 ^ j % 2) (mod-lt (u / 2 ^ j) (omega arith)) (mod-lt (v / 2 ^ j) (omega arith))
-  where
-    digit : bitAnd u v / 2 ^ j % 2 ≡ min (u / 2 ^ j % 2) (v / 2 ^ j % 2)
-    digit =
-        let e : bitAnd u v / 2 ^ j ≡ bitAnd (u / 2 ^ j / 2) (v / 2 ^ j / 2) * 2 + min (u / 2 ^ j % 2) (v / 2 ^ j % 2) = and-shr u v j ∙ and-step (u / 2 ^ j) (v / 2 ^ j) in
-        ap (λ (d : ℕ). d % 2) e ∙ digits-mod (bitAnd (u / 2 ^ j / 2) (v / 2 ^ j / 2)) (min-small (u / 2 ^ j) (v / 2 ^ j))
-
--- the higher of two digits is set where one is
-one-set : (x y : ℕ) → x < 2 → y < 2 → eqb (max x y) 1 ≡ (eqb x 1 || eqb y 1)
-one-set zero zero h l = refl
-one-set zero (suc zero) h l = refl
-one-set (suc zero) zero h l = refl
-one-set (suc zero) (suc zero) h l = refl
-one-set zero (suc (suc y)) h l = absurd (omega arith)
-one-set (suc zero) (suc (suc y)) h l = absurd (omega arith)
-one-set (suc (suc x)) y h l = absurd (omega arith)
-
-max-small : (x y : ℕ) → max (x % 2) (y % 2) < 2
-max-small x y = let m : max (x % 2) (y % 2) ≤ 1 = max-le (omega arith) (omega arith) in omega arith
-
-pub bit-or : (j u v : ℕ) → bit j (bitOr u v) ≡ (bit j u || bit j v)
-unfolding bit
-bit-or j u v =
-    ap (λ (d : ℕ). eqb d 1) digit ∙ one-set (u / 2 ^ j % 2) (v / 2 ^ j % 2) (mod-lt (u / 2 ^ j) (omega arith)) (mod-lt (v / 2 ^ j) (omega arith))
-  where
-    digit : bitOr u v / 2 ^ j % 2 ≡ max (u / 2 ^ j % 2) (v / 2 ^ j % 2)
-    digit =
-        let e : bitOr u v / 2 ^ j ≡ bitOr (u / 2 ^ j / 2) (v / 2 ^ j / 2) * 2 + max (u / 2 ^ j % 2) (v / 2 ^ j % 2) = or-shr u v j ∙ or-step (u / 2 ^ j) (v / 2 ^ j) in
-        ap (λ (d : ℕ). d % 2) e ∙ digits-mod (bitOr (u / 2 ^ j / 2) (v / 2 ^ j / 2)) (max-small (u / 2 ^ j) (v / 2 ^ j))
 
 -- a power of two has one bit
 pub bit-power : (i j : ℕ) → bit i (2 ^ j) ≡ eqb i j

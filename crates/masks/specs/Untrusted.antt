@@ -16,7 +16,8 @@ use Rattle.laws.specs.Counting.{some-count, count-none}
 use Rattle.cells.specs.Station.{Station}
 use Rattle.cells.specs.Places.{subjects-few}
 use Rattle.masks.specs.Marks.{MarksOf, LeftOut}
-use Rattle.masks.specs.Digits.{bit-and, bit-not}
+use Rattle.laws.specs.BitOps.{bit-and}
+use Rattle.masks.specs.Digits.{bit-not}
 use Rattle.masks.specs.Searches.{Same, none-same, least-lower}
 
 -- a set masked by the complement of the trust mask

@@ -14,7 +14,7 @@ use Rattle.owner_table.specs.Followed.{followed, followed-add, followed-
 
 -- the owner of subject s
 abbrev pub ownerIn : List ℕ → ℕ → ℕ
-ownerIn last s = getD last (2 * s + 1) 0
+ownerIn marks s = getD marks (2 * s + 1) 0
 
 -- a table of 64 that holds for each subject the one that is come to by following f j times
 pub record Follows (n : ℕ) (f : ℕ → ℕ) (j : ℕ) (l : List ℕ) : Type 0 where

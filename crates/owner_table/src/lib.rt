@@ -9,12 +9,12 @@ ghost use Rattle.owner_table.specs.Followed.{followed};
 ghost use Rattle.owner_table.specs.Table.{ownerIn, Inside};
 
 // A table of owners from what is marked for each subject's low byte column.
-fn owners(t: &mut [u8; 64], last: &[u8; 128], n: usize)
-    requires { ⌜ (n ≤ 64) × (length (now t) ≡ 64) × (length (now last) ≡ 128) ⌝ }
-    ensures { λ _. ⌜ Stored n (ownerIn (now (last .entry))) (now (t .entry)) (now (t .exit)) ⌝ }
+fn owners(t: &mut [u8; 64], marks: &[u8; 128], n: usize)
+    requires { ⌜ (n ≤ 64) × (length (now t) ≡ 64) × (length (now marks) ≡ 128) ⌝ }
+    ensures { λ _. ⌜ Stored n (ownerIn (now (marks .entry))) (now (t .entry)) (now (t .exit)) ⌝ }
 {
     for s in 0..n {
-        t[s] = last[2 * s + 1];
+        t[s] = marks[2 * s + 1];
     }
 }
 
@@ -43,13 +43,13 @@ fn all_root(t: &[u8; 64], n: usize) -> bool
 
 // Following owners from any of the n subjects comes to U: after six doublings each entry has followed 64 owners. Where all have come to U
 // before, the rest of the doublings is left out.
-pub fn rooted(last: &[u8; 128], n: usize) -> bool
-    requires { ⌜ (n ≤ 64) × (length (now last) ≡ 128) × Inside n (ownerIn (now last)) ⌝ }
-    ensures { λ r. ⌜ r ≡ all n (λ s. eqb (followed (ownerIn (now (last .entry))) 64 s) 0) ⌝ }
+pub fn rooted(marks: &[u8; 128], n: usize) -> bool
+    requires { ⌜ (n ≤ 64) × (length (now marks) ≡ 128) × Inside n (ownerIn (now marks)) ⌝ }
+    ensures { λ r. ⌜ r ≡ all n (λ s. eqb (followed (ownerIn (now (marks .entry))) 64 s) 0) ⌝ }
 {
     let mut t = [0u8; 64];
     let mut u = [0u8; 64];
-    owners(&mut t, last, n);
+    owners(&mut t, marks, n);
     if all_root(&t, n) {
         return true;
     }

@@ -1,4 +1,4 @@
-// The tests 9 to 12 of a command on a record that is of the right form, each by itself.
+// The tests 9 to 12 of a command on a record, each by itself. Those of existence ask that the record is valid.
 
 use matrix::Act;
 use matrix::Command;

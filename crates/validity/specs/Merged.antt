@@ -10,8 +10,8 @@ use Rattle.matrix.specs.Bounded.{any, all}
 use Rattle.matrix.specs.Bytes.{bit}
 use Rattle.laws.specs.Tests.{way, same-test, and-left, and-right, and-both}
 use Rattle.laws.specs.Bounded.{all-each, each-all}
+use Rattle.laws.specs.BitOps.{bit-or}
 use Rattle.lanes.specs.Lanes.{merged}
-use Rattle.lanes.specs.LaneLaws.{or-bit}
 use Rattle.lanes.specs.Zeros.{merged-zero}
 use Rattle.codec.specs.Bits.{bit-zero}
 
@@ -30,7 +30,7 @@ merged-zeros n f g = rw (merged-zero n f, merged-zero n g) (both n (λ i. eqb (f
 pub merged-bit : (k n : ℕ) (f : ℕ → ℕ) → bit k (merged n f) ≡ any n (λ i. bit k (f i))
 unfolding merged any
 merged-bit k zero f = bit-zero k
-merged-bit k (suc n) f = or-bit k (merged n f) (f n) ∙ ap (λ (t : Bool). t || bit k (f n)) (merged-bit k n f)
+merged-bit k (suc n) f = bit-or k (merged n f) (f n) ∙ ap (λ (t : Bool). t || bit k (f n)) (merged-bit k n f)
 
 -- a row of 2 k bytes is zero where each pair of them is
 pub all-pairs : (k : ℕ) (t : ℕ → Bool) → all (2 * k) t ≡ all k (λ c. t (2 * c) && t (2 * c + 1))

@@ -65,7 +65,7 @@ other-tally a c some = same-test _ _ forth back
         (λ e. let o : c ≡ 1 → ⊥ = eqb-false c 1 e in
         or-right (eqb (a + 2 * c) 3) (and-both (eq-eqb (a + 2 * c) 5 (omega arith)) (fails-not (ne-eqb (c % 2) 1 (omega arith))))) (way (eqb c 1))
 
-module _ (b : List ℕ) (n k m : ℕ) (seen tally odd last : List ℕ) (lanes : Lanes b m (2 * n) n seen tally odd last)
+module _ (b : List ℕ) (n k m : ℕ) (seen tally odd marks : List ℕ) (lanes : Lanes b m (2 * n) n seen tally odd marks)
     (width : m ≡ 2 * k) (inside : n ≤ k) where
   abbrev column : ℕ → ℕ → ℕ
   column j w = byteAt b m w j
@@ -119,7 +119,7 @@ module _ (b : List ℕ) (n k m : ℕ) (seen tally odd last : List ℕ) (lanes : 
       let q : bit 1 (getD seen (2 * c + 1) 0) ≡ any n (λ w. controlBit b m w c) = ap (bit 1) g ∙ merged-bit 1 n (column (2 * c + 1)) in
       λ i. cond (p i) (not (q i)) (column-zero c l i)
 
-  owner-marked : (s : ℕ) → s < n → ownerIn last s ≡ ownerMark n (ownBit b m) s
+  owner-marked : (s : ℕ) → s < n → ownerIn marks s ≡ ownerMark n (ownBit b m) s
   owner-marked s l = lanes .owner .value (2 * s + 1) (omega arith)
 
   module _ (p : ℕ) (wide : k ≡ n + p) (some : 0 < n) where
@@ -136,20 +136,20 @@ module _ (b : List ℕ) (n k m : ℕ) (seen tally odd last : List ℕ) (lanes : 
     plains-passed = all-same p _ _ (λ i l. plain-passed (n + i) (omega arith))
 
     -- where the tests of all columns pass, every owner in the table is a subject
-    pub owners-inside : all n (subjectTest b m seen tally odd) ≡ true → all p (λ i. plainTest seen (2 * (n + i))) ≡ true → Inside n (ownerIn last)
+    pub owners-inside : all n (subjectTest b m seen tally odd) ≡ true → all p (λ i. plainTest seen (2 * (n + i))) ≡ true → Inside n (ownerIn marks)
     owners-inside g h =
         let f : Here = tests-framed n p _ _ _ (cell-bits b m) some (sym subjects-passed ∙ g) (sym plains-passed ∙ h) in
         record { below = λ s l. rw (owner-marked s l) (marks-below f s l) }
 
-    ascend-passed : Here → all n (λ s. eqb (followed (ownerIn last) 64 s) 0) ≡ allAscend n (ownBit b m)
+    ascend-passed : Here → all n (λ s. eqb (followed (ownerIn marks) 64 s) 0) ≡ allAscend n (ownBit b m)
     ascend-passed f =
         all-same n _ _ (λ s l. ap (λ (x : ℕ). eqb x 0)
-        (followed-same (ownerIn last) (ownerMark n (ownBit b m)) (λ s. s < n) owner-marked (marks-below f) 64 s l))
+        (followed-same (ownerIn marks) (ownerMark n (ownBit b m)) (λ s. s < n) owner-marked (marks-below f) 64 s l))
 
     -- what the code tests is what is to be tested
     pub all-passed :
-        (all n (subjectTest b m seen tally odd) && all p (λ i. plainTest seen (2 * (n + i))) && all n (λ s. eqb (followed (ownerIn last) 64 s) 0))
+        (all n (subjectTest b m seen tally odd) && all p (λ i. plainTest seen (2 * (n + i))) && all n (λ s. eqb (followed (ownerIn marks) 64 s) 0))
         ≡ testsPass n p (ownBit b m) (controlBit b m) (zeroCell b m)
     all-passed =
-        (λ i. subjects-passed i && plains-passed i && all n (λ s. eqb (followed (ownerIn last) 64 s) 0))
+        (λ i. subjects-passed i && plains-passed i && all n (λ s. eqb (followed (ownerIn marks) 64 s) 0))
         ∙ and-last _ _ (λ g h. ascend-passed (tests-framed n p _ _ _ (cell-bits b m) some g h))

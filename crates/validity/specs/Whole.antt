@@ -30,8 +30,8 @@ pub unread : (owners : List ℕ) → owners ≡ replicate 128 0 → length owner
 unread owners e = ap (λ (l : List ℕ). length l) e ∙ length-replicate {A = ℕ} 128 0
 
 -- lists of zeros, before the first row
-pub lanes-none : (b : List ℕ) (m w : ℕ) {last : List ℕ} → m ≤ 512 → w ≤ 128 → last ≡ replicate 128 0
-    → Lanes b m w 0 (replicate 512 0) (replicate 128 0) (replicate 128 0) last
+pub lanes-none : (b : List ℕ) (m w : ℕ) {marks : List ℕ} → m ≤ 512 → w ≤ 128 → marks ≡ replicate 128 0
+    → Lanes b m w 0 (replicate 512 0) (replicate 128 0) (replicate 128 0) marks
 unfolding merged lows paired
 lanes-none b m w h l e =
     record {
@@ -44,8 +44,8 @@ lanes-none b m w h l e =
     zeros : Holds 128 w (λ j. 0) (replicate 128 0)
     zeros = record { size = length-replicate {A = ℕ} 128 0; value = λ j g. getD-replicate 128 j 0 0 (omega arith) }
 
-module _ (b : List ℕ) (n p : ℕ) (seen tally odd last : List ℕ) (whole : Whole b n p) (octets : Octets b)
-    (lanes : Lanes b (2 * (n + p)) (2 * n) n seen tally odd last) where
+module _ (b : List ℕ) (n p : ℕ) (seen tally odd marks : List ℕ) (whole : Whole b n p) (octets : Octets b)
+    (lanes : Lanes b (2 * (n + p)) (2 * n) n seen tally odd marks) where
   abbrev S : Bool
   S = all n (subjectTest b (2 * (n + p)) seen tally odd)
 
@@ -53,7 +53,7 @@ module _ (b : List ℕ) (n p : ℕ) (seen tally odd last : List ℕ) (whole : Wh
   P = all p (λ i. plainTest seen (2 * (n + i)))
 
   abbrev R : Bool
-  R = all n (λ s. eqb (followed (ownerIn last) 64 s) 0)
+  R = all n (λ s. eqb (followed (ownerIn marks) 64 s) 0)
 
   valid-whole : (S && P && R) ≡ validMatrix (shapeOf b) (stateOf b)
   valid-whole =
@@ -61,16 +61,16 @@ module _ (b : List ℕ) (n p : ℕ) (seen tally odd last : List ℕ) (whole : Wh
       let most : n ≤ 64 = whole .head .high in
       let e : n ≡ shapeOf b .n = whole .head .subjects in
       let q : p ≡ shapeOf b .p = whole .head .plain in
-      all-passed b n (n + p) (2 * (n + p)) seen tally odd last lanes refl (omega arith) p refl some
+      all-passed b n (n + p) (2 * (n + p)) seen tally odd marks lanes refl (omega arith) p refl some
       ∙ (λ i. testsPass (e i) (q i) (ownBit b (2 * (e i + q i))) (controlBit b (2 * (e i + q i))) (zeroCell b (2 * (e i + q i))))
       ∙ valid-tests b octets (omega arith) (omega arith)
 
-  pub table-inside : S ≡ true → P ≡ true → Inside n (ownerIn last)
-  table-inside = owners-inside b n (n + p) (2 * (n + p)) seen tally odd last lanes refl (omega arith) p refl (whole .head .low)
+  pub table-inside : S ≡ true → P ≡ true → Inside n (ownerIn marks)
+  table-inside = owners-inside b n (n + p) (2 * (n + p)) seen tally odd marks lanes refl (omega arith) p refl (whole .head .low)
 
   -- an answer, with the size of the table of owners
   abbrev Judged : Bool → Type 0
-  Judged r = (r ≡ validMatrix (shapeOf b) (stateOf b)) × (length last ≡ 128)
+  Judged r = (r ≡ validMatrix (shapeOf b) (stateOf b)) × (length marks ≡ 128)
 
   judged : (r : Bool) → r ≡ validMatrix (shapeOf b) (stateOf b) → Judged r
   judged r e = (e, lanes .owner .size)

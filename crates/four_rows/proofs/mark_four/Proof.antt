@@ -11,10 +11,10 @@ use Rattle.four_rows.proofs.mark_four.Statement.{statement}
 use Rattle.four_rows.proofs.mark_four.Tie as tie
 
 abbrev Inv-loop : tie.InvT-loop
-Inv-loop last₀ b at m w row at1 at2 at3 j₀ last j = (j ≤ w) × Stored j (λ i. markFour b at m row (getD last₀ i 0) i) last₀ last
+Inv-loop marks₀ b at m w row at1 at2 at3 j₀ marks j = (j ≤ w) × Stored j (λ i. markFour b at m row (getD marks₀ i 0) i) marks₀ marks
 
 abbrev μ-loop : tie.MeasureT-loop
-μ-loop last₀ b at m w row at1 at2 at3 j₀ last j = w - j
+μ-loop marks₀ b at m w row at1 at2 at3 j₀ marks j = w - j
 
 add-at1 : tie.Need-add-at1 Inv-loop μ-loop
 add-at1 c = omega arith
@@ -55,14 +55,14 @@ shared-slice-read-y c = omega arith
 pick-requires : tie.Need-pick-requires Inv-loop μ-loop
 pick-requires c κs = omega arith
 
-element-copy-out-last : tie.Need-element-copy-out-last Inv-loop μ-loop
-element-copy-out-last c = omega arith
+element-copy-out-marks : tie.Need-element-copy-out-marks Inv-loop μ-loop
+element-copy-out-marks c = omega arith
 
-mul-last : tie.Need-mul-last Inv-loop μ-loop
-mul-last c = omega arith
+mul-marks : tie.Need-mul-marks Inv-loop μ-loop
+mul-marks c = omega arith
 
-element-write-last : tie.Need-element-write-last Inv-loop μ-loop
-element-write-last c = omega arith
+element-write-marks : tie.Need-element-write-marks Inv-loop μ-loop
+element-write-marks c = omega arith
 
 add-j : tie.Need-add-j Inv-loop μ-loop
 add-j c = omega arith
@@ -101,9 +101,9 @@ mark-four-spec =
     add-y
     shared-slice-read-y
     pick-requires
-    element-copy-out-last
-    mul-last
-    element-write-last
+    element-copy-out-marks
+    mul-marks
+    element-write-marks
     add-j
     loop-less
     loop-again

@@ -11,16 +11,16 @@ use Rattle.lanes.proofs.mark.Statement.{statement}
 use Rattle.lanes.proofs.mark.Tie as tie
 
 abbrev Inv-loop : tie.InvT-loop
-Inv-loop last₀ b at w row j₀ last j = (j ≤ w) × Stored j (λ i. bitOr (getD last₀ i 0) (cond (bit 0 (getD b (at + i) 0)) row 0)) last₀ last
+Inv-loop marks₀ b at w row j₀ marks j = (j ≤ w) × Stored j (λ i. bitOr (getD marks₀ i 0) (cond (bit 0 (getD b (at + i) 0)) row 0)) marks₀ marks
 
 abbrev μ-loop : tie.MeasureT-loop
-μ-loop last₀ b at w row j₀ last j = w - j
+μ-loop marks₀ b at w row j₀ marks j = w - j
 
 loop-holds : tie.Need-loop-holds Inv-loop μ-loop
 loop-holds c = (search needs, stored-none _ _)
 
-element-copy-out-last : tie.Need-element-copy-out-last Inv-loop μ-loop
-element-copy-out-last c = search needs
+element-copy-out-marks : tie.Need-element-copy-out-marks Inv-loop μ-loop
+element-copy-out-marks c = search needs
 
 add-pick : tie.Need-add-pick Inv-loop μ-loop
 add-pick c = search needs
@@ -31,8 +31,8 @@ shared-slice-read-pick c = search needs
 pick-requires : tie.Need-pick-requires Inv-loop μ-loop
 pick-requires c κs = search needs
 
-element-write-last : tie.Need-element-write-last Inv-loop μ-loop
-element-write-last c = search needs
+element-write-marks : tie.Need-element-write-marks Inv-loop μ-loop
+element-write-marks c = search needs
 
 add-j : tie.Need-add-j Inv-loop μ-loop
 add-j c = search needs
@@ -57,11 +57,11 @@ mark-spec =
     Inv-loop
     μ-loop
     loop-holds
-    element-copy-out-last
+    element-copy-out-marks
     add-pick
     shared-slice-read-pick
     pick-requires
-    element-write-last
+    element-write-marks
     add-j
     loop-less
     loop-again

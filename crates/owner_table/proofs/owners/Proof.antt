@@ -8,10 +8,10 @@ use Rattle.owner_table.proofs.owners.Statement.{statement}
 use Rattle.owner_table.proofs.owners.Tie as tie
 
 abbrev Inv-loop : tie.InvT-loop
-Inv-loop t₀ last n s₀ t s = (s ≤ n) × Stored s (ownerIn last) t₀ t
+Inv-loop t₀ marks n s₀ t s = (s ≤ n) × Stored s (ownerIn marks) t₀ t
 
 abbrev μ-loop : tie.MeasureT-loop
-μ-loop t₀ last n s₀ t s = n - s
+μ-loop t₀ marks n s₀ t s = n - s
 
 loop-holds : tie.Need-loop-holds Inv-loop μ-loop
 loop-holds c = (search needs, stored-none _ _)

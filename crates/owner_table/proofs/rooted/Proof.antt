@@ -1,10 +1,5 @@
 -- `owner_table::rooted` meets its contract. After each call the table written last follows owners twice as often as the one before: 1, 2, 4 and so on to 64.
-use Prim.Native.Nat.{ℕ}
-use mathlib.Core.Path.{_≡_, refl, sym, _∙_}
-use mathlib.Core.Bool.{Bool, true}
-use lib.Dec.{eqb}
-use Rattle.matrix.specs.Bounded.{all}
-use Rattle.owner_table.specs.Followed.{followed}
+use mathlib.Core.Path.{refl, sym, _∙_}
 use Rattle.owner_table.specs.Table.{ownerIn, Follows, follows-once, follows-twice, follows-inside, rooted-twice, follows-rooted}
 use borrow.Author.Needs.{needs}
 use Rattle.owner_table.proofs.rooted.Statement.{statement}
@@ -36,25 +31,25 @@ abbrev start64 : tie.After-double6 → tie.Start
 start64 c = start32 (c .before .before .before)
 
 -- what the table written last holds after each call
-after-owners : (c : tie.After-owners) → Follows (start c .args .n) (ownerIn (start c .args .last .now)) 1 (c .owners .last .0)
+after-owners : (c : tie.After-owners) → Follows (start c .args .n) (ownerIn (start c .args .marks .now)) 1 (c .owners .last .0)
 after-owners c = follows-once _ _ _ _ refl (c .owners .ensures)
 
-after-double : (c : tie.After-double) → Follows (start2 c .args .n) (ownerIn (start2 c .args .last .now)) 2 (c .double .last .1 .0)
+after-double : (c : tie.After-double) → Follows (start2 c .args .n) (ownerIn (start2 c .args .marks .now)) 2 (c .double .last .1 .0)
 after-double c = follows-twice _ _ 1 _ _ _ (start2 c .pre .2) (after-owners (c .before .before .before .before .before .before)) refl (c .double .ensures)
 
-after-double2 : (c : tie.After-double2) → Follows (start4 c .args .n) (ownerIn (start4 c .args .last .now)) 4 (c .double2 .last .1 .0)
+after-double2 : (c : tie.After-double2) → Follows (start4 c .args .n) (ownerIn (start4 c .args .marks .now)) 4 (c .double2 .last .1 .0)
 after-double2 c = follows-twice _ _ 2 _ _ _ (start4 c .pre .2) (after-double (c .before .before .before)) (after-owners (c .before .before .before .before .before .before .before .before .before) .size) (c .double2 .ensures)
 
-after-double3 : (c : tie.After-double3) → Follows (start8 c .args .n) (ownerIn (start8 c .args .last .now)) 8 (c .double3 .last .1 .0)
+after-double3 : (c : tie.After-double3) → Follows (start8 c .args .n) (ownerIn (start8 c .args .marks .now)) 8 (c .double3 .last .1 .0)
 after-double3 c = follows-twice _ _ 4 _ _ _ (start8 c .pre .2) (after-double2 (c .before .before .before .before .before .before)) (after-double (c .before .before .before .before .before .before .before .before .before) .size) (c .double3 .ensures)
 
-after-double4 : (c : tie.After-double4) → Follows (start16 c .args .n) (ownerIn (start16 c .args .last .now)) 16 (c .double4 .last .1 .0)
+after-double4 : (c : tie.After-double4) → Follows (start16 c .args .n) (ownerIn (start16 c .args .marks .now)) 16 (c .double4 .last .1 .0)
 after-double4 c = follows-twice _ _ 8 _ _ _ (start16 c .pre .2) (after-double3 (c .before .before .before)) (after-double2 (c .before .before .before .before .before .before .before .before .before) .size) (c .double4 .ensures)
 
-after-double5 : (c : tie.After-double5) → Follows (start32 c .args .n) (ownerIn (start32 c .args .last .now)) 32 (c .double5 .last .1 .0)
+after-double5 : (c : tie.After-double5) → Follows (start32 c .args .n) (ownerIn (start32 c .args .marks .now)) 32 (c .double5 .last .1 .0)
 after-double5 c = follows-twice _ _ 16 _ _ _ (start32 c .pre .2) (after-double4 (c .before .before .before .before .before .before)) (after-double3 (c .before .before .before .before .before .before .before .before .before) .size) (c .double5 .ensures)
 
-after-double6 : (c : tie.After-double6) → Follows (start64 c .args .n) (ownerIn (start64 c .args .last .now)) 64 (c .double6 .last .1 .0)
+after-double6 : (c : tie.After-double6) → Follows (start64 c .args .n) (ownerIn (start64 c .args .marks .now)) 64 (c .double6 .last .1 .0)
 after-double6 c = follows-twice _ _ 32 _ _ _ (start64 c .pre .2) (after-double5 (c .before .before .before)) (after-double4 (c .before .before .before .before .before .before .before .before .before) .size) (c .double6 .ensures)
 
 double-requires : tie.Need-double-requires

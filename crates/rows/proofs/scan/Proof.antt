@@ -10,17 +10,17 @@ use Rattle.rows.proofs.scan.Statement.{statement}
 use Rattle.rows.proofs.scan.Tie as tie
 
 abbrev Inv-loop : tie.InvT-loop
-Inv-loop seen₀ tally₀ odd₀ last₀ b n m w at₀ r₀ seen tally odd last at r =
-    (r ≤ n) × (at ≡ 7 + r * m) × Lanes b m w r seen tally odd last × (r % 4 ≡ 0)
+Inv-loop seen₀ tally₀ odd₀ marks₀ b n m w at₀ r₀ seen tally odd marks at r =
+    (r ≤ n) × (at ≡ 7 + r * m) × Lanes b m w r seen tally odd marks × (r % 4 ≡ 0)
 
 abbrev μ-loop : tie.MeasureT-loop
-μ-loop seen₀ tally₀ odd₀ last₀ b n m w at₀ r₀ seen tally odd last at r = n - r
+μ-loop seen₀ tally₀ odd₀ marks₀ b n m w at₀ r₀ seen tally odd marks at r = n - r
 
 abbrev Inv-loop2 : tie.InvT-loop2
-Inv-loop2 seen₀ tally₀ odd₀ last₀ b n m w at₀ r₀ seen tally odd last at r = (r ≤ n) × (at ≡ 7 + r * m) × Lanes b m w r seen tally odd last
+Inv-loop2 seen₀ tally₀ odd₀ marks₀ b n m w at₀ r₀ seen tally odd marks at r = (r ≤ n) × (at ≡ 7 + r * m) × Lanes b m w r seen tally odd marks
 
 abbrev μ-loop2 : tie.MeasureT-loop2
-μ-loop2 seen₀ tally₀ odd₀ last₀ b n m w at₀ r₀ seen tally odd last at r = n - r
+μ-loop2 seen₀ tally₀ odd₀ marks₀ b n m w at₀ r₀ seen tally odd marks at r = n - r
 
 loop-holds : tie.Need-loop-holds Inv-loop μ-loop Inv-loop2 μ-loop2
 loop-holds c = (omega arith, omega (arith, zero-mul (c .before .args .m)), c .before .pre .1, refl)
