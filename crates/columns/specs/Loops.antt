@@ -1,12 +1,11 @@
 -- Laws for the tests of columns.
-use Prim.Native.Nat.{ℕ, _+_, _*_, _/_, _%_, _≤_}
+use Prim.Native.Nat.{ℕ, _+_, _*_, _/_, _%_}
 use native.Mathlib.Omega.{arith}
-use mathlib.Core.Path.{_≡_, refl, sym, _∙_, ap, subst}
+use mathlib.Core.Path.{_≡_, refl, sym, _∙_, ap}
 use mathlib.Core.Logic.{_⊎_, inl, inr}
 use mathlib.Core.Bool.{Bool, true, false, cond, not, _&&_}
 use mathlib.Core.List.{List}
 use lib.Dec.{eqb}
-use lib.Bits.{bitOr}
 use lib.ListN.{getD}
 use borrow.Author.Tests.{eqb-true, eqb-false, eq-eqb, ne-eqb}
 use Rattle.matrix.specs.Bounded.{all}
@@ -14,20 +13,9 @@ use Rattle.matrix.specs.Bytes.{bit}
 use Rattle.laws.specs.Tests.{way, fails, and-right}
 use Rattle.laws.specs.Bounded.{all-same}
 use Rattle.lanes.specs.Lanes.{merged}
-use Rattle.lanes.specs.LaneLaws.{bit-low, bit-low-set, merged-step}
+use Rattle.lanes.specs.LaneLaws.{bit-low, bit-low-set}
 use Rattle.lanes.specs.Zeros.{or-zero, merged-zero}
 use Rattle.columns.specs.Checks.{zeroFrom, zeroColumn, rootCounts, otherCounts, subjectAt, subjectTest, plainTest, plainWrong}
-
--- bytes merged one after another
-pub merged-none : (f : ℕ → ℕ) → 0 ≡ merged 0 f
-unfolding merged
-merged-none f = refl
-
-pub merged-more : (i : ℕ) (f : ℕ → ℕ) (v : ℕ) → v ≡ merged i f → bitOr v (f i) ≡ merged (i + 1) f
-merged-more i f v e = ap (λ (x : ℕ). bitOr x (f i)) e ∙ merged-step i f
-
-pub merged-done : (i m : ℕ) (f : ℕ → ℕ) (v : ℕ) → i ≤ m → m ≤ i → v ≡ merged i f → eqb v 0 ≡ eqb (merged m f) 0
-merged-done i m f v h l e = subst (λ (j : ℕ). eqb v 0 ≡ eqb (merged j f) 0) (omega arith) (ap (λ (x : ℕ). eqb x 0) e)
 
 -- bit 1, as the code tests it
 bit-one-set : (v : ℕ) → v / 2 % 2 ≡ 1 → bit 1 v ≡ true

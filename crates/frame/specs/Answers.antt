@@ -1,7 +1,7 @@
 -- Facts that tie the numbers of answers to the rules.
 use Prim.Native.Nat.{ℕ, _≤_}
 use native.Mathlib.Omega.{arith}
-use mathlib.Core.Path.{_≡_, refl, sym}
+use mathlib.Core.Path.{_≡_, refl}
 use mathlib.Core.Logic.{_≢_, _⊎_, inl, inr, ⊎-elim}
 use mathlib.Core.Bool.{Bool, true, false, cond, _&&_, _||_}
 use mathlib.Core.List.{[], _∷_}
@@ -13,7 +13,7 @@ use Rattle.matrix.specs.Names.{columnOf}
 use Rattle.matrix.specs.State.{State}
 use Rattle.matrix.specs.Commands.{Raw, known, ruleOf, rules, fieldsFit, decode}
 use Rattle.matrix.specs.Tests.{test, commandTests}
-use Rattle.matrix.specs.Step.{refusalOf, refusal, links, walkLinks, answer, numberOf}
+use Rattle.matrix.specs.Step.{refusalOf, refusal, links, walkLinks}
 use Rattle.laws.specs.Tests.{way}
 use Rattle.laws.specs.Rules.{Every, every-rule}
 use Rattle.laws.specs.Passed.{first-number}
@@ -62,8 +62,3 @@ links-only-three basics names S c h = either (eqb (refusal basics names S c) 0 |
     either : (t : Bool) {m : ℕ} → m ≡ 0 → cond t m 0 ≡ 0
     either true e = e
     either false e = refl
-
--- the number of an answer is the number that it was made of
-pub answer-number : (number followed : ℕ) → numberOf (answer number followed) ≡ number
-answer-number number followed =
-    ⊎-elim (λ e. rw e (sym (eqb-true number 0 e))) (λ e. rw e refl) (way (eqb number 0))

@@ -1,7 +1,7 @@
--- Where numbers merged are zero.
-use Prim.Native.Nat.{ℕ, zero, suc, _+_}
+-- Numbers merged one after another, and where they are zero.
+use Prim.Native.Nat.{ℕ, zero, suc, _+_, _≤_}
 use native.Mathlib.Omega.{arith}
-use mathlib.Core.Path.{_≡_, refl, _∙_, ap}
+use mathlib.Core.Path.{_≡_, refl, _∙_, ap, subst}
 use mathlib.Core.Bool.{Bool, true, _&&_}
 use lib.Dec.{eqb}
 use lib.Bits.{bitOr, bitAnd, or-add-and, and-le-l, and-le-r}
@@ -9,6 +9,18 @@ use borrow.Author.Tests.{eqb-true, eq-eqb}
 use Rattle.matrix.specs.Bounded.{all}
 use Rattle.laws.specs.Tests.{same-test, and-left, and-right, and-both}
 use Rattle.lanes.specs.Lanes.{merged}
+use Rattle.lanes.specs.LaneLaws.{merged-step}
+
+-- bytes merged one after another
+pub merged-none : (f : ℕ → ℕ) → 0 ≡ merged 0 f
+unfolding merged
+merged-none f = refl
+
+pub merged-more : (i : ℕ) (f : ℕ → ℕ) (v : ℕ) → v ≡ merged i f → bitOr v (f i) ≡ merged (i + 1) f
+merged-more i f v e = ap (λ (x : ℕ). bitOr x (f i)) e ∙ merged-step i f
+
+pub merged-done : (i m : ℕ) (f : ℕ → ℕ) (v : ℕ) → i ≤ m → m ≤ i → v ≡ merged i f → eqb v 0 ≡ eqb (merged m f) 0
+merged-done i m f v h l e = subst (λ (j : ℕ). eqb v 0 ≡ eqb (merged j f) 0) (omega arith) (ap (λ (x : ℕ). eqb x 0) e)
 
 pub or-zero : (a b : ℕ) → eqb (bitOr a b) 0 ≡ (eqb a 0 && eqb b 0)
 or-zero a b = same-test _ _ forth back

@@ -28,17 +28,16 @@ fn double(t: &[u8; 64], u: &mut [u8; 64], n: usize)
     }
 }
 
-// The first n entries are all U.
+// The first n entries are all U. All of them are looked at, so that the compiler may take many at once.
 fn all_root(t: &[u8; 64], n: usize) -> bool
     requires { ⌜ (n ≤ 64) × (length (now t) ≡ 64) ⌝ }
     ensures { λ r. ⌜ r ≡ all n (λ s. eqb (getD (now (t .entry)) s 0) 0) ⌝ }
 {
+    let mut any: u8 = 0;
     for s in 0..n {
-        if t[s] != 0 {
-            return false;
-        }
+        any = any | t[s];
     }
-    true
+    any == 0
 }
 
 // Following owners from any of the n subjects comes to U: after six doublings each entry has followed 64 owners. Where all have come to U

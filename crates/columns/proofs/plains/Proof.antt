@@ -6,7 +6,8 @@ use lib.Bits.{bitOr}
 use lib.ListN.{getD}
 use Rattle.lanes.specs.Lanes.{merged}
 use Rattle.columns.specs.Checks.{plainWrong}
-use Rattle.columns.specs.Loops.{merged-none, merged-more, merged-done, plains-right}
+use Rattle.lanes.specs.Zeros.{merged-none, merged-more, merged-done}
+use Rattle.columns.specs.Loops.{plains-right}
 use Rattle.columns.proofs.plains.Statement.{statement}
 use Rattle.columns.proofs.plains.Tie as tie
 

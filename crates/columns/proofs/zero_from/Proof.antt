@@ -4,7 +4,7 @@ use Prim.Native.Nat.{_+_, _-_, _≤_}
 use mathlib.Core.Path.{_≡_}
 use lib.ListN.{getD}
 use Rattle.lanes.specs.Lanes.{merged}
-use Rattle.columns.specs.Loops.{merged-none, merged-more, merged-done}
+use Rattle.lanes.specs.Zeros.{merged-none, merged-more, merged-done}
 use Rattle.columns.proofs.zero_from.Statement.{statement}
 use Rattle.columns.proofs.zero_from.Tie as tie
 
