@@ -3,3 +3,4 @@ pub mod Rows
 pub mod Ready
 pub mod Outcomes
 pub mod Carrying
+pub mod Granted

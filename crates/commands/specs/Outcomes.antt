@@ -1,11 +1,11 @@
 -- The definition's refusal, links and next state of a command, from how it is decoded.
-use Prim.Native.Nat.{ℕ, _+_, _<_}
+use Prim.Native.Nat.{ℕ, _<_}
 use mathlib.Core.Path.{_≡_, refl, sym, _∙_, ap, ap₂, subst}
 use mathlib.Core.Logic.{⊎-elim}
 use mathlib.Core.Bool.{Bool, true, false, cond, _&&_, _||_}
 use mathlib.Core.List.{List, [], _∷_}
-use lib.Dec.{eqb, ltb}
-use borrow.Author.Tests.{ltb-true, eqb-true}
+use lib.Dec.{eqb}
+use borrow.Author.Tests.{eqb-true}
 use Rattle.matrix.specs.declared.Kind.{Kind}
 use Rattle.matrix.specs.declared.Fields.{Fields}
 use Rattle.matrix.specs.declared.Command.{Command}
@@ -20,14 +20,14 @@ use Rattle.matrix.specs.Step.{refusalOf, walkLinks, linksWith, refusal, links, 
 use Rattle.matrix.specs.Shape.{shapeOf, basicsOf}
 use Rattle.matrix.specs.Reading.{stateOf}
 use Rattle.matrix.specs.Calls.{rawOf, namesFit, refusalOn, linksOn, nextOn}
-use Rattle.laws.specs.Tests.{way, clash, and-left, and-right, and-both}
-use Rattle.codec.specs.Columns.{columnOf-nameOf, named-nameOf}
+use Rattle.laws.specs.Tests.{way, clash, and-right, and-both}
+use Rattle.codec.specs.Columns.{columnOf-nameOf}
 use Rattle.cells.specs.Station.{Station}
 use Rattle.rules.specs.Needs.{CommandIn, basicOfAct}
 use Rattle.decoding.specs.Decoded.{withinNames}
 use Rattle.commands.specs.Answered.{Answered, Carried}
 use Rattle.commands.specs.Rows.{row-basic}
-use Rattle.commands.specs.Ready.{commandOf, DecodedTo, fitsAll, RefusedBy}
+use Rattle.commands.specs.Ready.{row-i, row-s, name-o, commandOf, DecodedTo, fitsAll, RefusedBy}
 
 itself : (m : ℕ) → cond (eqb m 0) 0 m ≡ m
 itself m =
@@ -116,14 +116,13 @@ module _ (b : List ℕ) (n p : ℕ) (station : Station b n p) (c : Fields) where
   pub command-in : {d′ : Command} {kind : Kind} → DecodedTo n p c d′ kind → CommandIn b n p d′
   command-in {d′} w =
       let names = w .fits .names in
-      let i : (ltb (c .i) n && ltb (c .s) n) ≡ true = and-left (ltb (c .i) n && ltb (c .s) n) (ltb (c .o) (n + p)) names in
       let k : basicOfAct (ruleOf (c .code) (c .k) .act) < 7 = row-basic (c .code) (c .k) (and-right ((ruleOf (c .code) (c .k) .s || eqb (c .s) 0) && (ruleOf (c .code) (c .k) .o || eqb (c .o) 0)) _ (w .fits .fields)) in
       let whole : CommandIn b n p (commandOf n c) =
       record {
         station = station;
-        initiator = ltb-true (c .i) n (and-left (ltb (c .i) n) (ltb (c .s) n) i);
-        subject = ltb-true (c .s) n (and-right (ltb (c .i) n) (ltb (c .s) n) i);
-        object = named-nameOf n p (c .o) (ltb-true (c .o) (n + p) (and-right (ltb (c .i) n && ltb (c .s) n) (ltb (c .o) (n + p)) names));
+        initiator = row-i n p c names;
+        subject = row-s n p c names;
+        object = name-o n p c names;
         basic = k;
       } in
       subst (λ (d : Command). CommandIn b n p d) (sym (w .command)) whole

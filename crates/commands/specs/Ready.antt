@@ -1,14 +1,17 @@
 -- A decoded command: it is what the definition decodes, on names and rights of the record.
-use Prim.Native.Nat.{ℕ}
+use Prim.Native.Nat.{ℕ, _+_, _<_}
 use native.Mathlib.Omega.{arith}
 use mathlib.Core.Path.{_≡_, refl, sym, _∙_, ap}
 use mathlib.Core.Bool.{Bool, true, false, cond, _&&_}
+use lib.Dec.{ltb}
+use borrow.Author.Tests.{ltb-true}
 use Rattle.matrix.specs.declared.Kind.{Kind}
 use Rattle.matrix.specs.declared.Fields.{Fields}
 use Rattle.matrix.specs.declared.Command.{Command}
-use Rattle.matrix.specs.Names.{nameOf}
+use Rattle.matrix.specs.Names.{nameOf, named}
 use Rattle.matrix.specs.Commands.{kindOf, known, ruleOf, fieldsFit}
 use Rattle.laws.specs.Tests.{and-left, and-right}
+use Rattle.codec.specs.Columns.{named-nameOf}
 use Rattle.decoding.specs.declared.Decoded.{Decoded}
 use Rattle.decoding.specs.declared.Decoded.the-variants.{Ready, Refused}
 use Rattle.decoding.specs.Decoded.{decodedOf, withinNames}
@@ -19,6 +22,16 @@ pub record Fits (n p : ℕ) (c : Fields) : Type 0 where
   pub code : known (c .code) ≡ true
   pub names : withinNames n p c ≡ true
   pub fields : fieldsFit 7 (ruleOf (c .code) (c .k)) (c .s) (c .o) (c .k) ≡ true
+
+-- names that fit are the record's
+pub row-i : (n p : ℕ) (c : Fields) → withinNames n p c ≡ true → c .i < n
+row-i n p c h = ltb-true (c .i) n (and-left (ltb (c .i) n) (ltb (c .s) n) (and-left (ltb (c .i) n && ltb (c .s) n) (ltb (c .o) (n + p)) h))
+
+pub row-s : (n p : ℕ) (c : Fields) → withinNames n p c ≡ true → c .s < n
+row-s n p c h = ltb-true (c .s) n (and-right (ltb (c .i) n) (ltb (c .s) n) (and-left (ltb (c .i) n && ltb (c .s) n) (ltb (c .o) (n + p)) h))
+
+pub name-o : (n p : ℕ) (c : Fields) → withinNames n p c ≡ true → named n p (nameOf n (c .o)) ≡ true
+name-o n p c h = named-nameOf n p (c .o) (ltb-true (c .o) (n + p) (and-right (ltb (c .i) n && ltb (c .s) n) (ltb (c .o) (n + p)) h))
 
 -- the command that the fields are decoded to
 abbrev pub commandOf : ℕ → Fields → Command

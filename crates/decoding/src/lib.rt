@@ -29,7 +29,7 @@ pub enum Decoded {
 }
 
 // The form of a basic right, by whether the code is the first of its pair.
-fn form_from(code: usize, first: usize) -> Form
+pub fn form_from(code: usize, first: usize) -> Form
     ensures { λ f. ⌜ f ≡ formFrom code first ⌝ }
 {
     if code == first {
@@ -134,7 +134,7 @@ fn rule_of(code: usize, k: usize) -> Ruled
 }
 
 // Whether a command's names are the record's.
-fn names_fit(n: usize, p: usize, c: Fields) -> bool
+pub fn names_fit(n: usize, p: usize, c: Fields) -> bool
     requires { ⌜ (n ≤ mostSubjects) × (p ≤ mostPlain) ⌝ }
     ensures { λ t. ⌜ t ≡ withinNames n p c ⌝ }
 {
