@@ -7,17 +7,19 @@ use lib.Bits.{bitOr, bitXor}
 use lib.ListN.{length, getD}
 use Rattle.matrix.specs.Bytes.{bit}
 
+-- the four bytes join it one after another, by op
+abbrev pub keptFour : (ℕ → ℕ → ℕ) → List ℕ → ℕ → ℕ → ℕ → ℕ → ℕ
+keptFour op b at m x j = op (op (op (op x (getD b (at + j) 0)) (getD b (at + m + j) 0)) (getD b (at + m + m + j) 0)) (getD b (at + m + m + m + j) 0)
+
+-- the bits seen, the sum of the two low bits, and the bits of an odd number of rows
 abbrev pub mergedFour : List ℕ → ℕ → ℕ → ℕ → ℕ → ℕ
-mergedFour b at m x j =
-    bitOr (bitOr (bitOr (bitOr x (getD b (at + j) 0)) (getD b (at + m + j) 0)) (getD b (at + m + m + j) 0)) (getD b (at + m + m + m + j) 0)
+mergedFour b at m x j = keptFour bitOr b at m x j
 
 abbrev pub lowsFour : List ℕ → ℕ → ℕ → ℕ → ℕ → ℕ
-lowsFour b at m x j =
-    x + getD b (at + j) 0 % 4 + getD b (at + m + j) 0 % 4 + getD b (at + m + m + j) 0 % 4 + getD b (at + m + m + m + j) 0 % 4
+lowsFour b at m x j = keptFour (λ x y. x + y % 4) b at m x j
 
 abbrev pub pairedFour : List ℕ → ℕ → ℕ → ℕ → ℕ → ℕ
-pairedFour b at m x j =
-    bitXor (bitXor (bitXor (bitXor x (getD b (at + j) 0)) (getD b (at + m + j) 0)) (getD b (at + m + m + j) 0)) (getD b (at + m + m + m + j) 0)
+pairedFour b at m x j = keptFour bitXor b at m x j
 
 -- the four bytes p, q, s and t of a byte column, of rows whose first is the number `row`
 abbrev pub marked : ℕ → ℕ → ℕ → ℕ → ℕ → ℕ → ℕ

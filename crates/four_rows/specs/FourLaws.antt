@@ -5,15 +5,15 @@ use native.Mathlib.Omega.{arith}
 use mathlib.Core.Path.{_≡_, refl, sym, _∙_, ap}
 use mathlib.Core.Bool.{Bool, cond, _||_}
 use mathlib.Core.List.{List, []}
-use lib.Bits.{bitOr, bitXor}
+use lib.Bits.{bitOr}
 use lib.ListN.{length, getD}
 use Rattle.matrix.specs.Bytes.{bit}
 use Rattle.laws.specs.BitOps.{bit-or}
 use Rattle.lanes.specs.Lists.{Holds, Stored, holds-next}
-use Rattle.lanes.specs.Lanes.{merged, lows, paired, markOf, byteAt, bitIn, Matrix}
-use Rattle.lanes.specs.LaneLaws.{bit-count, merged-step, lows-step, paired-step, lows-le}
+use Rattle.lanes.specs.Lanes.{lows, markOf, byteAt, bitIn, Matrix}
+use Rattle.lanes.specs.LaneLaws.{bit-count, merged-step, lows-le}
 use Rattle.lanes.specs.RowLaws.{next-place, row-inside}
-use Rattle.four_rows.specs.Four.{mergedFour, lowsFour, pairedFour, marked, markFour, RoomFour}
+use Rattle.four_rows.specs.Four.{keptFour, marked, markFour, RoomFour}
 use Rattle.four_rows.specs.Marks.{each, each-once}
 
 -- the low bits of at most r rows fit a byte with room for four more
@@ -47,35 +47,17 @@ module _ (b : List ℕ) (m r at : ℕ) (place : at ≡ 7 + r * m) where
   byte-at : (v i j : ℕ) → i ≡ 7 + v * m → getD b (i + j) 0 ≡ byteAt b m v j
   byte-at v i j e = ap (λ (x : ℕ). getD b (x + j) 0) e
 
-  merged-once : (v i j x : ℕ) → i ≡ 7 + v * m → x ≡ merged v (λ u. byteAt b m u j) → bitOr x (getD b (i + j) 0) ≡ merged (v + 1) (λ u. byteAt b m u j)
-  merged-once v i j x e q = (λ t. bitOr (q t) (byte-at v i j e t)) ∙ merged-step v (λ u. byteAt b m u j)
+  -- what is kept after four rows more, where op joins a row's byte to it
+  module _ (room : ℕ) (op : ℕ → ℕ → ℕ) (kept : ℕ → (ℕ → ℕ) → ℕ) (step : (v : ℕ) (f : ℕ → ℕ) → op (kept v f) (f v) ≡ kept (v + 1) f) where
+    kept-once : (v i j x : ℕ) → i ≡ 7 + v * m → x ≡ kept v (λ u. byteAt b m u j) → op x (getD b (i + j) 0) ≡ kept (v + 1) (λ u. byteAt b m u j)
+    kept-once v i j x e q = (λ t. op (q t) (byte-at v i j e t)) ∙ step v (λ u. byteAt b m u j)
 
-  pub next-merged-four : (w : ℕ) (old new : List ℕ) → Holds 512 w (λ j. merged r (λ v. byteAt b m v j)) old
-      → Stored w (λ j. mergedFour b at m (getD old j 0) j) old new → Holds 512 w (λ j. merged (r + 4) (λ v. byteAt b m v j)) new
-  next-merged-four w old new h s =
-      holds-next 512 w _ _ (mergedFour b at m) old new h s
-      (λ j l. merged-once (r + 1 + 1 + 1) (at + m + m + m) j _ place-3 (merged-once (r + 1 + 1) (at + m + m) j _ place-2
-      (merged-once (r + 1) (at + m) j _ place-1 (merged-once r at j _ place refl))) ∙ four-steps (λ v. merged v (λ u. byteAt b m u j)) r)
-
-  lows-once : (v i j x : ℕ) → i ≡ 7 + v * m → x ≡ lows v (λ u. byteAt b m u j) → x + getD b (i + j) 0 % 4 ≡ lows (v + 1) (λ u. byteAt b m u j)
-  lows-once v i j x e q = (λ t. q t + byte-at v i j e t % 4) ∙ lows-step v (λ u. byteAt b m u j)
-
-  pub next-lows-four : (w : ℕ) (old new : List ℕ) → Holds 128 w (λ j. lows r (λ v. byteAt b m v j)) old
-      → Stored w (λ j. lowsFour b at m (getD old j 0) j) old new → Holds 128 w (λ j. lows (r + 4) (λ v. byteAt b m v j)) new
-  next-lows-four w old new h s =
-      holds-next 128 w _ _ (lowsFour b at m) old new h s
-      (λ j l. lows-once (r + 1 + 1 + 1) (at + m + m + m) j _ place-3 (lows-once (r + 1 + 1) (at + m + m) j _ place-2
-      (lows-once (r + 1) (at + m) j _ place-1 (lows-once r at j _ place refl))) ∙ four-steps (λ v. lows v (λ u. byteAt b m u j)) r)
-
-  paired-once : (v i j x : ℕ) → i ≡ 7 + v * m → x ≡ paired v (λ u. byteAt b m u j) → bitXor x (getD b (i + j) 0) ≡ paired (v + 1) (λ u. byteAt b m u j)
-  paired-once v i j x e q = (λ t. bitXor (q t) (byte-at v i j e t)) ∙ paired-step v (λ u. byteAt b m u j)
-
-  pub next-paired-four : (w : ℕ) (old new : List ℕ) → Holds 128 w (λ j. paired r (λ v. byteAt b m v j)) old
-      → Stored w (λ j. pairedFour b at m (getD old j 0) j) old new → Holds 128 w (λ j. paired (r + 4) (λ v. byteAt b m v j)) new
-  next-paired-four w old new h s =
-      holds-next 128 w _ _ (pairedFour b at m) old new h s
-      (λ j l. paired-once (r + 1 + 1 + 1) (at + m + m + m) j _ place-3 (paired-once (r + 1 + 1) (at + m + m) j _ place-2
-      (paired-once (r + 1) (at + m) j _ place-1 (paired-once r at j _ place refl))) ∙ four-steps (λ v. paired v (λ u. byteAt b m u j)) r)
+    pub next-kept-four : (w : ℕ) (old new : List ℕ) → Holds room w (λ j. kept r (λ v. byteAt b m v j)) old
+        → Stored w (λ j. keptFour op b at m (getD old j 0) j) old new → Holds room w (λ j. kept (r + 4) (λ v. byteAt b m v j)) new
+    next-kept-four w old new h s =
+        holds-next room w _ _ (keptFour op b at m) old new h s
+        (λ j l. kept-once (r + 1 + 1 + 1) (at + m + m + m) j _ place-3 (kept-once (r + 1 + 1) (at + m + m) j _ place-2
+        (kept-once (r + 1) (at + m) j _ place-1 (kept-once r at j _ place refl))) ∙ four-steps (λ v. kept v (λ u. byteAt b m u j)) r)
 
   mark-once : (v u i j x : ℕ) → u ≡ v → i ≡ 7 + v * m → x ≡ markOf v (bitIn b m 0 j)
       → bitOr x (cond (bit 0 (getD b (i + j) 0)) u 0) ≡ markOf (v + 1) (bitIn b m 0 j)

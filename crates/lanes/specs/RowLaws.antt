@@ -1,16 +1,16 @@
 -- What one row more does to each of the four lists.
-use Prim.Native.Nat.{ℕ, _+_, _*_, _%_, _≤_, _<_}
+use Prim.Native.Nat.{ℕ, _+_, _*_, _≤_, _<_}
 use native.Mathlib.Nat.{add-mul, one-mul, mul-le-mul-right}
 use native.Mathlib.Omega.{arith}
 use mathlib.Core.Path.{_≡_, _∙_, ap, subst}
 use mathlib.Core.Bool.{cond}
 use mathlib.Core.List.{List}
-use lib.Bits.{bitOr, bitXor}
+use lib.Bits.{bitOr}
 use lib.ListN.{length, getD}
 use Rattle.matrix.specs.Bytes.{bit}
 use Rattle.lanes.specs.Lists.{Holds, Stored, holds-next}
-use Rattle.lanes.specs.Lanes.{merged, lows, paired, markOf, byteAt, bitIn, Lanes, Matrix, Room}
-use Rattle.lanes.specs.LaneLaws.{merged-step, lows-step, paired-step, lows-le}
+use Rattle.lanes.specs.Lanes.{lows, markOf, byteAt, bitIn, Lanes, Matrix, Room}
+use Rattle.lanes.specs.LaneLaws.{merged-step, lows-le}
 
 -- the low bits of at most r rows fit a byte with room for one more
 pub lows-room : (w r : ℕ) (f : ℕ → ℕ → ℕ) (l : List ℕ) → Holds 128 w (λ j. lows r (f j)) l → r < 64 → (j : ℕ) → j < w → getD l j 0 < 253
@@ -20,23 +20,13 @@ module _ (b : List ℕ) (m r at : ℕ) (place : at ≡ 7 + r * m) where
   byte-here : (j : ℕ) → getD b (at + j) 0 ≡ byteAt b m r j
   byte-here j = ap (λ (i : ℕ). getD b (i + j) 0) place
 
-  pub next-merged : (w : ℕ) (old new : List ℕ) → Holds 512 w (λ j. merged r (λ v. byteAt b m v j)) old
-      → Stored w (λ j. bitOr (getD old j 0) (getD b (at + j) 0)) old new → Holds 512 w (λ j. merged (r + 1) (λ v. byteAt b m v j)) new
-  next-merged w old new h s =
-      holds-next 512 w _ _ (λ x j. bitOr x (getD b (at + j) 0)) old new h s
-      (λ j l. ap (λ (x : ℕ). bitOr (merged r (λ v. byteAt b m v j)) x) (byte-here j) ∙ merged-step r (λ v. byteAt b m v j))
-
-  pub next-lows : (w : ℕ) (old new : List ℕ) → Holds 128 w (λ j. lows r (λ v. byteAt b m v j)) old
-      → Stored w (λ j. getD old j 0 + getD b (at + j) 0 % 4) old new → Holds 128 w (λ j. lows (r + 1) (λ v. byteAt b m v j)) new
-  next-lows w old new h s =
-      holds-next 128 w _ _ (λ x j. x + getD b (at + j) 0 % 4) old new h s
-      (λ j l. ap (λ (x : ℕ). lows r (λ v. byteAt b m v j) + x % 4) (byte-here j) ∙ lows-step r (λ v. byteAt b m v j))
-
-  pub next-paired : (w : ℕ) (old new : List ℕ) → Holds 128 w (λ j. paired r (λ v. byteAt b m v j)) old
-      → Stored w (λ j. bitXor (getD old j 0) (getD b (at + j) 0)) old new → Holds 128 w (λ j. paired (r + 1) (λ v. byteAt b m v j)) new
-  next-paired w old new h s =
-      holds-next 128 w _ _ (λ x j. bitXor x (getD b (at + j) 0)) old new h s
-      (λ j l. ap (λ (x : ℕ). bitXor (paired r (λ v. byteAt b m v j)) x) (byte-here j) ∙ paired-step r (λ v. byteAt b m v j))
+  -- a row's bytes join what is kept for each byte column by op, where `kept` is what rows leave that are joined one after another
+  pub next-kept : (room : ℕ) (op : ℕ → ℕ → ℕ) (kept : ℕ → (ℕ → ℕ) → ℕ) → ((v : ℕ) (f : ℕ → ℕ) → op (kept v f) (f v) ≡ kept (v + 1) f)
+      → (w : ℕ) (old new : List ℕ) → Holds room w (λ j. kept r (λ v. byteAt b m v j)) old → Stored w (λ j. op (getD old j 0) (getD b (at + j) 0)) old new
+      → Holds room w (λ j. kept (r + 1) (λ v. byteAt b m v j)) new
+  next-kept room op kept step w old new h s =
+      holds-next room w _ _ (λ x j. op x (getD b (at + j) 0)) old new h s
+      (λ j l. ap (λ (x : ℕ). op (kept r (λ v. byteAt b m v j)) x) (byte-here j) ∙ step r (λ v. byteAt b m v j))
 
   pub next-mark : (w : ℕ) (old new : List ℕ) → Holds 128 w (λ j. markOf r (bitIn b m 0 j)) old
       → Stored w (λ j. bitOr (getD old j 0) (cond (bit 0 (getD b (at + j) 0)) r 0)) old new → Holds 128 w (λ j. markOf (r + 1) (bitIn b m 0 j)) new

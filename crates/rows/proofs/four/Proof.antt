@@ -1,5 +1,9 @@
 -- `rows::four` meets its contract. Each list by the law of four rows more.
-use Rattle.four_rows.specs.FourLaws.{lows-room-four, next-merged-four, next-lows-four, next-paired-four, next-mark-four}
+use Prim.Native.Nat.{_+_, _%_}
+use lib.Bits.{bitOr, bitXor}
+use Rattle.lanes.specs.Lanes.{merged, lows, paired}
+use Rattle.lanes.specs.LaneLaws.{merged-step, lows-step, paired-step}
+use Rattle.four_rows.specs.FourLaws.{lows-room-four, next-kept-four, next-mark-four}
 use borrow.Author.Needs.{needs}
 use Rattle.rows.proofs.four.Statement.{statement}
 use Rattle.rows.proofs.four.Tie as tie
@@ -30,9 +34,9 @@ returns c =
     let a = s .args in
     let at = s .pre .0 .place in
     record {
-      saw = next-merged-four (a .b .now) (a .m) (a .r) (a .at) at (a .m) _ _ (s .pre .1 .saw) (c .before .before .before .before .before .merge-four .ensures);
-      counted = next-lows-four (a .b .now) (a .m) (a .r) (a .at) at (a .w) _ _ (s .pre .1 .counted) (c .before .before .count-four .ensures .0);
-      parity = next-paired-four (a .b .now) (a .m) (a .r) (a .at) at (a .w) _ _ (s .pre .1 .parity) (c .before .before .count-four .ensures .1);
+      saw = next-kept-four (a .b .now) (a .m) (a .r) (a .at) at 512 bitOr merged merged-step (a .m) _ _ (s .pre .1 .saw) (c .before .before .before .before .before .merge-four .ensures);
+      counted = next-kept-four (a .b .now) (a .m) (a .r) (a .at) at 128 (λ x y. x + y % 4) lows lows-step (a .w) _ _ (s .pre .1 .counted) (c .before .before .count-four .ensures .0);
+      parity = next-kept-four (a .b .now) (a .m) (a .r) (a .at) at 128 bitXor paired paired-step (a .w) _ _ (s .pre .1 .parity) (c .before .before .count-four .ensures .1);
       owner = next-mark-four (a .b .now) (a .m) (a .r) (a .at) at (a .w) _ _ (s .pre .0 .aligned) (s .pre .1 .owner) (c .mark-four .ensures);
     }
 
