@@ -26,7 +26,7 @@ pub enum Climbed {
 }
 
 // The owner to whom the way up goes on from subject v, or n where it ends: at U, at a member of `closed`, and without an owner.
-fn next_up(b: &[u8], n: usize, p: usize, owners: &[u8; 128], closed: u64, v: usize) -> usize
+fn next_up(b: &[u8], n: usize, p: usize, owners: &[u8; 64], closed: u64, v: usize) -> usize
     requires { ⌜ Guessed (now b) n p (now owners) × (v < n) ⌝ }
     ensures { λ r. ⌜ Next (stateOf (now (b .entry))) closed v r ⌝ }
 {
@@ -48,7 +48,7 @@ fn rise_from(
     p: usize,
     trust: u64,
     w: usize,
-    owners: &[u8; 128],
+    owners: &[u8; 64],
     closed: &mut u64,
     path: &mut [u8; 64],
 ) -> Climbed
@@ -87,7 +87,7 @@ fn owner_rise(
     trust: u64,
     x: Name,
     w: usize,
-    owners: &[u8; 128],
+    owners: &[u8; 64],
     closed: &mut u64,
     path: &mut [u8; 64],
 ) -> Climbed
@@ -108,7 +108,7 @@ pub fn way_up(
     p: usize,
     trust: u64,
     x: Name,
-    owners: &[u8; 128],
+    owners: &[u8; 64],
     path: &mut [u8; 64],
 ) -> Climbed
     requires { ⌜ NameIn (now b) n p x × Guessed (now b) n p (now owners) × (length (now path) ≡ 64) ⌝ }
@@ -170,7 +170,7 @@ pub fn is_possible(s: usize, x: Name, y: Right) -> bool
 }
 
 // Whether the owner walk from s meets subject o.
-fn walk_meets(b: &[u8], n: usize, p: usize, owners: &[u8; 128], s: usize, o: usize) -> bool
+fn walk_meets(b: &[u8], n: usize, p: usize, owners: &[u8; 64], s: usize, o: usize) -> bool
     requires { ⌜ Guessed (now b) n p (now owners) × (s < n) ⌝ }
     ensures { λ t. ⌜ t ≡ meets (walk (stateOf (now (b .entry))) s (Name.Subject o)) ⌝ }
 {
@@ -188,7 +188,7 @@ pub fn again_needed(
     b: &[u8],
     n: usize,
     p: usize,
-    owners: &[u8; 128],
+    owners: &[u8; 64],
     s: usize,
     x: Name,
     y: Right,

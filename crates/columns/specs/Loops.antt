@@ -1,21 +1,20 @@
 -- Laws for the tests of columns.
-use Prim.Native.Nat.{ℕ, _+_, _*_, _/_, _%_}
+use Prim.Native.Nat.{ℕ, _+_, _*_, _/_, _%_, _≤_}
 use native.Mathlib.Omega.{arith}
 use mathlib.Core.Path.{_≡_, refl, sym, _∙_, ap}
-use mathlib.Core.Logic.{_⊎_, inl, inr}
-use mathlib.Core.Bool.{Bool, true, false, cond, not, _&&_}
+use mathlib.Core.Logic.{⊎-elim}
+use mathlib.Core.Bool.{Bool, true, false, not, _&&_}
 use mathlib.Core.List.{List}
 use lib.Dec.{eqb}
 use lib.ListN.{getD}
-use borrow.Author.Tests.{eqb-true, eqb-false, eq-eqb, ne-eqb}
+use borrow.Author.Tests.{eq-eqb, ne-eqb}
 use Rattle.matrix.specs.Bounded.{all}
 use Rattle.matrix.specs.Bytes.{bit}
-use Rattle.laws.specs.Tests.{way, fails, and-right}
-use Rattle.laws.specs.Bounded.{all-same}
+use Rattle.laws.specs.Tests.{way}
+use Rattle.laws.specs.Bounded.{all-same, all-each}
 use Rattle.lanes.specs.Lanes.{merged}
-use Rattle.lanes.specs.LaneLaws.{bit-low, bit-low-set}
-use Rattle.lanes.specs.Zeros.{or-zero, merged-zero}
-use Rattle.columns.specs.Checks.{zeroFrom, zeroColumn, rootCounts, otherCounts, subjectAt, subjectTest, plainTest, plainWrong}
+use Rattle.lanes.specs.Zeros.{merged-zero}
+use Rattle.columns.specs.Checks.{present, zeroFrom, rootCounts, otherCounts, countTest, subjectAt, subjectTest, plainTest, plainWrong}
 
 -- bit 1, as the code tests it
 bit-one-set : (v : ℕ) → v / 2 % 2 ≡ 1 → bit 1 v ≡ true
@@ -34,67 +33,63 @@ root-right t o e = rw (eq-eqb t 2 e) refl
 pub root-wrong : (t o : ℕ) → (t ≡ 2 → ⊥) → false ≡ rootCounts t o
 root-wrong t o ne = rw (ne-eqb t 2 ne) refl
 
-pub other-three : (t o : ℕ) → t ≡ 3 → true ≡ otherCounts t o
-other-three t o e = rw (eq-eqb t 3 e) refl
+pub other-odd : (t o : ℕ) → o / 2 % 2 ≡ 1 → eqb t 3 ≡ otherCounts t o
+other-odd t o h = rw (bit-one-set o h) refl
 
-pub other-five : (t o : ℕ) → (t ≡ 3 → ⊥) → t ≡ 5 → eqb (o / 2 % 2) 0 ≡ otherCounts t o
-other-five t o ne e = rw (ne-eqb t 3 ne, eq-eqb t 5 e) (even (way (eqb (o / 2 % 2) 1)))
-  where
-    even : (eqb (o / 2 % 2) 1 ≡ true) ⊎ (eqb (o / 2 % 2) 1 ≡ false) → eqb (o / 2 % 2) 0 ≡ not (bit 1 o)
-    even (inl h) = let q : o / 2 % 2 ≡ 1 = eqb-true (o / 2 % 2) 1 h in rw (bit-one-set o q) (ne-eqb (o / 2 % 2) 0 (omega arith))
-    even (inr h) = let q : o / 2 % 2 ≡ 1 → ⊥ = eqb-false (o / 2 % 2) 1 h in rw (bit-one-clear o q) (eq-eqb (o / 2 % 2) 0 (omega arith))
+pub other-even : (t o : ℕ) → (o / 2 % 2 ≡ 1 → ⊥) → eqb t 5 ≡ otherCounts t o
+other-even t o h = rw (bit-one-clear o h) refl
 
-pub other-wrong : (t o : ℕ) → (t ≡ 3 → ⊥) → (t ≡ 5 → ⊥) → false ≡ otherCounts t o
-other-wrong t o ne nf = rw (ne-eqb t 3 ne, ne-eqb t 5 nf) refl
+-- U's counts, and those of another subject
+pub count-root : (tally odd : List ℕ) (r : Bool) → r ≡ rootCounts (getD tally 0 0) (getD odd 0 0) → countTest tally odd 0 ≡ r
+unfolding countTest
+count-root tally odd r e = sym e
+
+pub count-other : (tally odd : List ℕ) (s : ℕ) (r : Bool) → 1 ≤ s → r ≡ otherCounts (getD tally s 0) (getD odd s 0) → r ≡ countTest tally odd s
+unfolding countTest
+count-other tally odd s r l e = let z : eqb s 0 ≡ false = ne-eqb s 0 (λ q. omega arith) in rw z e
+
+-- whether a subject exists, by its row's place
+pub present-at : (b : List ℕ) (m s at : ℕ) → at ≡ 7 + s * m → eqb (getD b (at + (2 * s + 1)) 0 / 2 % 2) 1 ≡ present b m s
+unfolding bit
+present-at b m s at e = ap (λ (i : ℕ). eqb (getD b (i + (2 * s + 1)) 0 / 2 % 2) 1) e
+
+-- where all exist, a subject's test is that of its counts
+pub counts-test : (b : List ℕ) (n m : ℕ) (seen tally odd : List ℕ) → all n (present b m) ≡ true
+    → all n (countTest tally odd) ≡ all n (subjectTest b m seen tally odd)
+unfolding countTest subjectTest
+counts-test b n m seen tally odd h = all-same n _ _ (λ s l. rw (all-each n (present b m) h s l) refl)
 
 -- nothing is wrong with a plain column just where it passes its test
-plain-right : (seen : List ℕ) (j : ℕ) → eqb (plainWrong (getD seen j 0) (getD seen (j + 1) 0)) 0 ≡ plainTest seen j
-unfolding plainTest
-plain-right seen j = go (way (eqb (low % 4) 1)) (way (eqb (low % 2) 1))
-  where
-    low : ℕ
-    low = getD seen (j + 1) 0
+plain-right : (v : ℕ) → eqb (plainWrong v) 0 ≡ plainTest v
+plain-right v = ⊎-elim (λ e. rw e refl) (λ e. rw e refl) (way (eqb (v / 256 % 4) 1))
 
-    go : (eqb (low % 4) 1 ≡ true) ⊎ (eqb (low % 4) 1 ≡ false) → (eqb (low % 2) 1 ≡ true) ⊎ (eqb (low % 2) 1 ≡ false)
-        → eqb (plainWrong (getD seen j 0) low) 0 ≡ cond (bit 0 low) (not (bit 1 low)) (zeroColumn seen j)
-    go (inl e) f =
-        let q : low % 4 ≡ 1 = eqb-true (low % 4) 1 e in
-        rw (e, bit-low-set low (omega arith), bit-one-clear low (λ h. omega arith)) refl
-    go (inr e) (inl f) =
-        let ne : low % 4 ≡ 1 → ⊥ = eqb-false (low % 4) 1 e in
-        let q : low % 2 ≡ 1 = eqb-true (low % 2) 1 f in
-        rw (e, bit-low-set low q, bit-one-set low (omega arith), or-zero (getD seen j 0) low)
-        (fails (eqb (getD seen j 0) 0 && eqb low 0) (λ h. let z : low ≡ 0 = eqb-true low 0 (and-right (eqb (getD seen j 0) 0) _ h) in absurd (omega arith)))
-    go (inr e) (inr f) = rw (e, bit-low low ∙ f) (or-zero (getD seen j 0) low)
-
-pub plains-right : (seen : List ℕ) (n p : ℕ)
-    → eqb (merged p (λ i. plainWrong (getD seen (2 * (n + i)) 0) (getD seen (2 * (n + i) + 1) 0))) 0 ≡ all p (λ i. plainTest seen (2 * (n + i)))
-plains-right seen n p = merged-zero p _ ∙ all-same p _ _ (λ i l. plain-right seen (2 * (n + i)))
+pub plains-right : (seen : List ℕ) (n p : ℕ) → eqb (merged p (λ i. plainWrong (getD seen (n + i) 0))) 0 ≡ all p (λ i. plainTest (getD seen (n + i) 0))
+plains-right seen n p = merged-zero p _ ∙ all-same p _ _ (λ i l. plain-right (getD seen (n + i) 0))
 
 -- an absent subject: U, one with something in its column, any other
 pub absent-root : (s : ℕ) (t : Bool) → s ≡ 0 → false ≡ (not (eqb s 0) && t)
 absent-root s t e = rw (eq-eqb s 0 e) refl
 
-pub absent-column : (s : ℕ) (z y : Bool) → (s ≡ 0 → ⊥) → z ≡ false → false ≡ (not (eqb s 0) && (z && y))
-absent-column s z y ne e = rw (ne-eqb s 0 ne, e) refl
+pub absent-column : (s v : ℕ) (y : Bool) → (s ≡ 0 → ⊥) → (v ≡ 0 → ⊥) → false ≡ (not (eqb s 0) && (eqb v 0 && y))
+absent-column s v y ne e = rw (ne-eqb s 0 ne, ne-eqb v 0 e) refl
 
-pub absent-row : (s : ℕ) (z y r : Bool) → (s ≡ 0 → ⊥) → z ≡ true → r ≡ y → r ≡ (not (eqb s 0) && (z && y))
-absent-row s z y r ne e q = rw (ne-eqb s 0 ne, e) q
+pub absent-row : (s v : ℕ) (y r : Bool) → (s ≡ 0 → ⊥) → v ≡ 0 → r ≡ y → r ≡ (not (eqb s 0) && (eqb v 0 && y))
+absent-row s v y r ne e q = rw (ne-eqb s 0 ne, eq-eqb v 0 e) q
 
 -- a subject whose row begins at `at`: U, any other that exists, an absent one
 module _ (b : List ℕ) (m : ℕ) (seen tally odd : List ℕ) (s at : ℕ) (r : Bool) where
   abbrev self : ℕ
   self = getD b (at + (2 * s + 1)) 0
 
-  pub subject-root : self / 2 % 2 ≡ 1 → s ≡ 0 → r ≡ rootCounts (getD tally (2 * s + 1) 0) (getD odd (2 * s + 1) 0)
+  pub subject-root : self / 2 % 2 ≡ 1 → s ≡ 0 → r ≡ rootCounts (getD tally s 0) (getD odd s 0)
       → r ≡ subjectAt b m seen tally odd s at
   subject-root h e q = rw (bit-one-set self h, eq-eqb s 0 e) q
 
-  pub subject-other : self / 2 % 2 ≡ 1 → (s ≡ 0 → ⊥) → r ≡ otherCounts (getD tally (2 * s + 1) 0) (getD odd (2 * s + 1) 0)
+  pub subject-other : self / 2 % 2 ≡ 1 → (s ≡ 0 → ⊥) → r ≡ otherCounts (getD tally s 0) (getD odd s 0)
       → r ≡ subjectAt b m seen tally odd s at
   subject-other h ne q = rw (bit-one-set self h, ne-eqb s 0 ne) q
 
-  pub subject-absent : (self / 2 % 2 ≡ 1 → ⊥) → r ≡ (not (eqb s 0) && (zeroColumn seen (2 * s) && zeroFrom b at m))
+  pub subject-absent : (self / 2 % 2 ≡ 1 → ⊥) → r ≡ (not (eqb s 0) && (eqb (getD seen s 0) 0 && zeroFrom b at m))
       → r ≡ subjectAt b m seen tally odd s at
   subject-absent h q = rw (bit-one-clear self h) q
 

@@ -21,7 +21,7 @@ ghost use Rattle.commands.specs.Answered.{Answered, Carried};
 ghost use Rattle.commands.specs.Granted.{Grants};
 
 // A decoded command, tested and carried out.
-fn carry_out(b: &mut [u8], n: usize, p: usize, owners: &[u8; 128], d: Command, kind: Kind) -> Answer
+fn carry_out(b: &mut [u8], n: usize, p: usize, owners: &[u8; 64], d: Command, kind: Kind) -> Answer
     requires { ⌜ CommandIn (now b) n p d × (kind ≡ kindOf (d .act)) × Guessed (now b) n p (now owners) ⌝ }
     ensures { λ r. ⌜ Carried (now (b .entry)) (now (b .exit)) d r ⌝ }
 {
@@ -69,7 +69,7 @@ fn give(b: &mut [u8], n: usize, p: usize, c: Fields)
 
 // A command as given, on a valid record of n subject names and p plain names, with guesses of who owns each subject. An accepted
 // grant of a basic right, the most common command, has a short way of its own.
-pub fn command_on(b: &mut [u8], n: usize, p: usize, owners: &[u8; 128], c: Fields) -> Answer
+pub fn command_on(b: &mut [u8], n: usize, p: usize, owners: &[u8; 64], c: Fields) -> Answer
     requires { ⌜ Guessed (now b) n p (now owners) ⌝ }
     ensures { λ r. ⌜ Answered (now (b .entry)) (now (b .exit)) c r ⌝ }
 {

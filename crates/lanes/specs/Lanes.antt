@@ -1,10 +1,12 @@
--- What the pass over the rows of a record keeps for each byte column, after r rows.
-use Prim.Native.Nat.{ℕ, zero, suc, _+_, _*_, _%_, _≤_, _<_}
+-- What the passes over the rows of a record find of each column.
+use Prim.Native.Nat.{ℕ, zero, suc, _+_, _-_, _*_, _%_, _≤_, _<_}
 use mathlib.Core.Path.{_≡_}
 use mathlib.Core.Bool.{Bool, cond}
 use mathlib.Core.List.{List}
+use lib.Dec.{eqb}
 use lib.Bits.{bitOr, bitXor}
 use lib.ListN.{length, getD}
+use Rattle.matrix.specs.Bounded.{count}
 use Rattle.matrix.specs.Bytes.{bit}
 use Rattle.lanes.specs.Lists.{Holds}
 
@@ -23,9 +25,21 @@ unfoldable pub paired : ℕ → (ℕ → ℕ) → ℕ
 paired zero f = 0
 paired (suc r) f = bitXor (paired r f) (f r)
 
--- the numbers below r that pass, merged: 0 where none passes, the one that passes where just one does
+-- how many of the numbers below r have an odd number that pass among those up to them: where just one passes, those from it on
+unfoldable pub since : ℕ → (ℕ → Bool) → ℕ
+since zero f = 0
+since (suc r) f = since r f + count (suc r) f % 2
+
+-- the one that passes of the numbers below n, where just one does; 0 where none does
+abbrev pub placeOf : ℕ → ℕ → ℕ
+placeOf n a = cond (eqb a 0) 0 (n - a)
+
 abbrev pub markOf : ℕ → (ℕ → Bool) → ℕ
-markOf r f = merged r (λ v. cond (f v) v 0)
+markOf n f = placeOf n (since n f)
+
+-- 1 where a test fails, else 0
+abbrev pub faultOf : Bool → ℕ
+faultOf t = cond t 0 1
 
 -- the byte of row r and byte column j, where a row has m bytes and the first row begins at byte 7
 abbrev pub byteAt : List ℕ → ℕ → ℕ → ℕ → ℕ
@@ -35,28 +49,33 @@ byteAt b m r j = getD b (7 + r * m + j) 0
 abbrev pub bitIn : List ℕ → ℕ → ℕ → ℕ → ℕ → Bool
 bitIn b m k j r = bit k (byteAt b m r j)
 
--- The four lists after r rows: the bits seen in each of the m byte columns; and of each of the first w, the low bits added up, which is the
--- number of rows that have bit 0 (own) and twice that of rows that have bit 1 (control), the bits that an odd number of rows have, and the
--- numbers of the rows that have bit 0, merged.
-pub record Lanes (b : List ℕ) (m w r : ℕ) (seen tally odd marks : List ℕ) : Type 0 where
-  pub saw : Holds 512 m (λ j. merged r (λ v. byteAt b m v j)) seen
-  pub counted : Holds 128 w (λ j. lows r (λ v. byteAt b m v j)) tally
-  pub parity : Holds 128 w (λ j. paired r (λ v. byteAt b m v j)) odd
-  pub owner : Holds 128 w (λ j. markOf r (bitIn b m 0 j)) marks
+-- the cell from byte `at` on, as the code reads it: the first byte is the lower one
+abbrev pub wordIn : List ℕ → ℕ → ℕ
+wordIn b at = getD b at 0 + getD b (at + 1) 0 * 256
 
--- the sizes for which the lists have room
-pub record Room (b : List ℕ) (m w r at : ℕ) : Type 0 where
-  pub bytes : m ≤ 512
-  pub width : w ≤ 128
-  pub inside : w ≤ m
-  pub row : r < 64
-  pub place : at ≡ 7 + r * m
-  pub fits : at + m ≤ length b
+-- the cell of row r and column c, where a row has k cells
+abbrev pub wordAt : List ℕ → ℕ → ℕ → ℕ → ℕ
+wordAt b k r c = wordIn b (7 + r * (2 * k) + 2 * c)
 
--- bytes that hold n rows of m bytes each, for which the lists have room
-pub record Matrix (b : List ℕ) (n m w : ℕ) : Type 0 where
-  pub bytes : m ≤ 512
-  pub width : w ≤ 128
-  pub inside : w ≤ m
+-- the low byte of the cell of row r and column c, which has the own and the control bit
+abbrev pub lowAt : List ℕ → ℕ → ℕ → ℕ → ℕ
+lowAt b k r c = byteAt b (2 * k) r (2 * c + 1)
+
+-- The bits that are seen in each column from `from` on, after r rows.
+pub record Seen (b : List ℕ) (k r from : ℕ) (seen : List ℕ) : Type 0 where
+  pub size : length seen ≡ 256
+  pub value : (c : ℕ) → from ≤ c → c < k → getD seen c 0 ≡ merged r (λ v. wordAt b k v c)
+
+-- Of each subject below n: the low bits of its column added up, which is the number of its owners and twice that of those that control it;
+-- the bits that an odd number of rows have; and its owner, where it has just one, or 0 where it has none.
+pub record Counted (b : List ℕ) (n k : ℕ) (tally odd marks : List ℕ) : Type 0 where
+  pub sums : Holds 64 n (λ s. lows n (λ v. lowAt b k v s)) tally
+  pub parity : Holds 64 n (λ s. paired n (λ v. lowAt b k v s)) odd
+  pub owner : Holds 64 n (λ s. markOf n (bitIn b (2 * k) 0 (2 * s + 1))) marks
+
+-- bytes that hold n rows of k cells each, for which the lists have room
+pub record Matrix (b : List ℕ) (n k : ℕ) : Type 0 where
+  pub cells : k ≤ 256
+  pub inside : n ≤ k
   pub rows : n ≤ 64
-  pub holds : 7 + n * m ≤ length b
+  pub holds : 7 + n * (2 * k) ≤ length b

@@ -2,5 +2,4 @@ pub mod Lists
 pub mod Lanes
 pub mod LaneLaws
 pub mod Zeros
-pub mod RowLaws
 pub mod Passing

@@ -1,12 +1,15 @@
 -- Lists that a loop fills from the front, and what a filled list holds.
-use Prim.Native.Nat.{ℕ, _+_, _≤_, _<_}
+use Prim.Native.Nat.{ℕ, _+_, _-_, _≤_, _<_}
 use native.Mathlib.Omega.{arith}
 use native.Mathlib.Nat.{not-suc-le-zero}
 use mathlib.Core.Path.{_≡_, refl, sym, _∙_, ap, subst}
 use mathlib.Core.Logic.{⊎-elim}
 use mathlib.Core.List.{List}
+use lib.Dec.{ltb}
 use lib.ListN.{length, getD, set, length-set}
 use lib.Seq.{getD-set-same, getD-set-other}
+use borrow.Author.Tests.{ltb-true, ltb-false}
+use Rattle.laws.specs.Tests.{way}
 use Rattle.laws.specs.Bounded.{below-suc}
 
 -- a list of a known length that holds g below m
@@ -24,19 +27,25 @@ pub record Stored (m : ℕ) (g : ℕ → ℕ) (old new : List ℕ) : Type 0 wher
 pub stored-none : (g : ℕ → ℕ) (old : List ℕ) → Stored 0 g old old
 stored-none g old = record { size = refl; below = λ j h. absurd (not-suc-le-zero h); above = λ j h. refl }
 
+-- where the places from lo on hold g below m, one more does when the value at m is written
+pub set-more : (lo m : ℕ) (g : ℕ → ℕ) (l : List ℕ) (v : ℕ) → ((j : ℕ) → lo ≤ j → j < m → getD l j 0 ≡ g j) → m < length l → v ≡ g m
+    → (j : ℕ) → lo ≤ j → j < m + 1 → getD (set l m v) j 0 ≡ g j
+set-more lo m g l v s h e j f b = ⊎-elim earlier here (below-suc j m (omega arith))
+  where
+    earlier : j < m → getD (set l m v) j 0 ≡ g j
+    earlier q = getD-set-other l m j v 0 (omega arith) ∙ s j f q
+
+    here : j ≡ m → getD (set l m v) j 0 ≡ g j
+    here q = subst (λ (i : ℕ). getD (set l m v) i 0 ≡ g i) (sym q) (getD-set-same l m v 0 h ∙ e)
+
 -- one more is stored
 pub stored-step : (m : ℕ) (g : ℕ → ℕ) (old new : List ℕ) (v : ℕ) → Stored m g old new → m < length new → v ≡ g m → Stored (m + 1) g old (set new m v)
 stored-step m g old new v s h e =
-    record { size = length-set new m v ∙ s .size; below = λ j l. ⊎-elim (earlier j) (here j) (below-suc j m (omega arith)); above = later }
-  where
-    earlier : (j : ℕ) → j < m → getD (set new m v) j 0 ≡ g j
-    earlier j l = getD-set-other new m j v 0 (omega arith) ∙ s .below j l
-
-    here : (j : ℕ) → j ≡ m → getD (set new m v) j 0 ≡ g j
-    here j q = subst (λ (i : ℕ). getD (set new m v) i 0 ≡ g i) (sym q) (getD-set-same new m v 0 h ∙ e)
-
-    later : (j : ℕ) → m + 1 ≤ j → getD (set new m v) j 0 ≡ getD old j 0
-    later j l = getD-set-other new m j v 0 (omega arith) ∙ s .above j (omega arith)
+    record {
+      size = length-set new m v ∙ s .size;
+      below = λ j l. set-more 0 m g new v (λ i f. s .below i) h e j (omega arith) l;
+      above = λ j l. getD-set-other new m j v 0 (omega arith) ∙ s .above j (omega arith);
+    }
 
 -- the loop's end: what is stored below j is stored below m, where j has come to m
 pub stored-done : (j m : ℕ) (g : ℕ → ℕ) (old new : List ℕ) → j ≤ m → m ≤ j → Stored j g old new → Stored m g old new
@@ -47,3 +56,57 @@ pub holds-next : (room m : ℕ) (g h : ℕ → ℕ) (step : ℕ → ℕ → ℕ)
     → Stored m (λ j. step (getD old j 0) j) old new → ((j : ℕ) → j < m → step (g j) j ≡ h j) → Holds room m h new
 holds-next room m g h step old new f s e =
     record { size = s .size ∙ f .size; value = λ j l. s .below j l ∙ ap (λ (x : ℕ). step x j) (f .value j l) ∙ e j l }
+
+-- from place `at` on, the list `new` holds w values of g; before that place it is still `old`
+pub record Filled (at w : ℕ) (g : ℕ → ℕ) (old new : List ℕ) : Type 0 where
+  pub size : length new ≡ length old
+  pub inside : (c : ℕ) → at ≤ c → c < at + w → getD new c 0 ≡ g c
+  pub before : (c : ℕ) → c < at → getD new c 0 ≡ getD old c 0
+
+-- nothing is filled yet, one place more is, and the loop's end
+pub filled-none : (at : ℕ) (g : ℕ → ℕ) (old : List ℕ) → Filled at 0 g old old
+filled-none at g old = record { size = refl; inside = λ c f b. absurd (omega arith); before = λ c b. refl }
+
+pub filled-step : (at w : ℕ) (g : ℕ → ℕ) (old new : List ℕ) (v : ℕ) → Filled at w g old new → at + w < length new → v ≡ g (at + w)
+    → Filled at (w + 1) g old (set new (at + w) v)
+filled-step at w g old new v s h e =
+    record {
+      size = length-set new (at + w) v ∙ s .size;
+      inside = λ c f b. set-more at (at + w) g new v (s .inside) h e c f (omega arith);
+      before = λ c b. getD-set-other new (at + w) c v 0 (omega arith) ∙ s .before c b;
+    }
+
+pub filled-done : (j w at : ℕ) (g : ℕ → ℕ) (old new : List ℕ) → j ≤ w → w ≤ j → Filled at j g old new → Filled at w g old new
+filled-done j w at g old new h l s = subst (λ (i : ℕ). Filled at i g old new) (omega arith) s
+
+-- w places from `start` on that lie below k and bring those that are reached from below c to below c + w
+pub record Part (w k c start : ℕ) : Type 0 where
+  pub within : start + w ≤ k
+  pub near : start ≤ c
+  pub far : (x : ℕ) → x < c + w → x < k → x < start + w
+
+-- the next part, and the last one, where the next would go beyond k
+pub part-next : (w k c start : ℕ) → c + w ≤ k → start ≡ c → Part w k c start
+part-next w k c start h e = record { within = omega arith; near = omega arith; far = λ x l b. omega arith }
+
+pub part-last : (w k c start : ℕ) → w ≤ k → k < c + w → start ≡ k - w → Part w k c start
+part-last w k c start h l e = record { within = omega arith; near = omega arith; far = λ x f b. omega arith }
+
+-- of the places from `from` on below k, those below c hold g
+pub record Reached (room from c k : ℕ) (g : ℕ → ℕ) (l : List ℕ) : Type 0 where
+  pub size : length l ≡ room
+  pub value : (x : ℕ) → from ≤ x → x < c → x < k → getD l x 0 ≡ g x
+
+-- none is reached yet, and one part more
+pub reached-none : (room from k : ℕ) (g : ℕ → ℕ) (l : List ℕ) → length l ≡ room → Reached room from from k g l
+reached-none room from k g l z = record { size = z; value = λ x a h b. absurd (omega arith) }
+
+pub reached-part : (room from c k start w : ℕ) (g : ℕ → ℕ) (old new : List ℕ) → Reached room from c k g old → Part w k c start → Filled start w g old new
+    → Reached room from (c + w) k g new
+reached-part room from c k start w g old new s p f =
+    record {
+      size = f .size ∙ s .size;
+      value = λ x a h b.
+          ⊎-elim (λ e. let q : x < start = ltb-true x start e in f .before x q ∙ s .value x a (omega (arith, p .near)) b)
+          (λ e. f .inside x (ltb-false x start e) (p .far x h b)) (way (ltb x start));
+    }

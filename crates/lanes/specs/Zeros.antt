@@ -2,13 +2,14 @@
 use Prim.Native.Nat.{ℕ, zero, suc, _+_, _≤_}
 use native.Mathlib.Omega.{arith}
 use mathlib.Core.Path.{_≡_, refl, _∙_, ap, subst}
-use mathlib.Core.Bool.{Bool, true, _&&_}
+use mathlib.Core.Bool.{Bool, true, false, _&&_}
 use lib.Dec.{eqb}
 use lib.Bits.{bitOr, bitAnd, or-add-and, and-le-l, and-le-r}
 use borrow.Author.Tests.{eqb-true, eq-eqb}
 use Rattle.matrix.specs.Bounded.{all}
 use Rattle.laws.specs.Tests.{same-test, and-left, and-right, and-both}
-use Rattle.lanes.specs.Lanes.{merged}
+use Rattle.laws.specs.Bounded.{all-same}
+use Rattle.lanes.specs.Lanes.{merged, faultOf}
 use Rattle.lanes.specs.LaneLaws.{merged-step}
 
 -- bytes merged one after another
@@ -44,3 +45,16 @@ pub merged-zero : (n : ℕ) (f : ℕ → ℕ) → eqb (merged n f) 0 ≡ all n (
 unfolding merged all
 merged-zero zero f = refl
 merged-zero (suc n) f = or-zero (merged n f) (f n) ∙ ap (λ (t : Bool). t && eqb (f n) 0) (merged-zero n f)
+
+-- where the first test passes, there is no fault yet
+pub first-fault : (f : ℕ → Bool) → f 0 ≡ true → 0 ≡ merged 1 (λ i. faultOf (f i))
+unfolding merged
+first-fault f e = rw e refl
+
+-- no test has a fault
+pub no-fault : (n : ℕ) (f : ℕ → Bool) → eqb (merged n (λ i. faultOf (f i))) 0 ≡ all n f
+no-fault n f = merged-zero n (λ i. faultOf (f i)) ∙ all-same n _ _ (λ i l. one (f i))
+  where
+    one : (t : Bool) → eqb (faultOf t) 0 ≡ t
+    one true = refl
+    one false = refl

@@ -1,20 +1,22 @@
 -- Tables of owners: what each entry is come to by.
-use Prim.Native.Nat.{ℕ, _+_, _*_, _<_}
+use Prim.Native.Nat.{ℕ, zero, suc, _+_, _≤_, _<_}
 use native.Mathlib.Omega.{arith}
-use mathlib.Core.Path.{_≡_, sym, _∙_, ap}
-use mathlib.Core.Bool.{Bool, true}
+use mathlib.Core.Path.{_≡_, refl, sym, _∙_, ap}
+use mathlib.Core.Logic.{_⊎_, inl, inr, ⊎-elim}
+use mathlib.Core.Bool.{Bool, true, false, cond}
 use mathlib.Core.List.{List}
-use lib.Dec.{eqb}
+use lib.Dec.{eqb, ltb}
 use lib.ListN.{length, getD}
-use borrow.Author.Tests.{eqb-true, eq-eqb}
+use borrow.Author.Tests.{eqb-true, eq-eqb, ne-eqb, ltb-true}
 use Rattle.matrix.specs.Bounded.{all}
+use Rattle.laws.specs.Tests.{way}
 use Rattle.laws.specs.Bounded.{all-same, all-each, each-all}
 use Rattle.lanes.specs.Lists.{Stored}
 use Rattle.owner_table.specs.Followed.{followed, followed-add, followed-below}
 
 -- the owner of subject s
 abbrev pub ownerIn : List ℕ → ℕ → ℕ
-ownerIn marks s = getD marks (2 * s + 1) 0
+ownerIn marks s = getD marks s 0
 
 -- a table of 64 that holds for each subject the one that is come to by following f j times
 pub record Follows (n : ℕ) (f : ℕ → ℕ) (j : ℕ) (l : List ℕ) : Type 0 where
@@ -25,10 +27,14 @@ pub record Follows (n : ℕ) (f : ℕ → ℕ) (j : ℕ) (l : List ℕ) : Type 0
 pub record Inside (n : ℕ) (f : ℕ → ℕ) : Type 0 where
   pub below : (s : ℕ) → s < n → f s < n
 
+-- the entry of U is U, and that of another subject has a lower number
+unfoldable pub lowerTest : List ℕ → ℕ → Bool
+lowerTest t s = cond (eqb s 0) (eqb (getD t s 0) 0) (ltb (getD t s 0) s)
+
 -- a table of owners, and the table that follows it twice as far
-pub follows-once : (n : ℕ) (f : ℕ → ℕ) (old new : List ℕ) → length old ≡ 64 → Stored n f old new → Follows n f 1 new
+pub follows-once : (n : ℕ) (t : List ℕ) → length t ≡ 64 → Follows n (ownerIn t) 1 t
 unfolding followed
-follows-once n f old new e s = record { size = s .size ∙ e; value = s .below }
+follows-once n t e = record { size = e; value = λ s l. refl }
 
 pub follows-twice : (n : ℕ) (f : ℕ → ℕ) (j : ℕ) (t old new : List ℕ) → Inside n f → Follows n f j t → length old ≡ 64
     → Stored n (λ s. getD t (getD t s 0) 0) old new → Follows n f (j + j) new
@@ -55,3 +61,27 @@ rooted-twice n f j h = each-all n _ (λ s l. eq-eqb _ 0 (followed-add f j j s �
 pub follows-rooted : (n : ℕ) (f : ℕ → ℕ) (j : ℕ) (t : List ℕ) {r : Bool} → Follows n f j t → r ≡ all n (λ s. eqb (getD t s 0) 0)
     → r ≡ all n (λ s. eqb (followed f j s) 0)
 follows-rooted n f j t h e = e ∙ all-same n _ _ (λ s l. ap (λ (x : ℕ). eqb x 0) (h .value s l))
+
+-- U's test and that of another subject, as the code makes them
+pub lower-root : (t : List ℕ) (r : Bool) → eqb (getD t 0 0) 0 ≡ r → lowerTest t 0 ≡ r
+unfolding lowerTest
+lower-root t r e = e
+
+pub lower-other : (t : List ℕ) (s : ℕ) → 1 ≤ s → ltb (getD t s 0) s ≡ lowerTest t s
+unfolding lowerTest
+lower-other t s l = let z : eqb s 0 ≡ false = ne-eqb s 0 (λ q. omega arith) in rw z refl
+
+-- where each owner has a lower number, following s owners from s comes to U
+pub lower-rooted : (n : ℕ) (t : List ℕ) → n ≤ 64 → all n (lowerTest t) ≡ true → all n (λ s. eqb (followed (ownerIn t) 64 s) 0) ≡ true
+unfolding lowerTest followed
+lower-rooted n t most h = each-all n _ (λ s l. eq-eqb _ 0 (come 64 s l (omega arith)))
+  where
+    lower : (s : ℕ) → s < n → (eqb s 0 ≡ true) ⊎ (eqb s 0 ≡ false) → ((s ≡ 0) × (ownerIn t s ≡ 0)) ⊎ (ownerIn t s < s)
+    lower s l (inl z) = inl (eqb-true s 0 z, eqb-true _ 0 (rw z at (all-each n (lowerTest t) h s l)))
+    lower s l (inr z) = inr (ltb-true _ s (rw z at (all-each n (lowerTest t) h s l)))
+
+    come : (j s : ℕ) → s < n → s ≤ j → followed (ownerIn t) j s ≡ 0
+    come zero s l k = omega arith
+    come (suc j) s l k =
+        ⊎-elim (λ e. let q : ownerIn t s ≡ 0 = e .1 in come j (ownerIn t s) (omega arith) (omega arith)) (λ e. come j (ownerIn t s) (omega arith) (omega arith))
+        (lower s l (way (eqb s 0)))

@@ -6,16 +6,22 @@ ghost use lib.ListN.{length, getD};
 ghost use Rattle.matrix.specs.Bounded.{all};
 ghost use Rattle.lanes.specs.Lists.{Stored};
 ghost use Rattle.owner_table.specs.Followed.{followed};
-ghost use Rattle.owner_table.specs.Table.{ownerIn, Inside};
+ghost use Rattle.owner_table.specs.Table.{ownerIn, lowerTest, Inside};
 
-// A table of owners from what is marked for each subject's low byte column.
-fn owners(t: &mut [u8; 64], marks: &[u8; 128], n: usize)
-    requires { ⌜ (n ≤ 64) × (length (now t) ≡ 64) × (length (now marks) ≡ 128) ⌝ }
-    ensures { λ _. ⌜ Stored n (ownerIn (now (marks .entry))) (now (t .entry)) (now (t .exit)) ⌝ }
+// U's entry is U, and that of any other subject has a lower number than the subject. Those after U are all looked at, so that the compiler
+// may take many at once.
+fn descends(t: &[u8; 64], n: usize) -> bool
+    requires { ⌜ (1 ≤ n) × (n ≤ 64) × (length (now t) ≡ 64) ⌝ }
+    ensures { λ r. ⌜ r ≡ all n (lowerTest (now (t .entry))) ⌝ }
 {
-    for s in 0..n {
-        t[s] = marks[2 * s + 1];
+    if t[0] != 0 {
+        return false;
     }
+    let mut wrong: u8 = 0;
+    for s in 1..n {
+        wrong = wrong | lanes::fault(t[s] < s as u8);
+    }
+    wrong == 0
 }
 
 // A table that follows t twice.
@@ -40,29 +46,28 @@ fn all_root(t: &[u8; 64], n: usize) -> bool
     any == 0
 }
 
-// Following owners from any of the n subjects comes to U: after six doublings each entry has followed 64 owners. Where all have come to U
-// before, the rest of the doublings is left out.
-pub fn rooted(marks: &[u8; 128], n: usize) -> bool
-    requires { ⌜ (n ≤ 64) × (length (now marks) ≡ 128) × Inside n (ownerIn (now marks)) ⌝ }
-    ensures { λ r. ⌜ r ≡ all n (λ s. eqb (followed (ownerIn (now (marks .entry))) 64 s) 0) ⌝ }
+// Following owners from any of the n subjects comes to U: it does where each owner has a lower number than what it owns, and else after six
+// doublings each entry has followed 64 owners. Where all have come to U before, the rest of the doublings is left out.
+pub fn rooted(t: &[u8; 64], n: usize) -> bool
+    requires { ⌜ (1 ≤ n) × (n ≤ 64) × (length (now t) ≡ 64) × Inside n (ownerIn (now t)) ⌝ }
+    ensures { λ r. ⌜ r ≡ all n (λ s. eqb (followed (ownerIn (now (t .entry))) 64 s) 0) ⌝ }
 {
-    let mut t = [0u8; 64];
+    if descends(t, n) {
+        return true;
+    }
     let mut u = [0u8; 64];
-    owners(&mut t, marks, n);
-    if all_root(&t, n) {
+    let mut v = [0u8; 64];
+    double(t, &mut u, n);
+    double(&u, &mut v, n);
+    if all_root(&v, n) {
         return true;
     }
-    double(&t, &mut u, n);
-    double(&u, &mut t, n);
-    if all_root(&t, n) {
+    double(&v, &mut u, n);
+    double(&u, &mut v, n);
+    if all_root(&v, n) {
         return true;
     }
-    double(&t, &mut u, n);
-    double(&u, &mut t, n);
-    if all_root(&t, n) {
-        return true;
-    }
-    double(&t, &mut u, n);
-    double(&u, &mut t, n);
-    all_root(&t, n)
+    double(&v, &mut u, n);
+    double(&u, &mut v, n);
+    all_root(&v, n)
 }

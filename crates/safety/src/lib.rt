@@ -111,7 +111,7 @@ fn from_above(
     s: usize,
     x: Name,
     y: Right,
-    owners: &[u8; 128],
+    owners: &[u8; 64],
     out: &mut [u8],
 ) -> Safety
     requires { ⌜ Asks (now b) n p s x y (from-above v (listed (now path) m)) (now out) × PathOf (now path) n v m × Guessed (now b) n p (now owners) ⌝ }
@@ -136,7 +136,7 @@ fn over(
     s: usize,
     x: Name,
     y: Right,
-    owners: &[u8; 128],
+    owners: &[u8; 64],
     out: &mut [u8],
 ) -> Safety
     requires { ⌜ Asks (now b) n p s x y (wayOver (stateOf (now b)) (trustedBy trust) x) (now out) × Guessed (now b) n p (now owners) ⌝ }
@@ -180,7 +180,7 @@ fn decide(
     s: usize,
     x: Name,
     y: Right,
-    owners: &[u8; 128],
+    owners: &[u8; 64],
     out: &mut [u8],
 ) -> Safety
     requires { ⌜ Asks (now b) n p s x y (wayOf (stateOf (now b)) (trustedBy trust) s x y) (now out) × Guessed (now b) n p (now owners) ⌝ }
@@ -217,7 +217,7 @@ fn within_bounds(n: usize, p: usize, trust: u64, s: usize, o: usize, right: usiz
 pub fn ask(b: &[u8], trust: u64, s: usize, o: usize, right: usize, out: &mut [u8]) -> Safety
     ensures { λ r. ⌜ Answers (now (b .entry)) trust s o right (now (out .entry)) (now (out .exit)) r ⌝ }
 {
-    let mut owners = [0u8; 128];
+    let mut owners = [0u8; 64];
     let turned = validity::refusal_with(b, &mut owners);
     if turned != 0 {
         return Safety::Refused(turned);

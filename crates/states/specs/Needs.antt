@@ -34,4 +34,4 @@ pub record BitIn (b : List ℕ) (n p : ℕ) (y : Right) (w : ℕ) (x : Name) : T
 pub record Guessed (b : List ℕ) (n p : ℕ) (owners : List ℕ) : Type 0 where
   pub station : Station b n p
   pub valid : Valid (stateOf b)
-  pub size : length owners ≡ 128
+  pub size : length owners ≡ 64

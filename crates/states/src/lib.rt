@@ -113,11 +113,11 @@ pub fn controlled(b: &[u8], n: usize, p: usize, o: usize) -> bool
 
 // The owner of subject v in a valid record, or n if it has none. The byte of v in the table `owners` is only a guess: it counts where that
 // row owns v, since no other does. Where it doesn't, the owner is searched.
-pub fn owner_of(b: &[u8], n: usize, p: usize, owners: &[u8; 128], v: usize) -> usize
+pub fn owner_of(b: &[u8], n: usize, p: usize, owners: &[u8; 64], v: usize) -> usize
     requires { ⌜ Guessed (now b) n p (now owners) × (v < n) ⌝ }
     ensures { λ r. ⌜ r ≡ ownerOf (stateOf (now (b .entry)) .top) (stateOf (now (b .entry)) .owns) v ⌝ }
 {
-    let guess = owners[2 * v + 1];
+    let guess = owners[v];
     if guess < n as u8 {
         let w = guess as usize;
         if has_bit(b, n, p, Right::Own, w, Name::Subject(v)) {
@@ -128,7 +128,7 @@ pub fn owner_of(b: &[u8], n: usize, p: usize, owners: &[u8; 128], v: usize) -> u
 }
 
 // The owner walk from subject s for subject o in a valid record, with guesses of who owns each subject.
-pub fn owner_walk(b: &[u8], n: usize, p: usize, owners: &[u8; 128], s: usize, o: usize) -> Walked
+pub fn owner_walk(b: &[u8], n: usize, p: usize, owners: &[u8; 64], s: usize, o: usize) -> Walked
     requires { ⌜ Guessed (now b) n p (now owners) × (s < n) ⌝ }
     ensures { λ r. ⌜ r ≡ walk (stateOf (now (b .entry))) s (Name.Subject o) ⌝ }
 {

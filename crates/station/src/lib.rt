@@ -35,7 +35,7 @@ pub fn command(b: &mut [u8], code: u64, i: u64, s: u64, o: u64, k: u64) -> Answe
     ensures answer { λ r. ⌜ r ≡ commandAnswer (now (b .entry)) (fieldsOf code i s o k) ⌝ }
     ensures bytes { λ r. ⌜ now (b .exit) ≡ commandBytes (now (b .entry)) (fieldsOf code i s o k) ⌝ }
 {
-    let mut owners = [0u8; 128];
+    let mut owners = [0u8; 64];
     let turned = validity::refusal_with(b, &mut owners);
     if turned != 0 {
         return Answer::Refused(turned, 0);
@@ -57,7 +57,7 @@ pub fn run(b: &mut [u8], l: &[u8]) -> Outcome
     ensures answer { λ r. ⌜ r ≡ runAnswer (now (b .entry)) (now (l .entry)) ⌝ }
     ensures bytes { λ r. ⌜ now (b .exit) ≡ runBytes (now (b .entry)) (now (l .entry)) ⌝ }
 {
-    let mut owners = [0u8; 128];
+    let mut owners = [0u8; 64];
     let turned = validity::refusal_with(b, &mut owners);
     if turned != 0 {
         return Outcome {

@@ -1,5 +1,5 @@
 -- The bits of a record's cells, by their place among the bytes: a cell's own and control bits are in its low byte.
-use Prim.Native.Nat.{ℕ, suc, _+_, _*_, _^_, _≤_, _<_}
+use Prim.Native.Nat.{ℕ, suc, _+_, _*_, _/_, _%_, _^_, _≤_, _<_}
 use native.Mathlib.Nat.{mul-left-comm}
 use native.Mathlib.Omega.{arith}
 use mathlib.Core.Path.{_≡_, refl, sym, _∙_, ap}
@@ -25,7 +25,7 @@ use Rattle.codec.specs.Bits.{bit-low, bit-zero, any-bit}
 use Rattle.codec.specs.Codes.{codeOf-rightOf}
 use Rattle.codec.specs.Cells.{cell-below}
 use Rattle.codec.specs.Update.{has-state, bitAt-cell}
-use Rattle.lanes.specs.Lanes.{byteAt, bitIn}
+use Rattle.lanes.specs.Lanes.{byteAt, bitIn, wordAt}
 use Rattle.validity.specs.Fast.{columnExists}
 use Rattle.validity.specs.Sound.{Bits}
 
@@ -58,6 +58,13 @@ cell-bytes b w c =
     even : (w k c : ℕ) → 7 + w * (2 * k) + (2 * c + 0) ≡ 7 + w * (2 * k) + 2 * c
     even w k c = omega arith
 
+-- the second byte of a cell, by its byte column
+low-byte : (b : List ℕ) (k w c : ℕ) → getD b (7 + w * (2 * k) + 2 * c + 1) 0 ≡ byteAt b (2 * k) w (2 * c + 1)
+low-byte b k w c = ap (λ (i : ℕ). getD b i 0) (place (w * (2 * k)) c)
+  where
+    place : (x c : ℕ) → 7 + x + 2 * c + 1 ≡ 7 + x + (2 * c + 1)
+    place x c = omega arith
+
 -- a number of two bytes is zero where both are
 two-zero : (hi lo : ℕ) → eqb (hi * 256 + lo) 0 ≡ (eqb hi 0 && eqb lo 0)
 two-zero hi lo = same-test _ _ forth back
@@ -67,6 +74,21 @@ two-zero hi lo = same-test _ _ forth back
 
     back : (eqb hi 0 && eqb lo 0) ≡ true → eqb (hi * 256 + lo) 0 ≡ true
     back h = let a : hi ≡ 0 = eqb-true hi 0 (and-left _ _ h) in let e : lo ≡ 0 = eqb-true lo 0 (and-right (eqb hi 0) _ h) in eq-eqb (hi * 256 + lo) 0 (omega arith)
+
+-- a cell as the code reads it: zero where both bytes are, and its own and control bits
+pub word-zero : (b : List ℕ) (k w c : ℕ) → eqb (wordAt b k w c) 0 ≡ zeroCell b (2 * k) w c
+word-zero b k w c =
+    ap (λ (x : ℕ). eqb x 0) (sum (byteAt b (2 * k) w (2 * c)) _ _ (low-byte b k w c))
+    ∙ two-zero (byteAt b (2 * k) w (2 * c + 1)) (byteAt b (2 * k) w (2 * c)) ∙ and-swap (eqb (byteAt b (2 * k) w (2 * c + 1)) 0) _
+  where
+    sum : (x y z : ℕ) → y ≡ z → x + y * 256 ≡ z * 256 + x
+    sum x y z e = omega arith
+
+    and-swap : (t u : Bool) → (t && u) ≡ (u && t)
+    and-swap true true = refl
+    and-swap true false = refl
+    and-swap false true = refl
+    and-swap false false = refl
 
 -- a zero cell has neither bit
 pub cell-bits : (b : List ℕ) (m : ℕ) → Bits (ownBit b m) (controlBit b m) (zeroCell b m)
@@ -83,6 +105,23 @@ module _ (b : List ℕ) (octets : Octets b) where
       bitAt-cell b w c r m i l ∙ ap (bit i) (cell-bytes b w c)
       ∙ ap (λ (x : ℕ). bit i (byteAt b (rowBytes b) w (2 * c) * x + byteAt b (rowBytes b) w (2 * c + 1))) (sym e)
       ∙ bit-low i h (byteAt b (rowBytes b) w (2 * c)) (byteAt b (rowBytes b) w (2 * c + 1))
+
+  -- the own and the control bit of a cell as the code reads it
+  pub word-own : (k w c : ℕ) → bit 8 (wordAt b k w c) ≡ ownBit b (2 * k) w c
+  unfolding bit
+  word-own k w c =
+      let h : getD b (7 + w * (2 * k) + 2 * c) 0 < 256 = octets .octet (7 + w * (2 * k) + 2 * c) in
+      let e : getD b (7 + w * (2 * k) + 2 * c + 1) 0 ≡ byteAt b (2 * k) w (2 * c + 1) = low-byte b k w c in
+      let q : wordAt b k w c / 256 % 2 ≡ byteAt b (2 * k) w (2 * c + 1) / 1 % 2 = omega arith in
+      ap (λ (x : ℕ). eqb x 1) q
+
+  pub word-control : (k w c : ℕ) → bit 9 (wordAt b k w c) ≡ controlBit b (2 * k) w c
+  unfolding bit
+  word-control k w c =
+      let h : getD b (7 + w * (2 * k) + 2 * c) 0 < 256 = octets .octet (7 + w * (2 * k) + 2 * c) in
+      let e : getD b (7 + w * (2 * k) + 2 * c + 1) 0 ≡ byteAt b (2 * k) w (2 * c + 1) = low-byte b k w c in
+      let q : wordAt b k w c / 512 % 2 ≡ byteAt b (2 * k) w (2 * c + 1) / 2 % 2 = omega arith in
+      ap (λ (x : ℕ). eqb x 1) q
 
   subject-name : (n s : ℕ) → s < n → nameOf n s ≡ Subject s
   subject-name n s l = rw (lt-ltb s n l) refl

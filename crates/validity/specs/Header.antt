@@ -29,13 +29,13 @@ pub record Whole (b : List ℕ) (n p : ℕ) : Type 0 where
   pub size : length b ≡ 7 + 2 * (n * (n + p))
 
 -- the bytes hold the matrix
-pub whole-matrix : (b : List ℕ) (n p : ℕ) → Whole b n p → Matrix b n (2 * (n + p)) (2 * n)
+pub whole-matrix : (b : List ℕ) (n p : ℕ) → Whole b n p → Matrix b n (n + p)
 whole-matrix b n p f =
     let h : n ≤ 64 = f .head .high in
     let g : p ≤ 192 = f .head .most in
     let e : n * (2 * (n + p)) ≡ 2 * (n * (n + p)) = mul-left-comm n 2 (n + p) in
     let l : length b ≡ 7 + 2 * (n * (n + p)) = f .size in
-    record { bytes = omega arith; width = omega arith; inside = omega arith; rows = h; holds = omega arith }
+    record { cells = omega arith; inside = omega arith; rows = h; holds = omega arith }
 
 -- the number of cells fits
 pub cells-most : (n k : ℕ) → n ≤ 64 → k ≤ 256 → n * k ≤ 16384

@@ -1,36 +1,52 @@
 -- What numbers merged tell of each of them.
 use Prim.Native.Nat.{ℕ, zero, suc, _+_, _*_, _/_, _%_, _<_}
+use native.Mathlib.Nat.{div-div-eq-div-mul}
 use native.Mathlib.Omega.{arith}
-use mathlib.Core.Path.{_≡_, _∙_, ap, subst}
+use mathlib.Core.Path.{_≡_, refl, sym, _∙_, ap, subst}
 use mathlib.Core.Logic.{_⊎_, inl, inr}
-use mathlib.Core.Bool.{Bool, true, false, _&&_, _||_}
+use mathlib.Core.Bool.{Bool, true, false, cond, not, _&&_, _||_}
 use lib.Dec.{eqb}
-use borrow.Author.Tests.{eqb-true, eqb-false}
+use borrow.Author.Tests.{eqb-true, eqb-false, eq-eqb, ne-eqb}
 use Rattle.matrix.specs.Bounded.{any, all}
 use Rattle.matrix.specs.Bytes.{bit}
 use Rattle.laws.specs.Tests.{way, same-test, and-left, and-right, and-both}
 use Rattle.laws.specs.Bounded.{all-each, each-all}
 use Rattle.laws.specs.BitOps.{bit-or}
 use Rattle.lanes.specs.Lanes.{merged}
-use Rattle.lanes.specs.Zeros.{merged-zero}
+use Rattle.columns.specs.Checks.{plainTest}
 use Rattle.codec.specs.Bits.{bit-zero}
-
--- two lists of them are zero together
-pub merged-zeros : (n : ℕ) (f g : ℕ → ℕ) → (eqb (merged n f) 0 && eqb (merged n g) 0) ≡ all n (λ i. eqb (f i) 0 && eqb (g i) 0)
-merged-zeros n f g = rw (merged-zero n f, merged-zero n g) (both n (λ i. eqb (f i) 0) (λ i. eqb (g i) 0))
-  where
-    both : (n : ℕ) (t u : ℕ → Bool) → (all n t && all n u) ≡ all n (λ i. t i && u i)
-    both n t u =
-        same-test _ _
-        (λ h. each-all n _ (λ i l. and-both (all-each n t (and-left _ _ h) i l) (all-each n u (and-right (all n t) _ h) i l)))
-        (λ h. and-both (each-all n t (λ i l. and-left _ _ (all-each n (λ i. t i && u i) h i l)))
-        (each-all n u (λ i l. and-right (t i) _ (all-each n (λ i. t i && u i) h i l))))
 
 -- one of them has the bit
 pub merged-bit : (k n : ℕ) (f : ℕ → ℕ) → bit k (merged n f) ≡ any n (λ i. bit k (f i))
 unfolding merged any
 merged-bit k zero f = bit-zero k
 merged-bit k (suc n) f = bit-or k (merged n f) (f n) ∙ ap (λ (t : Bool). t || bit k (f n)) (merged-bit k n f)
+
+-- a plain column, by the bits that are seen in it
+pub plain-bits : (v : ℕ) → plainTest v ≡ cond (bit 8 v) (not (bit 9 v)) (eqb v 0)
+unfolding bit
+plain-bits v = go (way (eqb (v / 256 % 2) 1)) (way (eqb (v / 512 % 2) 1))
+  where
+    half : v / 256 / 2 ≡ v / 512
+    half = div-div-eq-div-mul v 256 2
+
+    -- the lower of two bits alone
+    lower : (w : ℕ) → w % 2 ≡ 1 → (w / 2 % 2 ≡ 1 → ⊥) → w % 4 ≡ 1
+    lower w o n = let z : w / 2 % 2 ≡ 0 = omega arith in omega arith
+
+    go : (eqb (v / 256 % 2) 1 ≡ true) ⊎ (eqb (v / 256 % 2) 1 ≡ false) → (eqb (v / 512 % 2) 1 ≡ true) ⊎ (eqb (v / 512 % 2) 1 ≡ false)
+        → plainTest v ≡ cond (eqb (v / 256 % 2) 1) (not (eqb (v / 512 % 2) 1)) (eqb v 0)
+    go (inl e) (inl f) =
+        let p : v / 256 % 2 ≡ 1 = eqb-true _ 1 e in
+        let q : v / 512 % 2 ≡ 1 = eqb-true _ 1 f in
+        rw (e, f, ne-eqb (v / 256 % 4) 1 (λ h. omega (arith, half))) (ne-eqb v 0 (λ h. omega arith))
+    go (inl e) (inr f) =
+        let p : v / 256 % 2 ≡ 1 = eqb-true _ 1 e in
+        let q : v / 512 % 2 ≡ 1 → ⊥ = eqb-false _ 1 f in
+        rw (e, f, eq-eqb (v / 256 % 4) 1 (lower (v / 256) p (λ h. q (ap (λ (x : ℕ). x % 2) (sym half) ∙ h)))) refl
+    go (inr e) f =
+        let p : v / 256 % 2 ≡ 1 → ⊥ = eqb-false _ 1 e in
+        rw (e, ne-eqb (v / 256 % 4) 1 (λ h. p (omega arith))) refl
 
 -- a row of 2 k bytes is zero where each pair of them is
 pub all-pairs : (k : ℕ) (t : ℕ → Bool) → all (2 * k) t ≡ all k (λ c. t (2 * c) && t (2 * c + 1))

@@ -1,8 +1,8 @@
 -- The tests of a whole record, from those that the code makes one after another.
 use Prim.Native.Nat.{ℕ, _+_, _-_, _*_, _≤_, _<_}
 use native.Mathlib.Omega.{arith}
-use mathlib.Core.Path.{_≡_, refl, sym, _∙_, ap, subst}
-use mathlib.Core.Bool.{Bool, true, false, _&&_}
+use mathlib.Core.Path.{_≡_, refl, sym, _∙_, ap}
+use mathlib.Core.Bool.{Bool, true, false, cond, _&&_}
 use mathlib.Core.List.{List}
 use lib.Dec.{eqb, leb}
 use lib.ListN.{length, getD, replicate, length-replicate, getD-replicate}
@@ -14,43 +14,32 @@ use Rattle.matrix.specs.Shaped.{Octets}
 use Rattle.matrix.specs.Reading.{stateOf}
 use Rattle.matrix.specs.Record.{validMatrix}
 use Rattle.laws.specs.Tests.{and-left, and-right}
-use Rattle.lanes.specs.Lists.{Holds}
-use Rattle.lanes.specs.Lanes.{merged, lows, paired, Lanes}
+use Rattle.lanes.specs.Lanes.{merged, Seen, Counted}
 use Rattle.owner_table.specs.Followed.{followed}
 use Rattle.validity.specs.Fast.{testsPass}
 use Rattle.validity.specs.Cells.{ownBit, controlBit, zeroCell}
 use Rattle.validity.specs.Valid.{valid-tests}
-use Rattle.columns.specs.Checks.{subjectTest, plainTest}
+use Rattle.columns.specs.Checks.{present, subjectTest, plainTest}
 use Rattle.owner_table.specs.Table.{ownerIn, Inside}
 use Rattle.validity.specs.Passed.{all-passed, owners-inside}
 use Rattle.validity.specs.Header.{Headed, Whole}
 
 -- a table of zeros, as it is before the rows are read
-pub unread : (owners : List ℕ) → owners ≡ replicate 128 0 → length owners ≡ 128
-unread owners e = ap (λ (l : List ℕ). length l) e ∙ length-replicate {A = ℕ} 128 0
+pub unread : (owners : List ℕ) → owners ≡ replicate 64 0 → length owners ≡ 64
+unread owners e = ap (λ (l : List ℕ). length l) e ∙ length-replicate {A = ℕ} 64 0
 
--- lists of zeros, before the first row
-pub lanes-none : (b : List ℕ) (m w : ℕ) {marks : List ℕ} → m ≤ 512 → w ≤ 128 → marks ≡ replicate 128 0
-    → Lanes b m w 0 (replicate 512 0) (replicate 128 0) (replicate 128 0) marks
-unfolding merged lows paired
-lanes-none b m w h l e =
-    record {
-      saw = record { size = length-replicate {A = ℕ} 512 0; value = λ j g. getD-replicate 512 j 0 0 (omega arith) };
-      counted = zeros;
-      parity = zeros;
-      owner = subst (Holds 128 w (λ j. 0)) (sym e) zeros;
-    }
-  where
-    zeros : Holds 128 w (λ j. 0) (replicate 128 0)
-    zeros = record { size = length-replicate {A = ℕ} 128 0; value = λ j g. getD-replicate 128 j 0 0 (omega arith) }
+-- nothing is seen before the first row
+pub seen-none : (b : List ℕ) (k from : ℕ) → k ≤ 256 → Seen b k 0 from (replicate 256 0)
+unfolding merged
+seen-none b k from h = record { size = length-replicate {A = ℕ} 256 0; value = λ c g l. getD-replicate 256 c 0 0 (omega arith) }
 
-module _ (b : List ℕ) (n p : ℕ) (seen tally odd marks : List ℕ) (whole : Whole b n p) (octets : Octets b)
-    (lanes : Lanes b (2 * (n + p)) (2 * n) n seen tally odd marks) where
+module _ (b : List ℕ) (n p : ℕ) (full : Bool) (seen tally odd marks : List ℕ) (whole : Whole b n p) (octets : Octets b)
+    (all-here : full ≡ all n (present b (2 * (n + p)))) (saw : Seen b (n + p) n (cond full n 0) seen) (kept : Counted b n (n + p) tally odd marks) where
   abbrev S : Bool
   S = all n (subjectTest b (2 * (n + p)) seen tally odd)
 
   abbrev P : Bool
-  P = all p (λ i. plainTest seen (2 * (n + i)))
+  P = all p (λ i. plainTest (getD seen (n + i) 0))
 
   abbrev R : Bool
   R = all n (λ s. eqb (followed (ownerIn marks) 64 s) 0)
@@ -61,19 +50,19 @@ module _ (b : List ℕ) (n p : ℕ) (seen tally odd marks : List ℕ) (whole : W
       let most : n ≤ 64 = whole .head .high in
       let e : n ≡ shapeOf b .n = whole .head .subjects in
       let q : p ≡ shapeOf b .p = whole .head .plain in
-      all-passed b n (n + p) (2 * (n + p)) seen tally odd marks lanes refl (omega arith) p refl some
+      all-passed b octets n (n + p) full seen tally odd marks all-here saw kept (omega arith) p refl some
       ∙ (λ i. testsPass (e i) (q i) (ownBit b (2 * (e i + q i))) (controlBit b (2 * (e i + q i))) (zeroCell b (2 * (e i + q i))))
       ∙ valid-tests b octets (omega arith) (omega arith)
 
   pub table-inside : S ≡ true → P ≡ true → Inside n (ownerIn marks)
-  table-inside = owners-inside b n (n + p) (2 * (n + p)) seen tally odd marks lanes refl (omega arith) p refl (whole .head .low)
+  table-inside = owners-inside b octets n (n + p) full seen tally odd marks all-here saw kept (omega arith) p refl (whole .head .low)
 
   -- an answer, with the size of the table of owners
   abbrev Judged : Bool → Type 0
-  Judged r = (r ≡ validMatrix (shapeOf b) (stateOf b)) × (length marks ≡ 128)
+  Judged r = (r ≡ validMatrix (shapeOf b) (stateOf b)) × (length marks ≡ 64)
 
   judged : (r : Bool) → r ≡ validMatrix (shapeOf b) (stateOf b) → Judged r
-  judged r e = (e, lanes .owner .size)
+  judged r e = (e, kept .owner .size)
 
   -- a subject is wrong; a plain column is wrong; what is left is whether every owner is followed to U
   pub subjects-wrong : S ≡ false → Judged false

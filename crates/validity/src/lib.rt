@@ -10,19 +10,23 @@ ghost use Rattle.matrix.specs.Reading.{stateOf};
 ghost use Rattle.matrix.specs.Record.{validMatrix, recordRefusal};
 ghost use Rattle.validity.specs.Header.{Headed, Whole};
 
-// The matrix of a record of n subject names and p plain names is valid. The table `owners`, of zeros at first, is left with a guess of who
+// The matrix of a record of n subject names and p plain names is valid. Where all subjects exist, what is seen in their columns is not
+// needed. The table `owners`, of zeros at first, is left with a guess of who
 // owns each subject, of which nothing is promised.
-fn valid(b: &[u8], n: usize, p: usize, owners: &mut [u8; 128]) -> bool
-    requires { ⌜ Whole (now b) n p × (now owners ≡ replicate 128 0) ⌝ }
+fn valid(b: &[u8], n: usize, p: usize, owners: &mut [u8; 64]) -> bool
+    requires { ⌜ Whole (now b) n p × (now owners ≡ replicate 64 0) ⌝ }
     ensures verdict { λ r. ⌜ r ≡ validMatrix (shapeOf (now (b .entry))) (stateOf (now (b .entry))) ⌝ }
-    ensures table { λ r. ⌜ length (now (owners .exit)) ≡ 128 ⌝ }
+    ensures table { λ r. ⌜ length (now (owners .exit)) ≡ 64 ⌝ }
 {
-    let mut seen = [0u8; 512];
-    let mut tally = [0u8; 128];
-    let mut odd = [0u8; 128];
-    let m = 2 * (n + p);
-    rows::scan(&mut seen, &mut tally, &mut odd, owners, b, n, m, 2 * n);
-    if !columns::subjects(b, &seen, &tally, &odd, n, m) {
+    let k = n + p;
+    let mut tally = [0u8; 64];
+    let mut odd = [0u8; 64];
+    counting::count(&mut tally, &mut odd, owners, b, n, k);
+    let full = columns::all_present(b, n, k);
+    let mut seen = [0u16; 256];
+    let from = if full { n } else { 0 };
+    merging::merge(&mut seen, b, n, k, from);
+    if !columns::subjects(b, &seen, &tally, &odd, n, k, full) {
         return false;
     }
     if !columns::plains(&seen, n, p) {
@@ -67,10 +71,10 @@ fn right_size(b: &[u8], n: usize, p: usize) -> bool
 
 // The refusal, 1 to 5, of a record, or 0 if it is valid. The table `owners`, of zeros at first, is left with a guess of who owns each
 // subject, for callers that follow owners: they test each guess, so nothing is promised of it.
-pub fn refusal_with(b: &[u8], owners: &mut [u8; 128]) -> usize
-    requires { ⌜ now owners ≡ replicate 128 0 ⌝ }
+pub fn refusal_with(b: &[u8], owners: &mut [u8; 64]) -> usize
+    requires { ⌜ now owners ≡ replicate 64 0 ⌝ }
     ensures refusal { λ r. ⌜ r ≡ recordRefusal (now (b .entry)) ⌝ }
-    ensures table { λ r. ⌜ length (now (owners .exit)) ≡ 128 ⌝ }
+    ensures table { λ r. ⌜ length (now (owners .exit)) ≡ 64 ⌝ }
 {
     if b.len() < 7 {
         return 1;
@@ -93,6 +97,6 @@ pub fn refusal_with(b: &[u8], owners: &mut [u8; 128]) -> usize
 pub fn refusal(b: &[u8]) -> usize
     ensures { λ r. ⌜ r ≡ recordRefusal (now (b .entry)) ⌝ }
 {
-    let mut owners = [0u8; 128];
+    let mut owners = [0u8; 64];
     refusal_with(b, &mut owners)
 }

@@ -24,7 +24,7 @@ pub struct Verdict {
 }
 
 // Test 13: the walk from s must not meet o.
-fn own_transferred(b: &[u8], n: usize, p: usize, owners: &[u8; 128], c: Command) -> Verdict
+fn own_transferred(b: &[u8], n: usize, p: usize, owners: &[u8; 64], c: Command) -> Verdict
     requires { ⌜ Entitled (now b) n p c × (c .act ≡ Act.Transfer Right.Own) × Guessed (now b) n p (now owners) ⌝ }
     ensures { λ v. ⌜ JudgedLate (stateOf (now (b .entry))) c v ⌝ }
 {
@@ -75,7 +75,7 @@ fn control_granted(b: &[u8], n: usize, p: usize, c: Command) -> Verdict
 }
 
 // The tests 13 and 14 of a transfer or a grant of the right y.
-fn transferred(b: &[u8], n: usize, p: usize, owners: &[u8; 128], c: Command, y: Right) -> Verdict
+fn transferred(b: &[u8], n: usize, p: usize, owners: &[u8; 64], c: Command, y: Right) -> Verdict
     requires { ⌜ Entitled (now b) n p c × (c .act ≡ Act.Transfer y) × Guessed (now b) n p (now owners) ⌝ }
     ensures { λ v. ⌜ JudgedLate (stateOf (now (b .entry))) c v ⌝ }
 {
@@ -110,7 +110,7 @@ fn granted(b: &[u8], n: usize, p: usize, c: Command, y: Right) -> Verdict
 }
 
 // The tests 12 to 14.
-fn judge_late(b: &[u8], n: usize, p: usize, owners: &[u8; 128], c: Command) -> Verdict
+fn judge_late(b: &[u8], n: usize, p: usize, owners: &[u8; 64], c: Command) -> Verdict
     requires { ⌜ CommandIn (now b) n p c × (kindFits (kindOf (c .act)) (c .o) ≡ true) × Guessed (now b) n p (now owners) ⌝ }
     ensures { λ v. ⌜ JudgedLate (stateOf (now (b .entry))) c v ⌝ }
 {
@@ -169,7 +169,7 @@ fn judge_early(b: &[u8], n: usize, p: usize, c: Command, kind: Kind) -> usize
 }
 
 // The verdict on a command, with guesses of who owns each subject for the walk.
-pub fn judge(b: &[u8], n: usize, p: usize, owners: &[u8; 128], c: Command, kind: Kind) -> Verdict
+pub fn judge(b: &[u8], n: usize, p: usize, owners: &[u8; 64], c: Command, kind: Kind) -> Verdict
     requires { ⌜ CommandIn (now b) n p c × (kind ≡ kindOf (c .act)) × Guessed (now b) n p (now owners) ⌝ }
     ensures { λ v. ⌜ Judged (stateOf (now (b .entry))) c v ⌝ }
 {

@@ -1,18 +1,18 @@
 -- `columns::plains` meets its contract. The invariant: `wrong` is what is wrong with the first i plain columns, merged.
 use borrow.Author.Needs.{needs}
-use Prim.Native.Nat.{ℕ, _+_, _*_, _-_, _≤_}
+use Prim.Native.Nat.{ℕ, _+_, _-_, _≤_}
 use mathlib.Core.Path.{_≡_, _∙_, ap}
 use lib.Bits.{bitOr}
 use lib.ListN.{getD}
 use Rattle.lanes.specs.Lanes.{merged}
-use Rattle.columns.specs.Checks.{plainWrong}
 use Rattle.lanes.specs.Zeros.{merged-none, merged-more, merged-done}
+use Rattle.columns.specs.Checks.{plainWrong}
 use Rattle.columns.specs.Loops.{plains-right}
 use Rattle.columns.proofs.plains.Statement.{statement}
 use Rattle.columns.proofs.plains.Tie as tie
 
 abbrev Inv-loop : tie.InvT-loop
-Inv-loop seen n p wrong₀ i₀ wrong i = (i ≤ p) × (wrong ≡ merged i (λ k. plainWrong (getD seen (2 * (n + k)) 0) (getD seen (2 * (n + k) + 1) 0)))
+Inv-loop seen n p wrong₀ i₀ wrong i = (i ≤ p) × (wrong ≡ merged i (λ k. plainWrong (getD seen (n + k) 0)))
 
 abbrev μ-loop : tie.MeasureT-loop
 μ-loop seen n p wrong₀ i₀ wrong i = p - i
@@ -20,20 +20,14 @@ abbrev μ-loop : tie.MeasureT-loop
 loop-holds : tie.Need-loop-holds Inv-loop μ-loop
 loop-holds c = (search needs, merged-none _)
 
-add-j : tie.Need-add-j Inv-loop μ-loop
-add-j c = search needs
-
-mul-j : tie.Need-mul-j Inv-loop μ-loop
-mul-j c = search needs
-
-element-copy-out-plain-wrong : tie.Need-element-copy-out-plain-wrong Inv-loop μ-loop
-element-copy-out-plain-wrong c = search needs
-
 add-plain-wrong : tie.Need-add-plain-wrong Inv-loop μ-loop
 add-plain-wrong c = search needs
 
-element-copy-out-plain-wrong-2 : tie.Need-element-copy-out-plain-wrong-2 Inv-loop μ-loop
-element-copy-out-plain-wrong-2 c = search needs
+mul-plain-wrong : tie.Need-mul-plain-wrong Inv-loop μ-loop
+mul-plain-wrong c = search needs
+
+element-copy-out-plain-wrong : tie.Need-element-copy-out-plain-wrong Inv-loop μ-loop
+element-copy-out-plain-wrong c = search needs
 
 plain-wrong-requires : tie.Need-plain-wrong-requires Inv-loop μ-loop
 plain-wrong-requires c κs = search needs
@@ -46,12 +40,9 @@ loop-less c = search needs
 
 loop-again : tie.Need-loop-again Inv-loop μ-loop
 loop-again c =
-    let l = c .before .before .before .before .loop in
-    let a = c .before .before .before .before .before .args in (
-      search needs,
-      ap (λ (x : ℕ). bitOr (l .wrong) x) (c .plain-wrong .ensures)
-          ∙ merged-more (l .i) (λ k. plainWrong (getD (a .seen .now) (2 * (a .n + k)) 0) (getD (a .seen .now) (2 * (a .n + k) + 1) 0)) (l .wrong) (l .inv .1),
-    )
+    let l = c .before .before .before .loop in
+    let a = c .before .before .before .before .args in
+    (search needs, ap (λ (x : ℕ). bitOr (l .wrong) x) (c .plain-wrong .ensures) ∙ merged-more (l .i) (λ k. plainWrong (getD (a .seen .now) (a .n + k) 0)) (l .wrong) (l .inv .1))
 
 returns : tie.Need-returns Inv-loop μ-loop
 returns c =
@@ -65,11 +56,9 @@ plains-spec =
     Inv-loop
     μ-loop
     loop-holds
-    add-j
-    mul-j
-    element-copy-out-plain-wrong
     add-plain-wrong
-    element-copy-out-plain-wrong-2
+    mul-plain-wrong
+    element-copy-out-plain-wrong
     plain-wrong-requires
     add-i
     loop-less

@@ -4,14 +4,14 @@ use borrow.Author.Needs.{needs}
 use Rattle.columns.proofs.subject.Statement.{statement}
 use Rattle.columns.proofs.subject.Tie as tie
 
-mul-low : tie.Need-mul-low
-mul-low c = search needs
-
-add-low : tie.Need-add-low
-add-low c = search needs
+mul-if1 : tie.Need-mul-if1
+mul-if1 c = search needs
 
 add-if1 : tie.Need-add-if1
 add-if1 c = search needs
+
+add-if1-2 : tie.Need-add-if1-2
+add-if1-2 c = search needs
 
 shared-slice-read-if1 : tie.Need-shared-slice-read-if1
 shared-slice-read-if1 c = search needs
@@ -59,9 +59,9 @@ pub subject-spec : {M : Type 1} → statement M
 subject-spec =
     tie.close
     (tie.spec
-    mul-low
-    add-low
+    mul-if1
     add-if1
+    add-if1-2
     shared-slice-read-if1
     element-copy-out-root-counts
     element-copy-out-root-counts-2

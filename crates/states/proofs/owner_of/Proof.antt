@@ -7,12 +7,6 @@ use Rattle.states.specs.Reads.{owner-is, owner-guessed}
 use Rattle.states.proofs.owner_of.Statement.{statement}
 use Rattle.states.proofs.owner_of.Tie as tie
 
-mul-guess : tie.Need-mul-guess
-mul-guess c = search needs
-
-add-guess : tie.Need-add-guess
-add-guess c = search needs
-
 element-copy-out-guess : tie.Need-element-copy-out-guess
 element-copy-out-guess c = search needs
 
@@ -40,8 +34,6 @@ pub owner-of-spec : {M : Type 1} → statement M
 owner-of-spec =
     tie.close
     (tie.spec
-    mul-guess
-    add-guess
     element-copy-out-guess
     cast-if1
     cast-w

@@ -1,44 +1,71 @@
--- `validity::valid` meets its contract. The lists of the pass hold what the tests ask for, and the tests are the five conditions.
+-- `validity::valid` meets its contract. The lists of the passes hold what the tests ask for, and the tests are the five conditions.
+use Prim.Native.Nat.{ℕ, _+_}
 use native.Mathlib.Omega.{arith}
-use mathlib.Core.Path.{sym, _∙_}
+use mathlib.Core.Path.{_≡_, refl, sym, _∙_, subst}
+use mathlib.Core.Logic.{⊎-elim}
+use mathlib.Core.Bool.{cond}
 use borrow.Author.Tests.{not-true, not-false}
 use Rattle.matrix.specs.Shaped.{Octets}
+use Rattle.lanes.specs.Lanes.{Seen}
 use Rattle.validity.specs.Header.{whole-matrix}
-use Rattle.validity.specs.Whole.{lanes-none, table-inside, subjects-wrong, plain-wrong, owners-left}
+use Rattle.validity.specs.Whole.{unread, seen-none, table-inside, subjects-wrong, plain-wrong, owners-left}
 use borrow.Author.Needs.{needs}
 use Rattle.validity.proofs.valid.Statement.{statement}
 use Rattle.validity.proofs.valid.Tie as tie
 
--- the function's entry, from after the pass over the rows
-abbrev entry : tie.After-scan → tie.After-shared-slice-known
-entry c = c .before .before .before .before .before
+-- the function's start, from after the counts and after the columns are merged
+abbrev start : tie.After-count → tie.Start
+start c = c .before .before .before .before .before
+
+abbrev counted : tie.After-merge → tie.After-count
+counted c = c .before .before .before .before
 
 -- the elements of the slice are bytes
-octets : (c : tie.After-scan) → Octets (entry c .before .args .b .now)
-octets c = record { octet = λ j. omega (arith, entry c .shared-slice-known .given j) }
+octets : (c : tie.After-merge) → Octets (start (counted c) .args .b .now)
+octets c = record { octet = λ j. omega (arith, counted c .before .before .before .before .shared-slice-known .given j) }
 
-add-m : tie.Need-add-m
-add-m c = search needs
+-- the first column that is merged
+first : (c : tie.Joined1) → c .if1 .from ≡ cond (c .before .all-present .result) (start (c .before .before) .args .n) 0
+first c = ⊎-elim (λ w. rw (w .0 .taken) (w .1)) (λ w. rw (w .0 .left) (w .1)) (c .if1 .came)
 
-mul-m : tie.Need-mul-m
-mul-m c = search needs
+add-k : tie.Need-add-k
+add-k c = search needs
 
-mul-scan : tie.Need-mul-scan
-mul-scan c = search needs
+count-requires : tie.Need-count-requires
+count-requires c κs =
+    let s = c .before .before .before .before in
+    (whole-matrix _ _ _ (s .pre .0), refl, refl, unread _ (s .pre .1))
 
-scan-requires : tie.Need-scan-requires
-scan-requires c κs =
-    let s = c .before .before .before .before .before in
+all-present-requires : tie.Need-all-present-requires
+all-present-requires c κs = whole-matrix _ _ _ (start c .pre .0)
+
+merge-requires : tie.Need-merge-requires
+merge-requires c κs =
+    let j = c .before in
+    let s = start (j .before .before) in
     let h = whole-matrix (s .args .b .now) (s .args .n) (s .args .p) (s .pre .0) in
-    (h, lanes-none _ _ _ (h .bytes) (h .width) (s .pre .1))
+    (h, seen-none _ _ _ (h .cells))
+
+-- what is seen, by whether all subjects exist
+seen : (c : tie.After-merge)
+    → Seen (start (counted c) .args .b .now) (start (counted c) .args .n + start (counted c) .args .p) (start (counted c) .args .n)
+    (cond (c .before .before .before .all-present .result) (start (counted c) .args .n) 0) (c .merge .last .0)
+seen c =
+    let a = start (counted c) .args in
+    subst (λ (i : ℕ). Seen (a .b .now) (a .n + a .p) (a .n) i (c .merge .last .0)) (first (c .before .before)) (c .merge .ensures)
 
 subjects-requires : tie.Need-subjects-requires
-subjects-requires c κs = search needs
+subjects-requires c κs =
+    let m = c .before .before .before in
+    let s = start (counted m) in
+    let k = counted m .count .ensures in
+    (whole-matrix _ _ _ (s .pre .0), record { columns = seen m .size; sums = k .sums .size; parity = k .parity .size }, s .pre .0 .head .low, m .before .before .before .all-present .ensures)
 
 returns : tie.Need-returns
 returns c =
-    let f = c .before .before .before .before .before in
-    subjects-wrong _ _ _ _ _ _ _ (entry f .before .pre .0) (octets f) (f .scan .ensures) (sym (c .before .subjects .ensures) ∙ not-true _ (c .if1 .taken))
+    let m = c .before .before .before .before .before in
+    subjects-wrong _ _ _ _ _ _ _ _ (start (counted m) .pre .0) (octets m) (m .before .before .before .all-present .ensures) (seen m) (counted m .count .ensures)
+    (sym (c .before .subjects .ensures) ∙ not-true _ (c .if2 .taken))
 
 plains-requires : tie.Need-plains-requires
 plains-requires c κs = search needs
@@ -46,38 +73,39 @@ plains-requires c κs = search needs
 returns-2 : tie.Need-returns-2
 returns-2 c =
     let e = c .before .before .before in
-    let f = e .before .before .before .before .before in
-    plain-wrong _ _ _ _ _ _ _ (entry f .before .pre .0) (octets f) (f .scan .ensures) (sym (e .before .subjects .ensures) ∙ not-false _ (e .if1 .left))
-    (sym (c .before .plains .ensures) ∙ not-true _ (c .if2 .taken))
+    let m = e .before .before .before .before .before in
+    plain-wrong _ _ _ _ _ _ _ _ (start (counted m) .pre .0) (octets m) (m .before .before .before .all-present .ensures) (seen m) (counted m .count .ensures)
+    (sym (e .before .subjects .ensures) ∙ not-false _ (e .if2 .left)) (sym (c .before .plains .ensures) ∙ not-true _ (c .if3 .taken))
 
 rooted-requires : tie.Need-rooted-requires
 rooted-requires c κs =
     let d = c .before in
     let e = d .before .before .before in
-    let f = e .before .before .before .before .before in
-    let s = entry f .before in (
+    let m = e .before .before .before .before .before in
+    let s = start (counted m) in (
+      s .pre .0 .head .low,
       s .pre .0 .head .high,
-      f .scan .ensures .owner .size,
-      table-inside _ _ _ _ _ _ _ (s .pre .0) (octets f) (f .scan .ensures) (sym (e .before .subjects .ensures) ∙ not-false _ (e .if1 .left))
-          (sym (d .before .plains .ensures) ∙ not-false _ (d .if2 .left)),
+      counted m .count .ensures .owner .size,
+      table-inside _ _ _ _ _ _ _ _ (s .pre .0) (octets m) (m .before .before .before .all-present .ensures) (seen m) (counted m .count .ensures)
+          (sym (e .before .subjects .ensures) ∙ not-false _ (e .if2 .left)) (sym (d .before .plains .ensures) ∙ not-false _ (d .if3 .left)),
     )
 
 returns-3 : tie.Need-returns-3
 returns-3 c =
     let d = c .before .before in
     let e = d .before .before .before in
-    let f = e .before .before .before .before .before in
-    owners-left _ _ _ _ _ _ _ (entry f .before .pre .0) (octets f) (f .scan .ensures) _ (sym (e .before .subjects .ensures) ∙ not-false _ (e .if1 .left))
-    (sym (d .before .plains .ensures) ∙ not-false _ (d .if2 .left)) (c .rooted .ensures)
+    let m = e .before .before .before .before .before in
+    owners-left _ _ _ _ _ _ _ _ (start (counted m) .pre .0) (octets m) (m .before .before .before .all-present .ensures) (seen m) (counted m .count .ensures) _
+    (sym (e .before .subjects .ensures) ∙ not-false _ (e .if2 .left)) (sym (d .before .plains .ensures) ∙ not-false _ (d .if3 .left)) (c .rooted .ensures)
 
 pub valid-spec : {M : Type 1} → statement M
 valid-spec =
     tie.close
     (tie.spec
-    add-m
-    mul-m
-    mul-scan
-    scan-requires
+    add-k
+    count-requires
+    all-present-requires
+    merge-requires
     subjects-requires
     returns
     plains-requires

@@ -1,0 +1,205 @@
+-- What is counted of one column, of eight columns at once and of all, and the laws of the loops that count.
+use Prim.Native.Nat.{ℕ, zero, suc, _+_, _*_, _/_, _%_, _≤_, _<_}
+use native.Mathlib.Nat.{le-refl}
+use native.Mathlib.Omega.{arith}
+use mathlib.Core.Path.{_≡_, refl, _∙_, ap, subst}
+use mathlib.Core.List.{List}
+use lib.Bits.{bitXor, xor-shr, xor-lt}
+use lib.ListN.{length, getD, set, replicate, length-replicate, getD-replicate}
+use lib.Seq.{getD-set-same}
+use Rattle.matrix.specs.Bytes.{bit}
+use Rattle.lanes.specs.Lists.{Holds, Stored, stored-none, stored-step, Filled, filled-none, filled-step, Part, Reached, reached-none, reached-part}
+use Rattle.lanes.specs.Lanes.{lows, paired, since, placeOf, markOf, bitIn, wordIn, lowAt, Counted, Matrix}
+use Rattle.lanes.specs.LaneLaws.{lows-step, lows-le, paired-step, since-step, since-le, row-room}
+
+-- a row of eight cells from byte `at` on, and room in the three lists for what it adds
+pub record Room (b : List ℕ) (at : ℕ) (low odd since : List ℕ) : Type 0 where
+  pub fits : at + 16 ≤ length b
+  pub lows : length low ≡ 8
+  pub odds : length odd ≡ 8
+  pub counts : length since ≡ 8
+  pub low-room : (j : ℕ) → j < 8 → getD low j 0 / 256 ≤ 192
+  pub since-room : (j : ℕ) → j < 8 → getD since j 0 / 256 ≤ 192
+
+-- The columns below m of a row from byte `at` on have joined the three lists: the low bits of a cell's second byte are added to the upper part, the
+-- cell is joined by exclusive or, and where that leaves an odd number of owners one is added to the upper part.
+pub record Joined (b : List ℕ) (at m : ℕ) (low odd since low' odd' since' : List ℕ) : Type 0 where
+  pub sums : Stored m (λ j. getD low j 0 + getD b (at + 2 * j + 1) 0 % 4 * 256) low low'
+  pub parity : Stored m (λ j. bitXor (getD odd j 0) (wordIn b (at + 2 * j))) odd odd'
+  pub owned : Stored m (λ j. getD since j 0 + bitXor (getD odd j 0) (wordIn b (at + 2 * j)) / 256 % 2 * 256) since since'
+
+module _ (b : List ℕ) (at : ℕ) (low odd since : List ℕ) where
+  -- none yet, one more, whose cell is v, and all
+  pub joined-none : Joined b at 0 low odd since low odd since
+  joined-none = record { sums = stored-none _ low; parity = stored-none _ odd; owned = stored-none _ since }
+
+  pub joined-step : (m v : ℕ) (low' odd' since' : List ℕ) → Joined b at m low odd since low' odd' since' → Room b at low odd since → m < 8
+      → v ≡ wordIn b (at + 2 * m) → v / 256 ≡ getD b (at + 2 * m + 1) 0
+      → let x = bitXor (getD odd' m 0) v in
+      Joined b at (m + 1) low odd since (set low' m (getD low' m 0 + v / 256 % 4 * 256)) (set odd' m x) (set since' m (getD since' m 0 + getD (set odd' m x) m 0 / 256 % 2 * 256))
+  joined-step m v low' odd' since' s room h e u =
+      record {
+        sums = stored-step m _ low low' _ (s .sums) (omega (arith, s .sums .size, room .lows)) (omega (arith, s .sums .above m (le-refl m), u));
+        parity = stored-step m _ odd odd' _ (s .parity) inside even;
+        owned =
+            stored-step m _ since since' _ (s .owned) (omega (arith, s .owned .size, room .counts))
+            (omega (arith, s .owned .above m (le-refl m), getD-set-same odd' m (bitXor (getD odd' m 0) v) 0 inside ∙ even));
+      }
+    where
+      inside : m < length odd'
+      inside = omega (arith, s .parity .size, room .odds)
+
+      even : bitXor (getD odd' m 0) v ≡ bitXor (getD odd m 0) (wordIn b (at + 2 * m))
+      even = ap (λ (y : ℕ). bitXor y v) (s .parity .above m (le-refl m)) ∙ ap (λ (y : ℕ). bitXor (getD odd m 0) y) e
+
+  pub joined-done : (j m : ℕ) (low' odd' since' : List ℕ) → j ≤ m → m ≤ j → Joined b at j low odd since low' odd' since'
+      → Joined b at m low odd since low' odd' since'
+  joined-done j m low' odd' since' h l s = subst (λ (i : ℕ). Joined b at i low odd since low' odd' since') (omega arith) s
+
+-- what is counted of a column whose low bytes are f, after r rows
+pub record Column (f : ℕ → ℕ) (r low odd count : ℕ) : Type 0 where
+  pub sum : low ≡ lows r f
+  pub parity : odd ≡ paired r f
+  pub owned : count ≡ since r (λ v. bit 0 (f v))
+
+-- no row yet, and one row more, whose low byte is v
+pub column-none : (f : ℕ → ℕ) → Column f 0 0 0 0
+unfolding lows paired since
+column-none f = record { sum = refl; parity = refl; owned = refl }
+
+pub column-next : (f : ℕ → ℕ) (r low odd count v : ℕ) → Column f r low odd count → v ≡ f r
+    → Column f (r + 1) (low + v % 4) (bitXor odd v) (count + bitXor odd v % 2)
+column-next f r low odd count v k e =
+    record {
+      sum = ap (λ (x : ℕ). x + v % 4) (k .sum) ∙ ap (λ (x : ℕ). lows r f + x % 4) e ∙ lows-step r f;
+      parity = even;
+      owned = ap (λ (x : ℕ). x + bitXor odd v % 2) (k .owned) ∙ ap (λ (x : ℕ). since r (λ w. bit 0 (f w)) + x % 2) even ∙ since-step r f;
+    }
+  where
+    even : bitXor odd v ≡ paired (r + 1) f
+    even = ap (λ (x : ℕ). bitXor x v) (k .parity) ∙ ap (λ (x : ℕ). bitXor (paired r f) x) e ∙ paired-step r f
+
+-- the numbers stay small
+pub column-low : (f : ℕ → ℕ) (r low odd count : ℕ) → Column f r low odd count → low ≤ 3 * r
+column-low f r low odd count k = let e : low ≡ lows r f = k .sum in omega (arith, lows-le r f)
+
+pub column-count : (f : ℕ → ℕ) (r low odd count : ℕ) → Column f r low odd count → count ≤ r
+column-count f r low odd count k = let e : count ≡ since r (λ v. bit 0 (f v)) = k .owned in omega (arith, since-le r (λ v. bit 0 (f v)))
+
+pub column-odd : (f : ℕ → ℕ) (r low odd count : ℕ) → ((v : ℕ) → f v < 256) → Column f r low odd count → odd < 256
+unfolding paired
+column-odd f r low odd count bytes k = let e : odd ≡ paired r f = k .parity in omega (arith, byte r)
+  where
+    byte : (i : ℕ) → paired i f < 256
+    byte zero = omega arith
+    byte (suc i) = xor-lt 8 (paired i f) (f i) (byte i) (bytes i)
+
+-- the rows' end
+pub column-done : (f : ℕ → ℕ) (r n low odd count : ℕ) → r ≤ n → n ≤ r → Column f r low odd count → Column f n low odd count
+column-done f r n low odd count h l k = subst (λ (i : ℕ). Column f i low odd count) (omega arith) k
+
+-- eight columns from column c on, after r rows: the upper parts of the lists' numbers count
+pub record Eight (b : List ℕ) (k c r : ℕ) (low odd since : List ℕ) : Type 0 where
+  pub lows : length low ≡ 8
+  pub odds : length odd ≡ 8
+  pub counts : length since ≡ 8
+  pub column : (j : ℕ) → j < 8 → Column (λ v. lowAt b k v (c + j)) r (getD low j 0 / 256) (getD odd j 0 / 256) (getD since j 0 / 256)
+
+-- no row yet
+pub eight-none : (b : List ℕ) (k c : ℕ) → Eight b k c 0 (replicate 8 0) (replicate 8 0) (replicate 8 0)
+eight-none b k c =
+    record {
+      lows = length-replicate {A = ℕ} 8 0;
+      odds = length-replicate {A = ℕ} 8 0;
+      counts = length-replicate {A = ℕ} 8 0;
+      column = λ j l. let z : _≡_ {A = ℕ} (getD (replicate 8 0) j 0) 0 = getD-replicate 8 j 0 0 (omega arith) in rw z (column-none (λ v. lowAt b k v (c + j)));
+    }
+
+module _ (b : List ℕ) (n k c r at : ℕ) (low odd since : List ℕ) (e : Eight b k c r low odd since) (place : at ≡ 7 + r * (2 * k) + 2 * c) where
+  pub eight-room : Matrix b n k → r < n → c + 8 ≤ k → Room b at low odd since
+  eight-room m l h =
+      let small : n ≤ 64 = m .rows in
+      record {
+        fits = omega (arith, row-room b n k r m l);
+        lows = e .lows;
+        odds = e .odds;
+        counts = e .counts;
+        low-room = λ j g. omega (arith, column-low _ _ _ _ _ (e .column j g));
+        since-room = λ j g. omega (arith, column-count _ _ _ _ _ (e .column j g));
+      }
+
+  -- one row more has joined
+  pub eight-next : ((i : ℕ) → getD b i 0 < 256) → (low' odd' since' : List ℕ) → Joined b at 8 low odd since low' odd' since'
+      → Eight b k c (r + 1) low' odd' since'
+  eight-next bytes low' odd' since' s =
+      record { lows = s .sums .size ∙ e .lows; odds = s .parity .size ∙ e .odds; counts = s .owned .size ∙ e .counts; column = one }
+    where
+      upper : (j : ℕ) → bitXor (getD odd j 0) (wordIn b (at + 2 * j)) / 256 ≡ bitXor (getD odd j 0 / 256) (getD b (at + 2 * j + 1) 0)
+      upper j =
+          xor-shr (getD odd j 0) (wordIn b (at + 2 * j)) 8 ∙ ap (λ (y : ℕ). bitXor (getD odd j 0 / 256) y) (omega (arith, bytes (at + 2 * j)))
+
+      one : (j : ℕ) → j < 8 → Column (λ v. lowAt b k v (c + j)) (r + 1) (getD low' j 0 / 256) (getD odd' j 0 / 256) (getD since' j 0 / 256)
+      one j l =
+          let f = column-next _ r _ _ _ (getD b (at + 2 * j + 1) 0) (e .column j l) (ap (λ (i : ℕ). getD b i 0) (omega arith)) in
+          record {
+            sum = omega (arith, s .sums .below j l) ∙ f .sum;
+            parity = ap (λ (y : ℕ). y / 256) (s .parity .below j l) ∙ upper j ∙ f .parity;
+            owned = omega (arith, s .owned .below j l, upper j) ∙ f .owned;
+          }
+
+-- w columns from column c on are counted into the three lists
+pub record Columns (b : List ℕ) (n k c w : ℕ) (tally odd marks tally' odd' marks' : List ℕ) : Type 0 where
+  pub sums : Filled c w (λ s. lows n (λ v. lowAt b k v s)) tally tally'
+  pub parity : Filled c w (λ s. paired n (λ v. lowAt b k v s)) odd odd'
+  pub owner : Filled c w (λ s. markOf n (bitIn b (2 * k) 0 (2 * s + 1))) marks marks'
+
+module _ (b : List ℕ) (n k c : ℕ) (tally odd marks : List ℕ) where
+  -- none yet, one more, a single one, and all
+  pub columns-none : Columns b n k c 0 tally odd marks tally odd marks
+  columns-none = record { sums = filled-none c _ tally; parity = filled-none c _ odd; owner = filled-none c _ marks }
+
+  pub columns-step : (w x y z p : ℕ) (tally' odd' marks' : List ℕ) → Columns b n k c w tally odd marks tally' odd' marks' → length tally ≡ 64
+      → length odd ≡ 64 → length marks ≡ 64 → c + w < 64 → Column (λ v. lowAt b k v (c + w)) n x y z → p ≡ placeOf n z
+      → Columns b n k c (w + 1) tally odd marks (set tally' (c + w) x) (set odd' (c + w) y) (set marks' (c + w) p)
+  columns-step w x y z p tally' odd' marks' s a d g h m e =
+      record {
+        sums = filled-step c w _ tally tally' x (s .sums) (omega (arith, s .sums .size)) (m .sum);
+        parity = filled-step c w _ odd odd' y (s .parity) (omega (arith, s .parity .size)) (m .parity);
+        owner = filled-step c w _ marks marks' p (s .owner) (omega (arith, s .owner .size)) (e ∙ ap (λ (i : ℕ). placeOf n i) (m .owned));
+      }
+
+  pub columns-one : (x y z p : ℕ) → length tally ≡ 64 → length odd ≡ 64 → length marks ≡ 64 → c < 64 → Column (λ v. lowAt b k v c) n x y z
+      → p ≡ placeOf n z → Columns b n k c 1 tally odd marks (set tally c x) (set odd c y) (set marks c p)
+  columns-one x y z p a d g h m e =
+      let q : c + 0 ≡ c = omega arith in
+      rw q at (columns-step 0 x y z p tally odd marks columns-none a d g (omega arith) (rw q m) e)
+
+  pub columns-done : (j w : ℕ) (tally' odd' marks' : List ℕ) → j ≤ w → w ≤ j → Columns b n k c j tally odd marks tally' odd' marks'
+      → Columns b n k c w tally odd marks tally' odd' marks'
+  columns-done j w tally' odd' marks' h l s = subst (λ (i : ℕ). Columns b n k c i tally odd marks tally' odd' marks') (omega arith) s
+
+-- what is counted of the columns below both c and k
+pub record Below (b : List ℕ) (n k c : ℕ) (tally odd marks : List ℕ) : Type 0 where
+  pub sums : Reached 64 0 c k (λ s. lows n (λ v. lowAt b k v s)) tally
+  pub parity : Reached 64 0 c k (λ s. paired n (λ v. lowAt b k v s)) odd
+  pub owner : Reached 64 0 c k (λ s. markOf n (bitIn b (2 * k) 0 (2 * s + 1))) marks
+
+module _ (b : List ℕ) (n k : ℕ) (tally odd marks : List ℕ) where
+  -- none yet, one part more, and all
+  pub below-none : length tally ≡ 64 → length odd ≡ 64 → length marks ≡ 64 → Below b n k 0 tally odd marks
+  below-none p q r = record { sums = reached-none 64 0 k _ tally p; parity = reached-none 64 0 k _ odd q; owner = reached-none 64 0 k _ marks r }
+
+  pub below-part : (c start w : ℕ) (tally' odd' marks' : List ℕ) → Below b n k c tally odd marks → Part w k c start
+      → Columns b n k start w tally odd marks tally' odd' marks' → Below b n k (c + w) tally' odd' marks'
+  below-part c start w tally' odd' marks' h p s =
+      record {
+        sums = reached-part 64 0 c k start w _ tally tally' (h .sums) p (s .sums);
+        parity = reached-part 64 0 c k start w _ odd odd' (h .parity) p (s .parity);
+        owner = reached-part 64 0 c k start w _ marks marks' (h .owner) p (s .owner);
+      }
+
+  pub below-done : (c : ℕ) → n ≤ c → n ≤ k → Below b n k c tally odd marks → Counted b n k tally odd marks
+  below-done c h u r = record { sums = held _ tally (r .sums); parity = held _ odd (r .parity); owner = held _ marks (r .owner) }
+    where
+      held : (g : ℕ → ℕ) (l : List ℕ) → Reached 64 0 c k g l → Holds 64 n g l
+      held g l s = record { size = s .size; value = λ x p. s .value x (omega arith) (omega arith) (omega arith) }

@@ -1,3 +1,0 @@
-pub mod Four
-pub mod Marks
-pub mod FourLaws
