@@ -5,24 +5,16 @@ use native.Mathlib.Numerals.{add-one}
 use native.Mathlib.Omega.{arith}
 use mathlib.Core.Path.{_≡_, refl, sym, _∙_, ap}
 use mathlib.Core.Logic.{⊎-elim}
-use mathlib.Core.Bool.{Bool, true, cond}
+use mathlib.Core.Bool.{Bool, cond}
 use mathlib.Core.List.{List}
 use lib.Dec.{eqb}
 use lib.Bits.{bitOr, bitXor, xor-shr, xor-add-and}
 use lib.ListN.{length}
-use borrow.Author.Tests.{eqb-true, eqb-false, eq-eqb}
+use borrow.Author.Tests.{eqb-true, eqb-false}
 use Rattle.laws.specs.Tests.{way}
 use Rattle.matrix.specs.Bounded.{count}
 use Rattle.matrix.specs.Bytes.{bit}
 use Rattle.lanes.specs.Lanes.{merged, lows, paired, since, Matrix}
-
--- the lowest bit is the remainder by 2
-pub bit-low : (v : ℕ) → bit 0 v ≡ eqb (v % 2) 1
-unfolding bit
-bit-low v = ap (λ (x : ℕ). eqb (x % 2) 1) (div-one v)
-
-pub bit-low-set : (v : ℕ) → v % 2 ≡ 1 → bit 0 v ≡ true
-bit-low-set v h = bit-low v ∙ eq-eqb (v % 2) 1 h
 
 -- a bit, as the number that is counted
 pub bit-count : (k v : ℕ) → v / 2 ^ k % 2 ≡ cond (bit k v) 1 0

@@ -2,7 +2,7 @@
 use Prim.Native.Nat.{ℕ, _+_, _-_, _≤_, _<_}
 use native.Mathlib.Omega.{arith}
 use native.Mathlib.Nat.{not-suc-le-zero}
-use mathlib.Core.Path.{_≡_, refl, sym, _∙_, ap, subst}
+use mathlib.Core.Path.{_≡_, refl, sym, _∙_, subst}
 use mathlib.Core.Logic.{⊎-elim}
 use mathlib.Core.List.{List}
 use lib.Dec.{ltb}
@@ -50,12 +50,6 @@ stored-step m g old new v s h e =
 -- the loop's end: what is stored below j is stored below m, where j has come to m
 pub stored-done : (j m : ℕ) (g : ℕ → ℕ) (old new : List ℕ) → j ≤ m → m ≤ j → Stored j g old new → Stored m g old new
 stored-done j m g old new h l s = subst (λ (i : ℕ). Stored i g old new) (omega arith) s
-
--- a pass that makes each element anew from the one before
-pub holds-next : (room m : ℕ) (g h : ℕ → ℕ) (step : ℕ → ℕ → ℕ) (old new : List ℕ) → Holds room m g old
-    → Stored m (λ j. step (getD old j 0) j) old new → ((j : ℕ) → j < m → step (g j) j ≡ h j) → Holds room m h new
-holds-next room m g h step old new f s e =
-    record { size = s .size ∙ f .size; value = λ j l. s .below j l ∙ ap (λ (x : ℕ). step x j) (f .value j l) ∙ e j l }
 
 -- from place `at` on, the list `new` holds w values of g; before that place it is still `old`
 pub record Filled (at w : ℕ) (g : ℕ → ℕ) (old new : List ℕ) : Type 0 where

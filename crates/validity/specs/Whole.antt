@@ -33,8 +33,15 @@ pub seen-none : (b : List ℕ) (k from : ℕ) → k ≤ 256 → Seen b k 0 from 
 unfolding merged
 seen-none b k from h = record { size = length-replicate {A = ℕ} 256 0; value = λ c g l. getD-replicate 256 c 0 0 (omega arith) }
 
-module _ (b : List ℕ) (n p : ℕ) (full : Bool) (seen tally odd marks : List ℕ) (whole : Whole b n p) (octets : Octets b)
-    (all-here : full ≡ all n (present b (2 * (n + p)))) (saw : Seen b (n + p) n (cond full n 0) seen) (kept : Counted b n (n + p) tally odd marks) where
+-- A record whose columns are counted and merged. Where all subjects exist, `full`, the columns of subjects are not merged.
+pub record Scanned (b : List ℕ) (n p : ℕ) (full : Bool) (seen tally odd marks : List ℕ) : Type 0 where
+  pub whole : Whole b n p
+  pub octets : Octets b
+  pub here : full ≡ all n (present b (2 * (n + p)))
+  pub saw : Seen b (n + p) n (cond full n 0) seen
+  pub kept : Counted b n (n + p) tally odd marks
+
+module _ (b : List ℕ) (n p : ℕ) (full : Bool) (seen tally odd marks : List ℕ) (scanned : Scanned b n p full seen tally odd marks) where
   abbrev S : Bool
   S = all n (subjectTest b (2 * (n + p)) seen tally odd)
 
@@ -46,23 +53,25 @@ module _ (b : List ℕ) (n p : ℕ) (full : Bool) (seen tally odd marks : List �
 
   valid-whole : (S && P && R) ≡ validMatrix (shapeOf b) (stateOf b)
   valid-whole =
-      let some : 0 < n = whole .head .low in
-      let most : n ≤ 64 = whole .head .high in
-      let e : n ≡ shapeOf b .n = whole .head .subjects in
-      let q : p ≡ shapeOf b .p = whole .head .plain in
-      all-passed b octets n (n + p) full seen tally odd marks all-here saw kept (omega arith) p refl some
+      let h : Headed b n p = scanned .whole .head in
+      let some : 0 < n = h .low in
+      let most : n ≤ 64 = h .high in
+      let e : n ≡ shapeOf b .n = h .subjects in
+      let q : p ≡ shapeOf b .p = h .plain in
+      all-passed b (scanned .octets) n (n + p) full seen tally odd marks (scanned .here) (scanned .saw) (scanned .kept) (omega arith) p refl some
       ∙ (λ i. testsPass (e i) (q i) (ownBit b (2 * (e i + q i))) (controlBit b (2 * (e i + q i))) (zeroCell b (2 * (e i + q i))))
-      ∙ valid-tests b octets (omega arith) (omega arith)
+      ∙ valid-tests b (scanned .octets) (omega arith) (omega arith)
 
   pub table-inside : S ≡ true → P ≡ true → Inside n (ownerIn marks)
-  table-inside = owners-inside b octets n (n + p) full seen tally odd marks all-here saw kept (omega arith) p refl (whole .head .low)
+  table-inside =
+      owners-inside b (scanned .octets) n (n + p) full seen tally odd marks (scanned .here) (scanned .saw) (scanned .kept) (omega arith) p refl (scanned .whole .head .low)
 
   -- an answer, with the size of the table of owners
   abbrev Judged : Bool → Type 0
   Judged r = (r ≡ validMatrix (shapeOf b) (stateOf b)) × (length marks ≡ 64)
 
   judged : (r : Bool) → r ≡ validMatrix (shapeOf b) (stateOf b) → Judged r
-  judged r e = (e, kept .owner .size)
+  judged r e = (e, scanned .kept .owner .size)
 
   -- a subject is wrong; a plain column is wrong; what is left is whether every owner is followed to U
   pub subjects-wrong : S ≡ false → Judged false

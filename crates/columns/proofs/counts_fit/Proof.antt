@@ -1,7 +1,6 @@
 -- `columns::counts_fit` meets its contract. The invariant: U passes, and `wrong` is the faults of the subjects below s, merged.
 use borrow.Author.Needs.{needs}
-use Prim.Native.Nat.{ℕ, _+_, _-_, _≤_}
-use native.Mathlib.Omega.{arith}
+use Prim.Native.Nat.{ℕ, _-_, _≤_}
 use mathlib.Core.Path.{_≡_, _∙_, ap}
 use lib.Bits.{bitOr}
 use borrow.Author.Tests.{not-true, not-false}

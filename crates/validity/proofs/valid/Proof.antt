@@ -5,10 +5,9 @@ use mathlib.Core.Path.{_≡_, refl, sym, _∙_, subst}
 use mathlib.Core.Logic.{⊎-elim}
 use mathlib.Core.Bool.{cond}
 use borrow.Author.Tests.{not-true, not-false}
-use Rattle.matrix.specs.Shaped.{Octets}
 use Rattle.lanes.specs.Lanes.{Seen}
 use Rattle.validity.specs.Header.{whole-matrix}
-use Rattle.validity.specs.Whole.{unread, seen-none, table-inside, subjects-wrong, plain-wrong, owners-left}
+use Rattle.validity.specs.Whole.{Scanned, unread, seen-none, table-inside, subjects-wrong, plain-wrong, owners-left}
 use borrow.Author.Needs.{needs}
 use Rattle.validity.proofs.valid.Statement.{statement}
 use Rattle.validity.proofs.valid.Tie as tie
@@ -19,10 +18,6 @@ start c = c .before .before .before .before .before
 
 abbrev counted : tie.After-merge → tie.After-count
 counted c = c .before .before .before .before
-
--- the elements of the slice are bytes
-octets : (c : tie.After-merge) → Octets (start (counted c) .args .b .now)
-octets c = record { octet = λ j. omega (arith, counted c .before .before .before .before .shared-slice-known .given j) }
 
 -- the first column that is merged
 first : (c : tie.Joined1) → c .if1 .from ≡ cond (c .before .all-present .result) (start (c .before .before) .args .n) 0
@@ -46,25 +41,29 @@ merge-requires c κs =
     let h = whole-matrix (s .args .b .now) (s .args .n) (s .args .p) (s .pre .0) in
     (h, seen-none _ _ _ (h .cells))
 
--- what is seen, by whether all subjects exist
-seen : (c : tie.After-merge)
-    → Seen (start (counted c) .args .b .now) (start (counted c) .args .n + start (counted c) .args .p) (start (counted c) .args .n)
-    (cond (c .before .before .before .all-present .result) (start (counted c) .args .n) 0) (c .merge .last .0)
-seen c =
+-- the lists after both passes
+scanned : (c : tie.After-merge)
+    → Scanned (start (counted c) .args .b .now) (start (counted c) .args .n) (start (counted c) .args .p) (c .before .before .before .all-present .result)
+    (c .merge .last .0) (counted c .count .last .0) (counted c .count .last .1 .0) (counted c .count .last .1 .1 .0)
+scanned c =
     let a = start (counted c) .args in
-    subst (λ (i : ℕ). Seen (a .b .now) (a .n + a .p) (a .n) i (c .merge .last .0)) (first (c .before .before)) (c .merge .ensures)
+    record {
+      whole = start (counted c) .pre .0;
+      octets = record { octet = λ j. omega (arith, counted c .before .before .before .before .shared-slice-known .given j) };
+      here = c .before .before .before .all-present .ensures;
+      saw = subst (λ (i : ℕ). Seen (a .b .now) (a .n + a .p) (a .n) i (c .merge .last .0)) (first (c .before .before)) (c .merge .ensures);
+      kept = counted c .count .ensures;
+    }
 
 subjects-requires : tie.Need-subjects-requires
 subjects-requires c κs =
-    let m = c .before .before .before in
-    let s = start (counted m) in
-    let k = counted m .count .ensures in
-    (whole-matrix _ _ _ (s .pre .0), record { columns = seen m .size; sums = k .sums .size; parity = k .parity .size }, s .pre .0 .head .low, m .before .before .before .all-present .ensures)
+    let h = scanned (c .before .before .before) in
+    (whole-matrix _ _ _ (h .whole), record { columns = h .saw .size; sums = h .kept .sums .size; parity = h .kept .parity .size }, h .whole .head .low, h .here)
 
 returns : tie.Need-returns
 returns c =
     let m = c .before .before .before .before .before in
-    subjects-wrong _ _ _ _ _ _ _ _ (start (counted m) .pre .0) (octets m) (m .before .before .before .all-present .ensures) (seen m) (counted m .count .ensures)
+    subjects-wrong _ _ _ _ _ _ _ _ (scanned m)
     (sym (c .before .subjects .ensures) ∙ not-true _ (c .if2 .taken))
 
 plains-requires : tie.Need-plains-requires
@@ -74,7 +73,7 @@ returns-2 : tie.Need-returns-2
 returns-2 c =
     let e = c .before .before .before in
     let m = e .before .before .before .before .before in
-    plain-wrong _ _ _ _ _ _ _ _ (start (counted m) .pre .0) (octets m) (m .before .before .before .all-present .ensures) (seen m) (counted m .count .ensures)
+    plain-wrong _ _ _ _ _ _ _ _ (scanned m)
     (sym (e .before .subjects .ensures) ∙ not-false _ (e .if2 .left)) (sym (c .before .plains .ensures) ∙ not-true _ (c .if3 .taken))
 
 rooted-requires : tie.Need-rooted-requires
@@ -82,11 +81,11 @@ rooted-requires c κs =
     let d = c .before in
     let e = d .before .before .before in
     let m = e .before .before .before .before .before in
-    let s = start (counted m) in (
-      s .pre .0 .head .low,
-      s .pre .0 .head .high,
-      counted m .count .ensures .owner .size,
-      table-inside _ _ _ _ _ _ _ _ (s .pre .0) (octets m) (m .before .before .before .all-present .ensures) (seen m) (counted m .count .ensures)
+    let h = scanned m in (
+      h .whole .head .low,
+      h .whole .head .high,
+      h .kept .owner .size,
+      table-inside _ _ _ _ _ _ _ _ h
           (sym (e .before .subjects .ensures) ∙ not-false _ (e .if2 .left)) (sym (d .before .plains .ensures) ∙ not-false _ (d .if3 .left)),
     )
 
@@ -95,7 +94,7 @@ returns-3 c =
     let d = c .before .before in
     let e = d .before .before .before in
     let m = e .before .before .before .before .before in
-    owners-left _ _ _ _ _ _ _ _ (start (counted m) .pre .0) (octets m) (m .before .before .before .all-present .ensures) (seen m) (counted m .count .ensures) _
+    owners-left _ _ _ _ _ _ _ _ (scanned m) _
     (sym (e .before .subjects .ensures) ∙ not-false _ (e .if2 .left)) (sym (d .before .plains .ensures) ∙ not-false _ (d .if3 .left)) (c .rooted .ensures)
 
 pub valid-spec : {M : Type 1} → statement M
