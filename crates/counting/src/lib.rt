@@ -19,7 +19,7 @@ fn row(low: &mut [u16; 8], odd: &mut [u16; 8], since: &mut [u16; 8], b: &[u8], a
     }
 }
 
-// The one owner, of which and after which there are a rows, among n; 0 where a is 0.
+// The row of the one owner, where a of the n rows are that row and those after it; 0 where a is 0.
 fn place(n: usize, a: u8) -> u8
     requires { ⌜ (n ≤ 64) × (a ≤ n) ⌝ }
     ensures { λ r. ⌜ r ≡ placeOf n a ⌝ }
