@@ -3,4 +3,4 @@ pub mod Rows
 pub mod Ready
 pub mod Outcomes
 pub mod Carrying
-pub mod Granted
+pub mod Allowed

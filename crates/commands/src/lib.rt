@@ -4,21 +4,21 @@ use decoding::Decoded;
 use matrix::Answer;
 use matrix::Command;
 use matrix::Fields;
+use matrix::Form;
 use matrix::Kind;
 use matrix::Right;
 ghost use mathlib.Core.Path.{_≡_};
 ghost use mathlib.Core.Bool.{true};
+ghost use Prim.Native.Nat.{_<_};
 ghost use Rattle.matrix.specs.Commands.{kindOf};
-ghost use Rattle.matrix.specs.Names.{nameOf};
+ghost use Rattle.matrix.specs.Valid.{Valid};
 ghost use Rattle.matrix.specs.Reading.{stateOf};
-ghost use Rattle.matrix.specs.State.{put};
 ghost use Rattle.cells.specs.Station.{Station};
-ghost use Rattle.states.specs.Needs.{Guessed};
-ghost use Rattle.decoding.specs.Decoded.{formFrom};
-ghost use Rattle.bits.specs.Became.{Became};
+ghost use Rattle.states.specs.Needs.{basicOf, Guessed};
+ghost use Rattle.decoding.specs.Decoded.{formFrom, withinNames};
 ghost use Rattle.rules.specs.Needs.{CommandIn};
 ghost use Rattle.commands.specs.Answered.{Answered, Carried};
-ghost use Rattle.commands.specs.Granted.{Grants};
+ghost use Rattle.commands.specs.Allowed.{Where, Allowed};
 
 // A decoded command, tested and carried out.
 fn carry_out(b: &mut [u8], n: usize, p: usize, owners: &[u8; 64], d: Command, kind: Kind) -> Answer
@@ -33,53 +33,70 @@ fn carry_out(b: &mut [u8], n: usize, p: usize, owners: &[u8; 64], d: Command, ki
     Answer::Accepted(v.links)
 }
 
-// Whether a command is a grant of a basic right that is accepted on a valid record: its fields fit, s exists and i owns o. Where i owns o,
-// i and o exist, so that is not asked.
-fn grants(b: &[u8], n: usize, p: usize, c: Fields) -> bool
-    requires { ⌜ Station (now b) n p ⌝ }
-    ensures { λ t. ⌜ (t ≡ true → Grants (now (b .entry)) n p c) ⌝ }
+// The basic right of a command over o is given to s, or taken from it, where s exists and i has the right y over o; whether it was.
+fn put_allowed(
+    b: &mut [u8],
+    n: usize,
+    p: usize,
+    c: Fields,
+    y: Right,
+    first: usize,
+    on: bool,
+) -> bool
+    requires { ⌜ Station (now b) n p × (withinNames n p c ≡ true) × (c .k < 7) × (basicOf y < 7) ⌝ }
+    ensures { λ t. ⌜ Where t (now (b .entry)) (now (b .exit)) (Allowed (now (b .entry)) (now (b .exit)) n c y (formFrom (c .code) first) on) ⌝ }
 {
-    if c.code < 4 {
+    let o = states::name_of(n, c.o);
+    if !states::subject_exists(b, n, p, c.s) {
         return false;
     }
-    if 5 < c.code {
+    if !states::has_bit(b, n, p, y, c.i, o) {
         return false;
     }
+    let form = decoding::form_from(c.code, first);
+    bits::put_right(b, n, p, Right::Basic(c.k, form), c.s, o, on);
+    true
+}
+
+// The short way of a command over a basic right, which changes one bit. It is taken where the command is accepted because i has a right
+// over o itself: the star for a transfer, own for a grant or a delete. Where i has a right over o, i and o exist, so that is not asked.
+fn by_right(b: &mut [u8], n: usize, p: usize, c: Fields) -> bool
+    requires { ⌜ Station (now b) n p × Valid (stateOf (now b)) ⌝ }
+    ensures { λ t. ⌜ Where t (now (b .entry)) (now (b .exit)) (Answered (now (b .entry)) (now (b .exit)) c (Answer.Accepted 0)) ⌝ }
+{
     if 6 < c.k {
         return false;
     }
     if !decoding::names_fit(n, p, c) {
         return false;
     }
-    if !states::subject_exists(b, n, p, c.s) {
-        return false;
+    match c.code {
+        1..=2 => put_allowed(b, n, p, c, Right::Basic(c.k, Form::Starred), 1, true),
+        4..=5 => put_allowed(b, n, p, c, Right::Own, 4, true),
+        8..=9 => put_allowed(b, n, p, c, Right::Own, 8, false),
+        _ => false,
     }
-    states::has_bit(b, n, p, Right::Own, c.i, states::name_of(n, c.o))
 }
 
-// Such a grant carried out.
-fn give(b: &mut [u8], n: usize, p: usize, c: Fields)
-    requires { ⌜ Station (now b) n p × Grants (now b) n p c ⌝ }
-    ensures { λ _. ⌜ Became (now (b .entry)) (now (b .exit)) (put (Right.Basic (c .k) (formFrom (c .code) 4)) (c .s) (nameOf n (c .o)) true (stateOf (now (b .entry)))) ⌝ }
-{
-    let form = decoding::form_from(c.code, 4);
-    let o = states::name_of(n, c.o);
-    bits::put_right(b, n, p, Right::Basic(c.k, form), c.s, o, true);
-}
-
-// A command as given, on a valid record of n subject names and p plain names, with guesses of who owns each subject. An accepted
-// grant of a basic right, the most common command, has a short way of its own.
+// A command as given, on a valid record of n subject names and p plain names, with guesses of who owns each subject.
 pub fn command_on(b: &mut [u8], n: usize, p: usize, owners: &[u8; 64], c: Fields) -> Answer
     requires { ⌜ Guessed (now b) n p (now owners) ⌝ }
     ensures { λ r. ⌜ Answered (now (b .entry)) (now (b .exit)) c r ⌝ }
 {
-    if grants(b, n, p, c) {
-        give(b, n, p, c);
-        return Answer::Accepted(0);
-    }
     let decoded = decoding::decode(n, p, c);
     match decoded {
         Decoded::Ready(d, kind) => carry_out(b, n, p, owners, d, kind),
         Decoded::Refused(number) => Answer::Refused(number, 0),
     }
+}
+
+// The same in a list, where most commands are accepted: the short way is tried first.
+pub fn command_in_list(b: &mut [u8], n: usize, p: usize, owners: &[u8; 64], c: Fields) -> Answer
+    requires { ⌜ Guessed (now b) n p (now owners) ⌝ }
+    ensures { λ r. ⌜ Answered (now (b .entry)) (now (b .exit)) c r ⌝ }
+{
+    if by_right(b, n, p, c) {
+        return Answer::Accepted(0);
+    }
+    command_on(b, n, p, owners, c)
 }

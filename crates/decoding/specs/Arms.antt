@@ -25,17 +25,21 @@ one-row j code k e h = h ∙ ap (λ (m : ℕ). ruledOf m k) (sym e)
 abbrev pub basicRule : (Right → Act) → ℕ → Form → Rule
 basicRule act k f = record { s = true; o = true; k = true; kind = AnyName; act = act (Basic k f) }
 
+-- what holds of the plain form and the first of two codes, and of the starred form and the second
+pub of-pair : {A : Type 0} (of-form : Form → A) (of-code : ℕ → A) (first code : ℕ) → first ≤ code → code < first + 2 → of-form Plain ≡ of-code first → of-form Starred ≡ of-code (first + 1) → of-form (formFrom code first) ≡ of-code code
+of-pair of-form of-code first code l u g h =
+    ⊎-elim
+    (λ (t : eqb code first ≡ true). ap (λ (b : Bool). of-form (cond b Plain Starred)) t ∙ g ∙ ap of-code (sym (eqb-true code first t)))
+    (λ (t : eqb code first ≡ false).
+    let ne : code ≡ first → ⊥ = eqb-false code first t in
+    let q : first + 1 ≡ code = omega arith in
+    ap (λ (b : Bool). of-form (cond b Plain Starred)) t ∙ h ∙ ap of-code q)
+    (way (eqb code first))
+
 -- two codes, the first plain and the second starred
 pub two-rows : (act : Right → Act) (first code k : ℕ) {f : Form} → first ≤ code → code < first + 2 → f ≡ formFrom code first → Known (basicRule act k Plain) ≡ ruledOf first k → Known (basicRule act k Starred) ≡ ruledOf (first + 1) k → Known (basicRule act k f) ≡ ruledOf code k
 two-rows act first code k l u e g h =
-    ap (λ (f : Form). Known (basicRule act k f)) e
-    ∙ ⊎-elim
-    (λ (t : eqb code first ≡ true). ap (λ (b : Bool). Known (basicRule act k (cond b Plain Starred))) t ∙ one-row first code k (eqb-true code first t) g)
-    (λ (t : eqb code first ≡ false).
-    let ne : code ≡ first → ⊥ = eqb-false code first t in
-    let q : code ≡ first + 1 = omega arith in
-    ap (λ (b : Bool). Known (basicRule act k (cond b Plain Starred))) t ∙ one-row (first + 1) code k q h)
-    (way (eqb code first))
+    ap (λ (f : Form). Known (basicRule act k f)) e ∙ of-pair (λ (f : Form). Known (basicRule act k f)) (λ (m : ℕ). ruledOf m k) first code l u g h
 
 -- no code
 pub below-codes : (code k : ℕ) → code < 1 → Unknown ≡ ruledOf code k

@@ -32,7 +32,7 @@ pub fn run_on(b: &mut [u8], n: usize, p: usize, owners: &[u8; 64], l: &[u8]) -> 
         let Read::Command(c, after) = reader::read_one(l, at) else {
             break;
         };
-        let answer = commands::command_on(b, n, p, owners, c);
+        let answer = commands::command_in_list(b, n, p, owners, c);
         let Answer::Accepted(_) = answer else {
             return Outcome {
                 accepted,

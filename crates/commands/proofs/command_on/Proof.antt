@@ -1,24 +1,9 @@
 -- `commands::command_on` meets its contract.
 use Rattle.commands.specs.Ready.{decoded-to, refused-by}
 use Rattle.commands.specs.Outcomes.{answered-refused, answered-decoded, command-in}
-use Rattle.commands.specs.Granted.{answered-grant}
 use borrow.Author.Needs.{needs}
 use Rattle.commands.proofs.command_on.Statement.{statement}
 use Rattle.commands.proofs.command_on.Tie as tie
-
-grants-requires : tie.Need-grants-requires
-grants-requires c κs = search needs
-
-give-requires : tie.Need-give-requires
-give-requires c κs = (c .before .before .before .before .before .pre .station, c .before .before .grants .ensures (c .before .if1 .taken))
-
-same-length : tie.Need-same-length
-same-length c = search needs
-
-returns : tie.Need-returns
-returns c =
-    let z = c .before .before .before .before .before .before .before .before in
-    answered-grant _ _ _ (z .args .c) (c .before .before .before .before .before .grants .ensures (c .before .before .before .before .if1 .taken)) (z .pre .station) (z .pre .valid) (c .before .before .give .ensures)
 
 decode-requires : tie.Need-decode-requires
 decode-requires c κs = search needs
@@ -28,39 +13,30 @@ enum-known-decoded c = search needs
 
 carry-out-requires : tie.Need-carry-out-requires
 carry-out-requires c κs =
-    let z = c .before .before .before .before .before .before .before .before .before .pre in
     let w = decoded-to _ _ _ (c .before .before .before .before .decode .ensures) (c .before .before .decoded .given .1) in
-    (command-in _ _ _ (z .station) _ w, w .kind-needed, z)
+    (command-in _ _ _ (c .before .before .before .before .before .before .pre .station) _ w, w .kind-needed, c .before .before .before .before .before .before .pre)
 
 enum-known-decoded-2 : tie.Need-enum-known-decoded-2
 enum-known-decoded-2 c = search needs
 
-same-length-2 : tie.Need-same-length-2
-same-length-2 c = search needs
+same-length : tie.Need-same-length
+same-length c = search needs
+
+returns : tie.Need-returns
+returns c =
+    answered-decoded _ _ _ (c .before .before .before .before .before .before .before .before .before .pre .station) _ (decoded-to _ _ _ (c .before .before .before .before .before .before .before .decode .ensures) (c .before .before .before .before .before .decoded .given .1)) (c .before .before .carry-out .ensures)
 
 returns-2 : tie.Need-returns-2
-returns-2 c =
-    answered-decoded _ _ _ (c .before .before .before .before .before .before .before .before .before .before .before .before .pre .station) _ (decoded-to _ _ _ (c .before .before .before .before .before .before .before .decode .ensures) (c .before .before .before .before .before .decoded .given .1)) (c .before .before .carry-out .ensures)
-
-same-length-3 : tie.Need-same-length-3
-same-length-3 c = search needs
-
-returns-3 : tie.Need-returns-3
-returns-3 c = answered-refused _ _ _ (c .before .before .before .before .before .before .before .before .pre .station) _ (refused-by _ _ _ (c .before .before .before .decode .ensures) (c .before .decoded2 .given .1))
+returns-2 c = answered-refused _ _ _ (c .before .before .before .before .before .pre .station) _ (refused-by _ _ _ (c .before .before .before .decode .ensures) (c .before .decoded2 .given .1))
 
 pub command-on-spec : {M : Type 1} → statement M
 command-on-spec =
     tie.close
     (tie.spec
-    grants-requires
-    give-requires
-    same-length
-    returns
     decode-requires
     enum-known-decoded
     carry-out-requires
     enum-known-decoded-2
-    same-length-2
-    returns-2
-    same-length-3
-    returns-3)
+    same-length
+    returns
+    returns-2)

@@ -28,8 +28,8 @@ enum-known-c c = search needs
 enum-told : tie.Need-enum-told Inv-loop μ-loop
 enum-told c = search needs
 
-command-on-requires : tie.Need-command-on-requires Inv-loop μ-loop
-command-on-requires c κs =
+command-in-list-requires : tie.Need-command-in-list-requires Inv-loop μ-loop
+command-in-list-requires c κs =
     let l = c .before .before .before .before .before in
     let r = l .loop .inv .1 in
     record { station = r .station; valid = r .valid; size = l .before .before .before .pre .0 .size }
@@ -44,12 +44,12 @@ number-of-requires : tie.Need-number-of-requires Inv-loop μ-loop
 number-of-requires c κs = search needs
 
 same-length : tie.Need-same-length Inv-loop μ-loop
-same-length c = c .before .before .before .before .before .command-on .kept .0 ∙ c .before .before .before .before .before .before .before .before .before .before .before .loop .inv .1 .size
+same-length c = c .before .before .before .before .before .command-in-list .kept .0 ∙ c .before .before .before .before .before .before .before .before .before .before .before .loop .inv .1 .size
 
 returns : tie.Need-returns Inv-loop μ-loop
 returns c =
     let y = yields-command _ _ (sym (c .before .before .before .before .before .before .before .before .c .given .1) ∙ c .before .before .before .before .before .before .before .before .before .before .read-one .ensures) in
-    counted-as (c .before .before .before .before .before .before .before .before .before .before .before .loop .inv .0) (ran-refused (c .before .before .before .before .before .before .before .before .before .before .before .loop .inv .1) (y .more) (y .fields) (c .before .before .before .before .before .command-on .ensures) (c .before .enum-told3 .given .1) (c .number-of .ensures))
+    counted-as (c .before .before .before .before .before .before .before .before .before .before .before .loop .inv .0) (ran-refused (c .before .before .before .before .before .before .before .before .before .before .before .loop .inv .1) (y .more) (y .fields) (c .before .before .before .before .before .command-in-list .ensures) (c .before .enum-told3 .given .1) (c .number-of .ensures))
 
 add-accepted : tie.Need-add-accepted Inv-loop μ-loop
 add-accepted c =
@@ -64,7 +64,7 @@ loop-less c =
 loop-again : tie.Need-loop-again Inv-loop μ-loop
 loop-again c =
     let y = yields-command _ _ (sym (c .before .before .before .before .before .before .before .c .given .1) ∙ c .before .before .before .before .before .before .before .before .before .read-one .ensures) in
-    (ap (λ (k : ℕ). k + 1) (c .before .before .before .before .before .before .before .before .before .before .loop .inv .0) ∙ sym (y .moved), reached-as (y .moved) (reached-more (c .before .before .before .before .before .before .before .before .before .before .loop .inv .1) (y .more) (y .fields) (c .before .before .before .before .command-on .ensures) (c .enum-told2 .given .1)))
+    (ap (λ (k : ℕ). k + 1) (c .before .before .before .before .before .before .before .before .before .before .loop .inv .0) ∙ sym (y .moved), reached-as (y .moved) (reached-more (c .before .before .before .before .before .before .before .before .before .before .loop .inv .1) (y .more) (y .fields) (c .before .before .before .before .command-in-list .ensures) (c .enum-told2 .given .1)))
 
 same-length-2 : tie.Need-same-length-2 Inv-loop μ-loop
 same-length-2 c = c .before .before .before .loop .inv .1 .size
@@ -82,7 +82,7 @@ run-on-spec =
     read-one-requires
     enum-known-c
     enum-told
-    command-on-requires
+    command-in-list-requires
     enum-told-2
     enum-told-3
     number-of-requires

@@ -1,0 +1,92 @@
+-- `commands::by_right` meets its contract.
+use native.Mathlib.Omega.{arith}
+use mathlib.Core.Path.{sym, _∙_}
+use borrow.Author.Tests.{not-false}
+use Rattle.commands.specs.Allowed.{left-alone, where-then, answered-transfer, answered-grant, answered-delete}
+use borrow.Author.Needs.{needs}
+use Rattle.commands.proofs.by_right.Statement.{statement}
+use Rattle.commands.proofs.by_right.Tie as tie
+
+returns : tie.Need-returns
+returns c = left-alone
+
+names-fit-requires : tie.Need-names-fit-requires
+names-fit-requires c κs = search needs
+
+returns-2 : tie.Need-returns-2
+returns-2 c = left-alone
+
+put-allowed-requires : tie.Need-put-allowed-requires
+put-allowed-requires c κs =
+    let z = c .before .before .before .before .before .before .before .before .before .before in
+    (z .pre .0, sym (c .before .before .before .before .before .before .names-fit .ensures) ∙ not-false _ (c .before .before .before .before .before .if2 .left), omega (arith, c .before .before .before .before .before .before .before .if1 .left), omega (arith, c .before .before .before .before .before .before .before .if1 .left))
+
+put-allowed-requires-2 : tie.Need-put-allowed-requires-2
+put-allowed-requires-2 c κs =
+    let z = c .before .before .before .before .before .before .before .before .before .before .before .before .before .before in
+    (z .pre .0, sym (c .before .before .before .before .before .before .before .before .before .before .names-fit .ensures) ∙ not-false _ (c .before .before .before .before .before .before .before .before .before .if2 .left), omega (arith, c .before .before .before .before .before .before .before .before .before .before .before .if1 .left), omega arith)
+
+put-allowed-requires-3 : tie.Need-put-allowed-requires-3
+put-allowed-requires-3 c κs =
+    let z = c .before .before .before .before .before .before .before .before .before .before .before .before .before .before .before .before .before .before in
+    (z .pre .0, sym (c .before .before .before .before .before .before .before .before .before .before .before .before .before .before .names-fit .ensures) ∙ not-false _ (c .before .before .before .before .before .before .before .before .before .before .before .before .before .if2 .left), omega (arith, c .before .before .before .before .before .before .before .before .before .before .before .before .before .before .before .if1 .left), omega arith)
+
+same-length : tie.Need-same-length
+same-length c = search needs
+
+returns-3 : tie.Need-returns-3
+returns-3 c =
+    let z = c .before .before .before .before .before .before .before .before .before .before .before .before .before in
+    where-then (c .before .before .put-allowed .ensures)
+    (λ a. answered-transfer (z .args .c) (z .pre .0) (z .pre .1) (sym (c .before .before .before .before .before .before .before .before .before .names-fit .ensures) ∙ not-false _ (c .before .before .before .before .before .before .before .before .if2 .left)) (omega (arith, c .before .before .before .before .before .before .before .before .before .before .if1 .left)) (c .before .before .before .before .before .before .if3 .left) (c .before .before .before .before .if4 .taken) a)
+
+same-length-2 : tie.Need-same-length-2
+same-length-2 c = search needs
+
+returns-4 : tie.Need-returns-4
+returns-4 c =
+    let z = c .before .before .before .before .before .before .before .before .before .before .before .before .before .before .before .before .before in
+    where-then (c .before .before .put-allowed2 .ensures)
+    (λ a. answered-grant (z .args .c) (z .pre .0) (z .pre .1) (sym (c .before .before .before .before .before .before .before .before .before .before .before .before .before .names-fit .ensures) ∙ not-false _ (c .before .before .before .before .before .before .before .before .before .before .before .before .if2 .left)) (omega (arith, c .before .before .before .before .before .before .before .before .before .before .before .before .before .before .if1 .left)) (c .before .before .before .before .before .before .if5 .left) (c .before .before .before .before .if6 .taken) a)
+
+same-length-3 : tie.Need-same-length-3
+same-length-3 c = search needs
+
+returns-5 : tie.Need-returns-5
+returns-5 c =
+    let z = c .before .before .before .before .before .before .before .before .before .before .before .before .before .before .before .before .before .before .before .before .before in
+    where-then (c .before .before .put-allowed3 .ensures)
+    (λ a. answered-delete (z .args .c) (z .pre .0) (z .pre .1) (sym (c .before .before .before .before .before .before .before .before .before .before .before .before .before .before .before .before .before .names-fit .ensures) ∙ not-false _ (c .before .before .before .before .before .before .before .before .before .before .before .before .before .before .before .before .if2 .left)) (omega (arith, c .before .before .before .before .before .before .before .before .before .before .before .before .before .before .before .before .before .before .if1 .left)) (c .before .before .before .before .before .before .if7 .left) (c .before .before .before .before .if8 .taken) a)
+
+returns-6 : tie.Need-returns-6
+returns-6 c = left-alone
+
+returns-7 : tie.Need-returns-7
+returns-7 c = left-alone
+
+returns-8 : tie.Need-returns-8
+returns-8 c = left-alone
+
+returns-9 : tie.Need-returns-9
+returns-9 c = left-alone
+
+pub by-right-spec : {M : Type 1} → statement M
+by-right-spec =
+    tie.close
+    (tie.spec
+    returns
+    names-fit-requires
+    returns-2
+    put-allowed-requires
+    put-allowed-requires-2
+    put-allowed-requires-3
+    same-length
+    returns-3
+    same-length-2
+    returns-4
+    same-length-3
+    returns-5
+    returns-6
+    returns-7
+    returns-8
+    returns-9)

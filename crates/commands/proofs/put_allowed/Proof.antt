@@ -1,0 +1,92 @@
+-- `commands::put_allowed` meets its contract.
+use mathlib.Core.Path.{_≡_, sym, _∙_, ap₂, subst}
+use mathlib.Core.Bool.{true, true≢false}
+use borrow.Author.Tests.{not-false}
+use Rattle.matrix.specs.declared.Name.{Name}
+use Rattle.matrix.specs.declared.Form.{Form}
+use Rattle.matrix.specs.declared.Right.the-variants.{Basic}
+use Rattle.matrix.specs.Names.{named}
+use Rattle.matrix.specs.State.{put}
+use Rattle.matrix.specs.Reading.{stateOf}
+use Rattle.bits.specs.Steps.{became-as}
+use Rattle.commands.specs.Ready.{row-i, row-s, name-o}
+use Rattle.commands.specs.Allowed.{left-alone, has-name}
+use borrow.Author.Needs.{needs}
+use Rattle.commands.proofs.put_allowed.Statement.{statement}
+use Rattle.commands.proofs.put_allowed.Tie as tie
+
+name-of-requires : tie.Need-name-of-requires
+name-of-requires c κs = search needs
+
+subject-exists-requires : tie.Need-subject-exists-requires
+subject-exists-requires c κs = let z = c .before .before .before in (z .pre .0, row-s _ _ (z .args .c) (z .pre .1))
+
+same-length : tie.Need-same-length
+same-length c = search needs
+
+returns : tie.Need-returns
+returns c = left-alone
+
+has-bit-requires : tie.Need-has-bit-requires
+has-bit-requires c κs =
+    let z = c .before .before .before .before .before .before in
+    record {
+      station = z .pre .0;
+      right = z .pre .3;
+      row = row-i _ _ (z .args .c) (z .pre .1);
+      column = subst (λ (x : Name). named (z .args .n) (z .args .p) x ≡ true) (sym (c .before .before .before .before .name-of .ensures)) (name-o _ _ (z .args .c) (z .pre .1));
+    }
+
+same-length-2 : tie.Need-same-length-2
+same-length-2 c = search needs
+
+returns-2 : tie.Need-returns-2
+returns-2 c = left-alone
+
+form-from-requires : tie.Need-form-from-requires
+form-from-requires c κs = search needs
+
+put-right-requires : tie.Need-put-right-requires
+put-right-requires c κs =
+    let z = c .before .before .before .before .before .before .before .before .before .before in
+    record {
+      station = z .pre .0;
+      right = z .pre .2;
+      row = row-s _ _ (z .args .c) (z .pre .1);
+      column = subst (λ (x : Name). named (z .args .n) (z .args .p) x ≡ true) (sym (c .before .before .before .before .before .before .before .before .name-of .ensures)) (name-o _ _ (z .args .c) (z .pre .1));
+    }
+
+same-length-3 : tie.Need-same-length-3
+same-length-3 c = search needs
+
+returns-3 : tie.Need-returns-3
+returns-3 c =
+    let z = c .before .before .before .before .before .before .before .before .before .before .before .before .before .args in
+    let x = c .before .before .before .before .before .before .before .before .before .before .before .name-of .ensures in
+    record {
+      holds =
+          λ h. record {
+            there = sym (c .before .before .before .before .before .before .before .before .before .subject-exists .ensures) ∙ not-false _ (c .before .before .before .before .before .before .before .before .if1 .left);
+            held = has-name (stateOf (z .b .now)) (z .y) (z .c .i) x (c .before .before .before .before .before .before .has-bit .ensures) (not-false _ (c .before .before .before .before .before .if2 .left));
+            became =
+                became-as (c .before .before .put-right .ensures)
+                (ap₂ (λ (f : Form) (x : Name). put (Basic (z .c .k) f) (z .c .s) x (z .on) (stateOf (z .b .now))) (c .before .before .before .before .form-from .ensures) x);
+          };
+      stays = λ h. absurd (true≢false h);
+    }
+
+pub put-allowed-spec : {M : Type 1} → statement M
+put-allowed-spec =
+    tie.close
+    (tie.spec
+    name-of-requires
+    subject-exists-requires
+    same-length
+    returns
+    has-bit-requires
+    same-length-2
+    returns-2
+    form-from-requires
+    put-right-requires
+    same-length-3
+    returns-3)
