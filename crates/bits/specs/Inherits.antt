@@ -1,25 +1,32 @@
 -- The steps of the loop by which i gains own over all that s owns.
-use Prim.Native.Nat.{ℕ, _+_, _<_}
+use Prim.Native.Nat.{ℕ, _+_, _*_, _/_, _%_, _<_}
 use native.Mathlib.Omega.{arith}
 use mathlib.Core.Path.{_≡_, refl, sym, _∙_, ap}
+use mathlib.Core.Logic.{⊎-elim}
 use mathlib.Core.Bool.{Bool, true, false, cond, _&&_, _||_}
 use mathlib.Core.List.{List}
 use lib.Dec.{eqb}
+use lib.ListN.{getD, set}
+use borrow.Author.Tests.{eqb-true, eqb-false}
 use Rattle.matrix.specs.declared.Name.{Name}
 use Rattle.matrix.specs.declared.Right.the-variants.{Own}
 use Rattle.matrix.specs.Names.{sameName, nameOf, named}
 use Rattle.matrix.specs.State.{State, put}
 use Rattle.matrix.specs.Bytes.{bit}
 use Rattle.matrix.specs.Shape.{shapeOf, bitsOf}
-use Rattle.matrix.specs.Reading.{cellAt, stateOf}
+use Rattle.matrix.specs.Reading.{cellAt, setCell, stateOf}
 use Rattle.matrix.specs.Changes.{inherit}
 use Rattle.laws.specs.Same.{sameName-eq}
+use Rattle.laws.specs.Tests.{way}
+use Rattle.codec.specs.Bits.{withBit}
 use Rattle.codec.specs.Update.{bit-read}
 use Rattle.codec.specs.RoundTrip.{within-read}
 use Rattle.cells.specs.Station.{Station, Cell}
 use Rattle.bits.specs.Became.{Became}
 use Rattle.bits.specs.Passed.{firstColumns, inheritPart}
-use Rattle.bits.specs.Steps.{became-same, became-then, became-as, cell-row, cell-column}
+use Rattle.cells.specs.Places.{placeOf}
+use Rattle.bits.specs.OwnBytes.{ownJoined, set-same, own-read, own-stored}
+use Rattle.bits.specs.Steps.{became-same, became-then, became-as, became-at, became-put, cell-after, cell-row, cell-column}
 use Rattle.bits.specs.Loops.{columns-none, columns-next, columns-all}
 
 -- a state with another matrix of owners
@@ -104,14 +111,41 @@ module _ {b₀ : List ℕ} {n p : ℕ} (i s : ℕ) where
       by false true = refl
       by false false = refl
 
-  pub inherit-hit : {b b′ : List ℕ} {c v : ℕ} {t : Bool} → Became b₀ b (inheritPart n i s c (stateOf b₀)) → Cell b n p s c → v ≡ cellAt b s c
-      → t ≡ bit 0 v → t ≡ true → Became b b′ (put Own i (nameOf n c) true (stateOf b)) → Became b₀ b′ (inheritPart n i s (c + 1) (stateOf b₀))
-  inherit-hit {c = c} h l e g y k =
-      became-as (became-then (put Own i (nameOf n c) true) h k) (part-hit n i s (stateOf b₀) c (owns-read h l e g ∙ y))
+  -- one more byte of row i is joined with that of row s
+  pub inherit-byte : {b b′ : List ℕ} {k to from u : ℕ} → Station b₀ n p → Became b₀ b (inheritPart n i s (k / 2) (stateOf b₀)) → i < n → s < n
+      → k < 2 * (n + p) → to ≡ placeOf n p i 0 + k → from ≡ placeOf n p s 0 + k → u ≡ ownJoined (getD b to 0) (getD b from 0) k → b′ ≡ set b to u
+      → Became b₀ b′ (inheritPart n i s ((k + 1) / 2) (stateOf b₀))
+  inherit-byte {b} {b′} {k} {to} {from} st h hi hs more e f g w = ⊎-elim second first (way (eqb (k % 2) 1))
+    where
+      -- a byte that stays
+      kept : ownJoined (getD b to 0) (getD b from 0) k ≡ getD b to 0 → b′ ≡ b
+      kept q = w ∙ ap (set b to) (g ∙ q) ∙ set-same b to
 
-  pub inherit-miss : {b : List ℕ} {c v : ℕ} {t : Bool} → Became b₀ b (inheritPart n i s c (stateOf b₀)) → Cell b n p s c → v ≡ cellAt b s c
-      → t ≡ bit 0 v → t ≡ false → Became b₀ b (inheritPart n i s (c + 1) (stateOf b₀))
-  inherit-miss {c = c} h l e g y = became-as h (part-miss n i s (stateOf b₀) c (owns-read h l e g ∙ y))
+      passed : {l : List ℕ} {m : ℕ} → m ≡ (k + 1) / 2 → Became b₀ l (inheritPart n i s m (stateOf b₀)) → Became b₀ l (inheritPart n i s ((k + 1) / 2) (stateOf b₀))
+      passed q a = became-as a (ap (λ (m : ℕ). inheritPart n i s m (stateOf b₀)) q)
+
+      first : eqb (k % 2) 1 ≡ false → Became b₀ b′ (inheritPart n i s ((k + 1) / 2) (stateOf b₀))
+      first t =
+          let ne = eqb-false (k % 2) 1 t in
+          let q : k / 2 ≡ (k + 1) / 2 = omega (arith, ne) in
+          became-at (kept (rw t refl)) (passed q h)
+
+      second : eqb (k % 2) 1 ≡ true → Became b₀ b′ (inheritPart n i s ((k + 1) / 2) (stateOf b₀))
+      second t =
+          let odd = eqb-true (k % 2) 1 t in
+          let q : k / 2 + 1 ≡ (k + 1) / 2 = omega arith in
+          let to-place : to ≡ placeOf n p i (k / 2) + 1 = omega arith in
+          let from-place : from ≡ placeOf n p s (k / 2) + 1 = omega arith in
+          let to-cell : Cell b n p i (k / 2) = cell-after st h hi (omega arith) in
+          let from-cell : Cell b n p s (k / 2) = cell-after st h hs (omega arith) in
+          let read : stateOf b₀ .owns s (nameOf n (k / 2)) ≡ bit 0 (getD b from 0) = owns-read h from-cell refl (sym (own-read (from-cell .station) s (k / 2) ∙ ap (λ (m : ℕ). bit 0 (getD b m 0)) (sym from-place))) in
+          ⊎-elim
+          (λ (y : bit 0 (getD b from 0) ≡ true).
+          let stored : b′ ≡ setCell b i (k / 2) (withBit 0 true (cellAt b i (k / 2))) =
+          w ∙ ap (set b to) (g ∙ rw (t, y) refl) ∙ ap (λ (m : ℕ). set b m (withBit 0 true (getD b m 0))) to-place ∙ sym (own-stored (to-cell .station) i (k / 2)) in
+          passed q (became-as (became-then (put Own i (nameOf n (k / 2)) true) h (became-put Own true to-cell (omega arith) refl refl refl stored)) (part-hit n i s (stateOf b₀) (k / 2) (read ∙ y))))
+          (λ (y : bit 0 (getD b from 0) ≡ false). became-at (kept (rw (t, y) refl)) (passed q (became-as h (part-miss n i s (stateOf b₀) (k / 2) (read ∙ y)))))
+          (way (bit 0 (getD b from 0)))
 
   pub inherit-all : {b : List ℕ} {c : ℕ} → Station b₀ n p → c ≡ n + p → Became b₀ b (inheritPart n i s c (stateOf b₀))
       → Became b₀ b (inherit i s (stateOf b₀))

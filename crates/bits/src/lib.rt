@@ -13,6 +13,7 @@ ghost use Rattle.cells.specs.Station.{Station, Cell};
 ghost use Rattle.states.specs.Needs.{basicOf, BitIn};
 ghost use Rattle.bits.specs.Became.{Became};
 ghost use Rattle.bits.specs.Passed.{inRow};
+ghost use Rattle.bits.specs.OwnBytes.{ownJoined};
 
 // v with bit j set or cleared.
 fn with_bit(v: usize, j: usize, on: bool) -> usize
@@ -65,14 +66,21 @@ pub fn clear_row(b: &mut [u8], n: usize, p: usize, r: usize)
     }
 }
 
-// Row i gains own over all that row s owns.
+// The byte x at place k of a row, joined with own where the byte y of another row has it: own is bit 0 of a cell's second byte.
+fn own_joined(x: u8, y: u8, k: usize) -> u8
+    ensures { λ r. ⌜ r ≡ ownJoined x y k ⌝ }
+{
+    x | (y & ((k % 2) as u8))
+}
+
+// Row i gains own over all that row s owns. The rows are taken byte by byte as they lie, so that the compiler may take many at once.
 pub fn inherit_own(b: &mut [u8], n: usize, p: usize, i: usize, s: usize)
     requires { ⌜ Station (now b) n p × (i < n) × (s < n) ⌝ }
     ensures { λ _. ⌜ Became (now (b .entry)) (now (b .exit)) (inherit i s (stateOf (now (b .entry)))) ⌝ }
 {
-    for c in 0..n + p {
-        if cells::bit_of(cells::cell(b, n, p, s, c), 0) {
-            put_in_column(b, n, p, Right::Own, i, c, true);
-        }
+    let to = cells::place(n, p, i, 0);
+    let from = cells::place(n, p, s, 0);
+    for k in 0..2 * (n + p) {
+        b[to + k] = own_joined(b[to + k], b[from + k], k);
     }
 }

@@ -10,7 +10,7 @@ ghost use Rattle.cells.specs.Places.{placeOf};
 ghost use Rattle.cells.specs.Rows.{rowHas};
 
 // The place of the first byte of the cell of row r and column c.
-fn place(n: usize, p: usize, r: usize, c: usize) -> usize
+pub fn place(n: usize, p: usize, r: usize, c: usize) -> usize
     requires { ⌜ (n < 65) × (p < 193) × (r < n) × (c < n + p) ⌝ }
     ensures { λ x. ⌜ x ≡ placeOf n p r c ⌝ }
 {

@@ -1,6 +1,6 @@
 -- `commands::command_in_list` meets its contract: where the short way is not taken, the bytes are still the same.
 use Prim.Native.Nat.{ℕ}
-use mathlib.Core.Path.{_≡_, sym, subst}
+use mathlib.Core.Path.{sym, subst}
 use mathlib.Core.List.{List}
 use Rattle.states.specs.Needs.{Guessed}
 use Rattle.commands.specs.Answered.{Answered}

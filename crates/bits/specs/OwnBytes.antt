@@ -1,0 +1,100 @@
+-- The bytes of a row that gains own: what the code stores is the cell with own, or the byte that stands there.
+use Prim.Native.Nat.{ℕ, zero, suc, _+_, _*_, _/_, _%_, _<_, max}
+use native.Mathlib.Omega.{arith}
+use mathlib.Core.Path.{_≡_, refl, _∙_, ap, ap₂}
+use mathlib.Core.Logic.{⊎-elim}
+use mathlib.Core.Bool.{Bool, true, false, cond, _&&_}
+use mathlib.Core.List.{List, [], _∷_}
+use lib.Bits.{bitAnd, bitOr, and-mask, and-zero-r, or-zero-r, or-step}
+use lib.Dec.{eqb}
+use lib.ListN.{length, getD, set}
+use borrow.Author.Tests.{eqb-true, eqb-false}
+use Rattle.matrix.specs.Bytes.{bit}
+use Rattle.matrix.specs.Reading.{cellAt, setCell}
+use Rattle.laws.specs.Tests.{way}
+use Rattle.codec.specs.Bits.{withBit, withBit-below, bit-low}
+use Rattle.cells.specs.Station.{Station}
+use Rattle.cells.specs.Places.{placeOf, place-below, index-small, subjects-few, plains-few, cell-is, store-is}
+
+-- the byte x at place k of a row, with own where the byte y has it and place k is that of a cell's second byte
+abbrev pub ownJoined : ℕ → ℕ → ℕ → ℕ
+ownJoined x y k = cond (eqb (k % 2) 1 && bit 0 y) (withBit 0 true x) x
+
+-- the digit that bit 0 is
+odd-is : (x : ℕ) (t : Bool) → bit 0 x ≡ t → x % 2 ≡ cond t 1 0
+unfolding bit
+odd-is x true h = let e : x / 1 % 2 ≡ 1 = eqb-true (x / 1 % 2) 1 h in omega arith
+odd-is x false h = let e : x / 1 % 2 ≡ 1 → ⊥ = eqb-false (x / 1 % 2) 1 h in omega arith
+
+or-own : (x : ℕ) → bitOr x 1 ≡ withBit 0 true x
+unfolding withBit
+or-own x = or-step x 1 ∙ ap (λ (m : ℕ). m * 2 + max (x % 2) 1) (or-zero-r (x / 2)) ∙ ⊎-elim set-bit clear-bit (way (bit 0 x))
+  where
+    set-bit : bit 0 x ≡ true → x / 2 * 2 + max (x % 2) 1 ≡ cond (bit 0 x) x (x + 1)
+    set-bit t = let e = odd-is x true t in let q : x / 2 * 2 + 1 ≡ x = omega arith in rw t (ap (λ (d : ℕ). x / 2 * 2 + max d 1) e ∙ q)
+
+    clear-bit : bit 0 x ≡ false → x / 2 * 2 + max (x % 2) 1 ≡ cond (bit 0 x) x (x + 1)
+    clear-bit t = let e = odd-is x false t in let q : x / 2 * 2 + 1 ≡ x + 1 = omega arith in rw t (ap (λ (d : ℕ). x / 2 * 2 + max d 1) e ∙ q)
+
+-- what the code stores
+pub joined-is : (x y k : ℕ) → bitOr x (bitAnd y (k % 2)) ≡ ownJoined x y k
+joined-is x y k = ⊎-elim second first (way (eqb (k % 2) 1))
+  where
+    low : eqb (k % 2) 1 ≡ true → bitOr x (bitAnd y (k % 2)) ≡ bitOr x (y % 2)
+    low t = ap (λ (m : ℕ). bitOr x (bitAnd y m)) (eqb-true (k % 2) 1 t) ∙ ap (bitOr x) (and-mask y 1)
+
+    second : eqb (k % 2) 1 ≡ true → bitOr x (bitAnd y (k % 2)) ≡ ownJoined x y k
+    second t =
+        ⊎-elim (λ (u : bit 0 y ≡ true). rw (t, u) (low t ∙ ap (bitOr x) (odd-is y true u) ∙ or-own x))
+        (λ (u : bit 0 y ≡ false). rw (t, u) (low t ∙ ap (bitOr x) (odd-is y false u) ∙ or-zero-r x)) (way (bit 0 y))
+
+    first : eqb (k % 2) 1 ≡ false → bitOr x (bitAnd y (k % 2)) ≡ ownJoined x y k
+    first t =
+        let ne = eqb-false (k % 2) 1 t in
+        let q : k % 2 ≡ 0 = omega (arith, ne) in
+        rw t (ap (λ (m : ℕ). bitOr x (bitAnd y m)) q ∙ ap (bitOr x) (and-zero-r y) ∙ or-zero-r x)
+
+-- a byte is stored where it stands
+pub set-same : (l : List ℕ) (i : ℕ) → set l i (getD l i 0) ≡ l
+set-same [] i = refl
+set-same (x ∷ xs) zero = refl
+set-same (x ∷ xs) (suc i) = ap (λ (r : List ℕ). x ∷ r) (set-same xs i)
+
+-- a byte of a row stands within the record, which is not long
+pub byte-below : {b : List ℕ} {n p r k at : ℕ} → Station b n p → r < n → k < 2 * (n + p) → at ≡ placeOf n p r 0 → (at + k < length b) × (at + k < 65536)
+byte-below {b} {n} {p} {r} {k} h row column e =
+    let c : k / 2 < n + p = omega arith in
+    let below = place-below b n p h r (k / 2) row c in
+    let small = index-small n p r (k / 2) (omega (arith, subjects-few b n p h)) (omega (arith, plains-few b n p h)) row c in
+    (omega arith, omega arith)
+
+module _ {b : List ℕ} {n p : ℕ} (h : Station b n p) (r c : ℕ) where
+  abbrev high : ℕ
+  high = getD b (placeOf n p r c) 0
+
+  abbrev low : ℕ
+  low = getD b (placeOf n p r c + 1) 0
+
+  -- own stands in the second byte
+  pub own-read : bit 0 (cellAt b r c) ≡ bit 0 low
+  own-read = ap (bit 0) (cell-is b n p h r c) ∙ bit-low 0 7 high low
+
+  -- and a cell with own is stored there
+  pub own-stored : setCell b r c (withBit 0 true (cellAt b r c)) ≡ set b (placeOf n p r c + 1) (withBit 0 true low)
+  own-stored =
+      let u = withBit 0 true low in
+      let small : u < 256 = withBit-below 8 0 true low (omega arith) (h .octets .octet (placeOf n p r c + 1)) in
+      let first : high < 256 = h .octets .octet (placeOf n p r c) in
+      let e : withBit 0 true (cellAt b r c) ≡ high * 256 + u = ap (withBit 0 true) (cell-is b n p h r c) ∙ with-high in
+      let q : (high * 256 + u) / 256 % 256 ≡ high = omega arith in
+      let m : (high * 256 + u) % 256 ≡ u = omega arith in
+      ap (setCell b r c) e ∙ store-is b n p h r c (high * 256 + u)
+      ∙ ap₂ (λ (v w : ℕ). set (set b (placeOf n p r c) v) (placeOf n p r c + 1) w) q m
+      ∙ ap (λ (l : List ℕ). set l (placeOf n p r c + 1) u) (set-same b (placeOf n p r c))
+    where
+      with-high : withBit 0 true (high * 256 + low) ≡ high * 256 + withBit 0 true low
+      with-high = unfold withBit in rw (bit-low 0 7 high low) (by (bit 0 low))
+        where
+          by : (t : Bool) → cond t (high * 256 + low) (high * 256 + low + 1) ≡ high * 256 + cond t low (low + 1)
+          by true = refl
+          by false = omega arith
