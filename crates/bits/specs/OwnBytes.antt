@@ -14,7 +14,8 @@ use Rattle.matrix.specs.Reading.{cellAt, setCell}
 use Rattle.laws.specs.Tests.{way}
 use Rattle.codec.specs.Bits.{withBit, withBit-below, bit-low}
 use Rattle.cells.specs.Station.{Station}
-use Rattle.cells.specs.Places.{placeOf, place-below, index-small, subjects-few, plains-few, cell-is, store-is}
+use Rattle.cells.specs.Places.{placeOf, cell-is, store-is}
+use Rattle.cells.specs.Rows.{row-within}
 
 -- the byte x at place k of a row, with own where the byte y has it and place k is that of a cell's second byte
 abbrev pub ownJoined : ℕ → ℕ → ℕ → ℕ
@@ -62,11 +63,9 @@ set-same (x ∷ xs) (suc i) = ap (λ (r : List ℕ). x ∷ r) (set-same xs i)
 
 -- a byte of a row stands within the record, which is not long
 pub byte-below : {b : List ℕ} {n p r k at : ℕ} → Station b n p → r < n → k < 2 * (n + p) → at ≡ placeOf n p r 0 → (at + k < length b) × (at + k < 65536)
-byte-below {b} {n} {p} {r} {k} h row column e =
-    let c : k / 2 < n + p = omega arith in
-    let below = place-below b n p h r (k / 2) row c in
-    let small = index-small n p r (k / 2) (omega (arith, subjects-few b n p h)) (omega (arith, plains-few b n p h)) row c in
-    (omega arith, omega arith)
+byte-below {n = n} {p = p} {r = r} {k = k} h row column e =
+    let w = row-within {c = k / 2} {at = placeOf n p r (k / 2) + 1} h row (omega arith) refl in
+    (omega (arith, w .0), omega (arith, w .1))
 
 module _ {b : List ℕ} {n p : ℕ} (h : Station b n p) (r c : ℕ) where
   abbrev high : ℕ

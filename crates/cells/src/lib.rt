@@ -1,8 +1,10 @@
-// The cells of a record's bytes: reading one, storing one, and the one search over the rows of a column.
+// The cells of a record's bytes: reading one, storing one, and the searches over the rows of a column.
 
 ghost use mathlib.Core.Path.{_≡_};
+ghost use mathlib.Core.Bool.{cond};
 ghost use Prim.Native.Nat.{_+_, _<_};
-ghost use Rattle.matrix.specs.Bounded.{least};
+ghost use lib.Dec.{eqb};
+ghost use Rattle.matrix.specs.Bounded.{any, least};
 ghost use Rattle.matrix.specs.Bytes.{bit};
 ghost use Rattle.matrix.specs.Reading.{cellAt, setCell};
 ghost use Rattle.cells.specs.Station.{Cell, Station};
@@ -46,21 +48,41 @@ pub fn bit_of(v: usize, j: usize) -> bool
     (v >> j) % 2 == 1
 }
 
-// The lowest row but `skip` that has bit j in column c, or n if there is none. Bits 0 to 7 stand in a cell's low byte, so that alone is
-// read; `at` is its place in row r.
-pub fn first_row(b: &[u8], n: usize, p: usize, c: usize, j: usize, skip: usize) -> usize
+// The lowest row that has bit j in column c, or n if there is none. Bits 0 to 7 stand in a cell's low byte, so that alone is read; `at` is
+// its place in row r.
+pub fn first_row(b: &[u8], n: usize, p: usize, c: usize, j: usize) -> usize
     requires { ⌜ Station (now b) n p × (c < n + p) × (j < 8) ⌝ }
-    ensures { λ w. ⌜ w ≡ least n (rowHas (now (b .entry)) c j skip) ⌝ }
+    ensures { λ w. ⌜ w ≡ least n (rowHas (now (b .entry)) c j n) ⌝ }
 {
     let stride = 2 * (n + p);
     let mut at = 8 + 2 * c;
     for r in 0..n {
-        if r != skip {
-            if bit_of(b[at] as usize, j) {
-                return r;
-            }
+        if bit_of(b[at] as usize, j) {
+            return r;
         }
         at += stride;
     }
     n
+}
+
+// The byte v of row r in a search that leaves row `skip` out.
+fn unless_skipped(v: usize, r: usize, skip: usize) -> usize
+    ensures { λ x. ⌜ x ≡ cond (eqb r skip) 0 v ⌝ }
+{
+    if r == skip { 0 } else { v }
+}
+
+// Whether a row but `skip` has bit j in column c. It reads the low bytes of all rows, without a branch, and asks at the end.
+pub fn some_row(b: &[u8], n: usize, p: usize, c: usize, j: usize, skip: usize) -> bool
+    requires { ⌜ Station (now b) n p × (c < n + p) × (j < 8) ⌝ }
+    ensures { λ t. ⌜ t ≡ any n (rowHas (now (b .entry)) c j skip) ⌝ }
+{
+    let stride = 2 * (n + p);
+    let mut low = 8 + 2 * c;
+    let mut seen = 0;
+    for r in 0..n {
+        seen = seen | unless_skipped(b[low] as usize, r, skip);
+        low += stride;
+    }
+    bit_of(seen, j)
 }

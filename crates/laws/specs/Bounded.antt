@@ -2,11 +2,11 @@
 use Prim.Native.Nat.{ℕ, zero, suc, _<_}
 use native.Mathlib.Nat.{not-suc-le-zero}
 use native.Mathlib.Omega.{arith}
-use mathlib.Core.Path.{_≡_, refl, sym, _∙_, subst}
+use mathlib.Core.Path.{_≡_, refl, sym, subst}
 use mathlib.Core.Logic.{_⊎_, inl, inr, ⊎-elim}
 use mathlib.Core.Bool.{Bool, true, false, false≢true}
-use lib.Dec.{eqb, ltb}
-use borrow.Author.Tests.{eqb-true, eqb-false, lt-ltb, le-ltb}
+use lib.Dec.{eqb}
+use borrow.Author.Tests.{eqb-true, eqb-false}
 use Rattle.matrix.specs.Bounded.{any, all, count, least}
 use Rattle.laws.specs.Tests.{way, clash, fails, and-left, and-right, and-both, or-cases, or-left, or-right, or-none-left, or-none-right}
 
@@ -114,12 +114,6 @@ least-passes n f l = ⊎-elim (λ a. least-first n f a .passes) (λ a. let e : l
 
 pub least-found : (n : ℕ) (f : ℕ → Bool) (i : ℕ) → i < n → f i ≡ true → least n f < n
 least-found n f i l e = least-first n f (any-hit n f i l e) .below
-
--- something passes exactly where the search finds a number below the bound
-pub any-least : (n : ℕ) (f : ℕ → Bool) → any n f ≡ ltb (least n f) n
-any-least n f =
-    ⊎-elim (λ a. a ∙ sym (lt-ltb (least n f) n (least-first n f a .below)))
-    (λ a. let e : least n f ≡ n = least-none n f a in a ∙ sym (le-ltb (least n f) n (omega arith))) (way (any n f))
 
 pub least-same : (n : ℕ) (f g : ℕ → Bool) → ((i : ℕ) → i < n → f i ≡ g i) → least n f ≡ least n g
 unfolding least

@@ -1,17 +1,17 @@
 -- The state of a record's bytes, read from the cells.
 use Prim.Native.Nat.{ℕ, _+_, _<_}
 use native.Mathlib.Omega.{arith}
-use mathlib.Core.Path.{_≡_, sym, _∙_, ap, ap₂, subst}
+use mathlib.Core.Path.{_≡_, sym, _∙_, ap, subst}
 use mathlib.Core.Bool.{Bool, true, false, not, _&&_, and-comm}
 use mathlib.Core.List.{List}
-use lib.Dec.{eqb, ltb}
+use lib.Dec.{eqb}
 use borrow.Author.Tests.{lt-ltb, ltb-true, ne-eqb}
 use Rattle.matrix.specs.declared.Name.{Name}
 use Rattle.matrix.specs.declared.Name.the-variants.{Subject, Plain}
 use Rattle.matrix.specs.declared.Form.{Form}
 use Rattle.matrix.specs.declared.Right.{Right}
 use Rattle.matrix.specs.declared.Right.the-variants.{Own, Control, Basic}
-use Rattle.matrix.specs.Bounded.{least}
+use Rattle.matrix.specs.Bounded.{any, least}
 use Rattle.matrix.specs.Names.{named, columnOf}
 use Rattle.matrix.specs.Rights.{codeOf, rightOf}
 use Rattle.matrix.specs.State.{has, existsName}
@@ -21,7 +21,7 @@ use Rattle.matrix.specs.Bytes.{bit}
 use Rattle.matrix.specs.Valid.{Valid}
 use Rattle.matrix.specs.Shape.{shapeOf, bitsOf}
 use Rattle.matrix.specs.Reading.{cellAt, bitAt, stateOf}
-use Rattle.laws.specs.Bounded.{any-found, least-same, any-least}
+use Rattle.laws.specs.Bounded.{any-found, any-same, least-same}
 use Rattle.codec.specs.Bits.{any-bit}
 use Rattle.codec.specs.Cells.{cell-below}
 use Rattle.codec.specs.Codes.{codeOf-room, codeOf-rightOf}
@@ -56,21 +56,29 @@ module _ (b : List ℕ) (n p : ℕ) (h : Station b n p) where
   unfolding stateOf
   top-is = sym (h .subjects)
 
-  -- the search over the rows of a column, none of them left out
-  pub search-bit : (y : Right) (x : Name) → basicOf y < 7 → named n p x ≡ true → least n (rowHas b (columnOf x) (codeOf y) n) ≡ least (stateOf b .top) (λ w. has (stateOf b) y w x)
+  -- the test of a row in the searches over a column, where none is left out
+  row-bit : (y : Right) (x : Name) → basicOf y < 7 → named n p x ≡ true → (w : ℕ) → w < n → rowHas b (columnOf x) (codeOf y) n w ≡ has (stateOf b) y w x
   unfolding rowHas
+  row-bit y x hy hx w l = rw (ne-eqb w n (λ e. omega arith)) (sym (read-bit y w x hy l hx))
+
+  -- the lowest row of a column with a bit, and whether there is one
+  pub search-bit : (y : Right) (x : Name) → basicOf y < 7 → named n p x ≡ true → least n (rowHas b (columnOf x) (codeOf y) n) ≡ least (stateOf b .top) (λ w. has (stateOf b) y w x)
   search-bit y x hy hx =
-      least-same n (rowHas b (columnOf x) (codeOf y) n) (λ w. has (stateOf b) y w x)
-      (λ w l. rw (ne-eqb w n (λ e. omega arith)) (sym (read-bit y w x hy l hx)))
+      least-same n (rowHas b (columnOf x) (codeOf y) n) (λ w. has (stateOf b) y w x) (row-bit y x hy hx)
       ∙ ap (λ (m : ℕ). least m (λ w. has (stateOf b) y w x)) (sym top-is)
 
-  -- the search for a controller of subject o other than itself
-  pub search-other : (o : ℕ) → o < n → least n (rowHas b o 1 o) ≡ least (stateOf b .top) (λ w. stateOf b .controls w (Subject o) && not (eqb w o))
+  pub some-bit : (y : Right) (x : Name) → basicOf y < 7 → named n p x ≡ true → any n (rowHas b (columnOf x) (codeOf y) n) ≡ any (stateOf b .top) (λ w. has (stateOf b) y w x)
+  some-bit y x hy hx =
+      any-same n (rowHas b (columnOf x) (codeOf y) n) (λ w. has (stateOf b) y w x) (row-bit y x hy hx)
+      ∙ ap (λ (m : ℕ). any m (λ w. has (stateOf b) y w x)) (sym top-is)
+
+  -- whether a subject o has a controller other than itself
+  pub some-other : (o : ℕ) → o < n → any n (rowHas b o 1 o) ≡ otherController (stateOf b) (Subject o)
   unfolding rowHas
-  search-other o ho =
-      least-same n (rowHas b o 1 o) (λ w. stateOf b .controls w (Subject o) && not (eqb w o))
+  some-other o ho =
+      any-same n (rowHas b o 1 o) (λ w. stateOf b .controls w (Subject o) && not (eqb w o))
       (λ w l. ap (λ (t : Bool). not (eqb w o) && t) (sym (read-bit Control w (Subject o) (omega arith) l (lt-ltb o n ho))) ∙ and-comm (not (eqb w o)) (stateOf b .controls w (Subject o)))
-      ∙ ap (λ (m : ℕ). least m (λ w. stateOf b .controls w (Subject o) && not (eqb w o))) (sym top-is)
+      ∙ ap (λ (m : ℕ). any m (λ w. stateOf b .controls w (Subject o) && not (eqb w o))) (sym top-is)
 
 -- a name of the record, by its kind
 pub named-subject : {b : List ℕ} {n p s : ℕ} {x : Name} → NameIn b n p x → x ≡ Subject s → s < n
@@ -79,13 +87,11 @@ named-subject {n = n} {p = p} {s = s} h e = ltb-true s n (subst (λ (x : Name). 
 pub named-plain : {b : List ℕ} {n p o : ℕ} {x : Name} → NameIn b n p x → x ≡ Plain o → o < n + p
 named-plain {n = n} {p = p} {x = x} h e = subst (λ (x : Name). columnOf x < n + p) e (named-below n p x (h .column))
 
--- an object exists where the search of its column for an owner finds a row r
-pub object-found : {b : List ℕ} {n p o r : ℕ} {x : Name} → NameIn b n p x → x ≡ Plain o → r ≡ least n (rowHas b o 0 n) → ltb r n ≡ existsName (stateOf b) x
-object-found {b} {n} {p} {o} {r} {x} h e f =
+-- an object exists where the test t of its column for an owner passes
+pub object-found : {b : List ℕ} {n p o : ℕ} {t : Bool} {x : Name} → NameIn b n p x → x ≡ Plain o → t ≡ any n (rowHas b o 0 n) → t ≡ existsName (stateOf b) x
+object-found {b} {n} {p} {o} {x = x} h e f =
     let q : named n p (Plain o) ≡ true = subst (λ (x : Name). named n p x ≡ true) e (h .column) in
-    ap₂ (λ (m k : ℕ). ltb m k) (f ∙ search-bit b n p (h .station) Own (Plain o) (omega arith) q) (sym (top-is b n p (h .station)))
-    ∙ sym (any-least (stateOf b .top) (λ w. stateOf b .owns w (Plain o)))
-    ∙ sym (ap (λ (x : Name). existsName (stateOf b) x) e)
+    f ∙ some-bit b n p (h .station) Own (Plain o) (omega arith) q ∙ sym (ap (λ (x : Name). existsName (stateOf b) x) e)
 
 -- in a valid record an object exists where a row's cell v over it is not zero
 pub object-touched : {b : List ℕ} {n p o w v : ℕ} {x : Name} → NameIn b n p x → Valid (stateOf b) → w < n → x ≡ Plain o → v ≡ cellAt b w o → (v ≡ 0 → ⊥) → true ≡ existsName (stateOf b) x
@@ -99,12 +105,6 @@ object-touched {b} {o = o} {w = w} {x = x} h valid l e f ne =
     ∙ bitAt-named b j w x (rw (← h .station .subjects) l) named-in (found .1)
     ∙ ap (λ (y : Name). bit j (cellAt b w (columnOf y))) e ∙ found .2 in
     sym (valid .column (rightOf j) w x set)
-
--- a subject is controlled by another where the search of its column finds a row r
-pub other-found : {b : List ℕ} {n p o r : ℕ} → Station b n p → o < n → r ≡ least n (rowHas b o 1 o) → ltb r n ≡ otherController (stateOf b) (Subject o)
-other-found {b} {n} {p} {o} {r} h l f =
-    ap₂ (λ (m k : ℕ). ltb m k) (f ∙ search-other b n p h o l) (sym (top-is b n p h))
-    ∙ sym (any-least (stateOf b .top) (λ w. stateOf b .controls w (Subject o) && not (eqb w o)))
 
 -- the owner of a subject is what the search of its column finds
 pub owner-is : {b : List ℕ} {n p s r : ℕ} → Station b n p → s < n → r ≡ least n (rowHas b s 0 n) → r ≡ ownerOf (stateOf b .top) (stateOf b .owns) s

@@ -79,7 +79,7 @@ pub fn name_exists(b: &[u8], n: usize, p: usize, x: Name) -> bool
 {
     match x {
         Name::Subject(s) => subject_exists(b, n, p, s),
-        Name::Plain(o) => cells::first_row(b, n, p, o, 0, n) < n,
+        Name::Plain(o) => cells::some_row(b, n, p, o, 0, n),
     }
 }
 
@@ -108,7 +108,7 @@ pub fn controlled(b: &[u8], n: usize, p: usize, o: usize) -> bool
     requires { ⌜ Station (now b) n p × (o < n) ⌝ }
     ensures { λ t. ⌜ t ≡ otherController (stateOf (now (b .entry))) (Name.Subject o) ⌝ }
 {
-    cells::first_row(b, n, p, o, 1, o) < n
+    cells::some_row(b, n, p, o, 1, o)
 }
 
 // The owner of subject v in a valid record, or n if it has none. The byte of v in the table `owners` is only a guess: it counts where that
@@ -124,7 +124,7 @@ pub fn owner_of(b: &[u8], n: usize, p: usize, owners: &[u8; 64], v: usize) -> us
             return w;
         }
     }
-    cells::first_row(b, n, p, v, 0, n)
+    cells::first_row(b, n, p, v, 0)
 }
 
 // The owner walk from subject s for subject o in a valid record, with guesses of who owns each subject.

@@ -1,4 +1,4 @@
--- `states::name_exists` meets its contract: a subject by its own cell, a plain object by a search for an owner.
+-- `states::name_exists` meets its contract: a subject by its own cell, a plain object by a test of its column for an owner.
 use borrow.Author.Needs.{needs}
 use native.Mathlib.Omega.{arith}
 use mathlib.Core.Path.{sym, _∙_, ap}
@@ -18,15 +18,15 @@ subject-exists-requires c κs = (c .before .before .before .before .pre .station
 enum-known-x-2 : tie.Need-enum-known-x-2
 enum-known-x-2 c = search needs
 
-first-row-requires : tie.Need-first-row-requires
-first-row-requires c κs =
+some-row-requires : tie.Need-some-row-requires
+some-row-requires c κs =
     (c .before .before .before .before .pre .station, named-plain (c .before .before .before .before .pre) (c .before .x2 .given .1), omega arith)
 
 returns : tie.Need-returns
 returns c = c .subject-exists .ensures ∙ sym (ap (λ (x : Name). existsName (stateOf (c .before .before .before .before .before .args .b .now)) x) (c .before .before .x .given .1))
 
 returns-2 : tie.Need-returns-2
-returns-2 c = object-found (c .before .before .before .before .before .pre) (c .before .before .x2 .given .1) (c .first-row .ensures)
+returns-2 c = object-found (c .before .before .before .before .before .pre) (c .before .before .x2 .given .1) (c .some-row .ensures)
 
 pub name-exists-spec : {M : Type 1} → statement M
 name-exists-spec =
@@ -35,6 +35,6 @@ name-exists-spec =
     enum-known-x
     subject-exists-requires
     enum-known-x-2
-    first-row-requires
+    some-row-requires
     returns
     returns-2)
