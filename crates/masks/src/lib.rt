@@ -39,6 +39,13 @@ pub fn lowest(set: u64) -> usize
     u64::trailing_zeros(set) as usize
 }
 
+// The lowest subject that is not a member of a set, or 64 if all are.
+pub fn lowest_outside(set: u64) -> usize
+    ensures { λ r. ⌜ r ≡ least 64 (λ j. not (bit j set)) ⌝ }
+{
+    lowest(!set)
+}
+
 // The number of members of a set.
 pub fn size(set: u64) -> usize
     ensures { λ r. ⌜ r ≡ count 64 (λ j. bit j set) ⌝ }
