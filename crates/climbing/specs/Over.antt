@@ -1,23 +1,32 @@
 -- The steps of the search for an owner whose way up meets an untrusted subject.
-use Prim.Native.Nat.{ℕ, _<_}
+use Prim.Native.Nat.{ℕ, _≤_, _<_}
 use native.Mathlib.Omega.{arith}
-use mathlib.Core.Path.{_≡_, refl, sym, ap, subst}
+use mathlib.Core.Path.{_≡_, refl, sym, _∙_, ap, subst}
+use mathlib.Core.Logic.{⊎-elim}
 use mathlib.Core.Bool.{Bool, true, false, true≢false}
 use mathlib.Core.List.{List, []}
+use lib.Dec.{eqb}
 use lib.ListN.{length}
-use borrow.Author.Tests.{lt-ltb, le-ltb}
+use borrow.Author.Tests.{lt-ltb, le-ltb, eqb-true, eqb-false}
 use Rattle.matrix.specs.declared.Name.{Name}
+use Rattle.matrix.specs.declared.Name.the-variants.{Subject, Plain}
+use Rattle.matrix.specs.declared.Right.the-variants.{Own}
 use Rattle.matrix.specs.Bounded.{any, least}
+use Rattle.matrix.specs.Owners.{ownerOf}
 use Rattle.matrix.specs.Reading.{stateOf}
-use Rattle.laws.specs.Bounded.{least-hit, least-none}
+use Rattle.laws.specs.Tests.{way, fails}
+use Rattle.laws.specs.Bounded.{any-none, none-any, least-hit, least-none, least-passes}
 use Rattle.cells.specs.Station.{Station}
-use Rattle.states.specs.Reads.{top-is}
+use Rattle.cells.specs.Rows.{rowHas}
+use Rattle.states.specs.Needs.{NameIn, Guessed}
+use Rattle.states.specs.Reads.{top-is, search-bit, owner-guessed}
 use Rattle.chain.specs.Rising.{riseIn}
 use Rattle.ways.specs.Ways.{riser, wayUp, wayOver}
 use Rattle.climbing.specs.declared.Climbed.{Climbed}
 use Rattle.climbing.specs.declared.Climbed.the-variants.{At, None}
 use Rattle.climbing.specs.Climbs.{risenTo, Rises, OwnerRises, Climbs}
 use Rattle.climbing.specs.Rising.{found-none}
+use Rattle.climbing.specs.Passing.{least-before}
 
 -- ---- one owner
 
@@ -44,6 +53,10 @@ module _ {b : List ℕ} {n : ℕ} {trusted : ℕ → Bool} {x : Name} {w : ℕ} 
         found = h .found;
       }
 
+-- a subject that doesn't own x
+not-owner : (b : List ℕ) (trusted : ℕ → Bool) (x : Name) (w : ℕ) → stateOf b .owns w x ≡ false → riser (stateOf b) trusted x w ≡ false
+not-owner b trusted x w own = rw own refl
+
 -- ---- all of them
 
 module _ {b : List ℕ} {n p : ℕ} {trusted : ℕ → Bool} {x : Name} {path : List ℕ} (h : Station b n p) where
@@ -67,3 +80,49 @@ module _ {b : List ℕ} {n p : ℕ} {trusted : ℕ → Bool} {x : Name} {path : 
       subst (λ (m : ℕ). any m (riser (stateOf b) trusted x) ≡ false) (sym top) before in
       let last : least (stateOf b .top) (riser (stateOf b) trusted x) ≡ stateOf b .top = least-none (stateOf b .top) (riser (stateOf b) trusted x) a in
       record { way = rw (last, le-ltb (stateOf b .top) (stateOf b .top) (omega arith)) refl; size = e; found = found-none n path }
+
+-- ---- a plain object
+
+-- no row below the first that has own in the column of o owns it
+pub unowned : {b : List ℕ} {n p o first : ℕ} (trusted : ℕ → Bool) → NameIn b n p (Plain o) → first ≡ least n (rowHas b o 0 n)
+    → any first (riser (stateOf b) trusted (Plain o)) ≡ false
+unowned {b} {n} {p} {o} {first} trusted h e =
+    none-any first (riser (stateOf b) trusted (Plain o))
+    (λ j l. not-owner b trusted (Plain o) j (any-none first (λ w. stateOf b .owns w (Plain o)) j
+    (subst (λ (m : ℕ). any m (λ w. stateOf b .owns w (Plain o)) ≡ false) (sym searched) (least-before (stateOf b .top) (λ w. stateOf b .owns w (Plain o)))) l))
+  where
+    searched : first ≡ least (stateOf b .top) (λ w. stateOf b .owns w (Plain o))
+    searched = e ∙ search-bit b n p (h .station) Own (Plain o) (omega arith) (h .column)
+
+-- ---- a subject, which has one owner in a valid record
+
+module _ {b owners : List ℕ} {n p : ℕ} (h : Guessed b n p owners) (v : ℕ) {w : ℕ} (e : w ≡ ownerOf (stateOf b .top) (stateOf b .owns) v) where
+  others-not : (trusted : ℕ → Bool) (j : ℕ) → (j ≡ w → ⊥) → riser (stateOf b) trusted (Subject v) j ≡ false
+  others-not trusted j ne = not-owner b trusted (Subject v) j (fails (stateOf b .owns j (Subject v)) (λ o. ne (owner-guessed v h refl o ∙ sym e)))
+
+  pub subject-lost : (trusted : ℕ → Bool) {path : List ℕ} → n ≤ w → length path ≡ 64 → Climbs b n trusted (Subject v) path None
+  subject-lost trusted l size = climbs-none (h .station) (none-any n (riser (stateOf b) trusted (Subject v)) (λ j k. others-not trusted j (λ q. omega arith))) size
+
+  pub subject-rises : {trusted : ℕ → Bool} {path : List ℕ} → w < n → (r : Climbed) → Rises b n trusted w path r → Climbs b n trusted (Subject v) path r
+  subject-rises {trusted} {path} l r g = each r (owner-rises own g)
+    where
+      own : stateOf b .owns w (Subject v) ≡ true
+      own =
+          let top : stateOf b .top ≡ n = top-is b n p (h .station) in
+          subst (λ (i : ℕ). stateOf b .owns i (Subject v) ≡ true) (sym e)
+          (least-passes (stateOf b .top) (λ i. stateOf b .owns i (Subject v)) (omega arith))
+
+      each : (r : Climbed) → OwnerRises b n trusted (Subject v) w path r → Climbs b n trusted (Subject v) path r
+      each (At u m) k = climbs-met (h .station) l (none-any w (riser (stateOf b) trusted (Subject v)) (λ j i. others-not trusted j (λ q. omega arith))) k refl
+      each None k = climbs-none (h .station) (none-any n (riser (stateOf b) trusted (Subject v)) (λ j i. ⊎-elim
+          (λ (t : eqb j w ≡ true). subst (λ (i : ℕ). riser (stateOf b) trusted (Subject v) i ≡ false) (sym (eqb-true j w t)) (k .missed refl))
+          (λ (t : eqb j w ≡ false). others-not trusted j (eqb-false j w t)) (way (eqb j w)))) (k .size)
+
+-- ---- a name whose kind is known
+
+pub named-as : {b : List ℕ} {n p : ℕ} {x x₁ : Name} → NameIn b n p x → x ≡ x₁ → NameIn b n p x₁
+named-as {b} {n} {p} h e = subst (NameIn b n p) e h
+
+pub climbs-over : {b : List ℕ} {n : ℕ} {trusted : ℕ → Bool} {x x₁ : Name} {path : List ℕ} {r : Climbed} → x ≡ x₁ → Climbs b n trusted x₁ path r
+    → Climbs b n trusted x path r
+climbs-over {b} {n} {trusted} {path = path} {r = r} e h = subst (λ (x : Name). Climbs b n trusted x path r) (sym e) h

@@ -18,13 +18,6 @@ use Rattle.ways.specs.Ways.{starHolder}
 
 -- ---- the star
 
--- t and u are the answers of the two tests that are made
-pub star-trusted : {t e : Bool} (u : Bool) → t ≡ true → t ≡ e → (not e && u) ≡ false
-star-trusted u h f = ap (λ (e : Bool). not e && u) (sym f ∙ h)
-
-pub star-tested : {t e u : Bool} → t ≡ false → t ≡ e → (u₁ : Bool) → u ≡ u₁ → (not e && u₁) ≡ u
-star-tested h f u₁ g = ap (λ (e : Bool). not e && u₁) (sym f ∙ h) ∙ sym g
-
 -- for a right that is known
 pub star-is : (S : State) (trusted : ℕ → Bool) (x : Name) (n : ℕ) {y y₁ : Right} → y ≡ y₁
     → least n (starHolder S trusted x y) ≡ least n (starHolder S trusted x y₁)

@@ -100,8 +100,53 @@ fn owner_rise(
     rise_from(b, n, p, trust, w, owners, closed, path)
 }
 
-// The way over an existing name x: that of its lowest owner whose way up meets an untrusted subject. `closed` gathers the subjects passed by
+// The way over subject v of a valid record: that of its owner, since it has no other.
+fn way_over_subject(
+    b: &[u8],
+    n: usize,
+    p: usize,
+    trust: u64,
+    v: usize,
+    owners: &[u8; 64],
+    path: &mut [u8; 64],
+) -> Climbed
+    requires { ⌜ Guessed (now b) n p (now owners) × (v < n) × (length (now path) ≡ 64) ⌝ }
+    ensures { λ r. ⌜ Climbs (now (b .entry)) n (trustedBy trust) (Name.Subject v) (now (path .exit)) r ⌝ }
+{
+    let w = states::owner_of(b, n, p, owners, v);
+    if n <= w {
+        return Climbed::None;
+    }
+    let mut closed: u64 = 0;
+    rise_from(b, n, p, trust, w, owners, &mut closed, path)
+}
+
+// The way over plain object o: that of its lowest owner whose way up meets an untrusted subject. `closed` gathers the subjects passed by
 // ways up that met none, so that no later way passes them again.
+fn way_over_plain(
+    b: &[u8],
+    n: usize,
+    p: usize,
+    trust: u64,
+    o: usize,
+    owners: &[u8; 64],
+    path: &mut [u8; 64],
+) -> Climbed
+    requires { ⌜ NameIn (now b) n p (Name.Plain o) × Guessed (now b) n p (now owners) × (length (now path) ≡ 64) ⌝ }
+    ensures { λ r. ⌜ Climbs (now (b .entry)) n (trustedBy trust) (Name.Plain o) (now (path .exit)) r ⌝ }
+{
+    let first = cells::first_row(b, n, p, o, 0);
+    let mut closed: u64 = 0;
+    for w in first..n {
+        let r = owner_rise(b, n, p, trust, Name::Plain(o), w, owners, &mut closed, path);
+        let Climbed::None = r else {
+            return r;
+        };
+    }
+    Climbed::None
+}
+
+// The way over an existing name x of a valid record.
 pub fn way_up(
     b: &[u8],
     n: usize,
@@ -114,27 +159,26 @@ pub fn way_up(
     requires { ⌜ NameIn (now b) n p x × Guessed (now b) n p (now owners) × (length (now path) ≡ 64) ⌝ }
     ensures { λ r. ⌜ Climbs (now (b .entry)) n (trustedBy trust) x (now (path .exit)) r ⌝ }
 {
-    let mut closed: u64 = 0;
-    for w in 0..n {
-        let r = owner_rise(b, n, p, trust, x, w, owners, &mut closed, path);
-        let Climbed::None = r else {
-            return r;
-        };
+    match x {
+        Name::Subject(v) => way_over_subject(b, n, p, trust, v, owners, path),
+        Name::Plain(o) => way_over_plain(b, n, p, trust, o, owners, path),
     }
-    Climbed::None
 }
 
-// The lowest untrusted subject that has basic right k starred over x, or n if there is none.
+// The lowest untrusted subject that has basic right k starred over x, or n if there is none. `passed` are the trusted subjects and those
+// whose cell was looked at, so that the search goes from one untrusted subject to the next.
 fn star_row(b: &[u8], n: usize, p: usize, trust: u64, k: usize, x: Name) -> usize
     requires { ⌜ NameIn (now b) n p x × (k < 7) ⌝ }
     ensures { λ i. ⌜ i ≡ least n (starHolder (stateOf (now (b .entry))) (trustedBy trust) x (Right.Basic k Form.Starred)) ⌝ }
 {
-    for v in 0..n {
-        if !masks::is_trusted(trust, v) {
-            if states::has_bit(b, n, p, Right::Basic(k, Form::Starred), v, x) {
-                return v;
-            }
+    let mut passed = trust;
+    let mut v = masks::lowest_outside(passed);
+    while v < n {
+        if states::has_bit(b, n, p, Right::Basic(k, Form::Starred), v, x) {
+            return v;
         }
+        passed = masks::added(passed, v);
+        v = masks::lowest_outside(passed);
     }
     n
 }

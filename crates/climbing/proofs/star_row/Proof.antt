@@ -1,57 +1,64 @@
--- `climbing::star_row` meets its contract. The loop's invariant: no subject below v passes the test.
+-- `climbing::star_row` meets its contract. The loop's invariant: v is the lowest subject not passed, and no subject passed is an untrusted
+-- one with the star.
 use borrow.Author.Needs.{needs}
-use borrow.Author.Tests.{not-true, not-false}
-use Prim.Native.Nat.{ℕ, _-_, _≤_}
-use native.Mathlib.Numerals.{add-one}
+use Prim.Native.Nat.{ℕ, _-_}
 use native.Mathlib.Omega.{arith}
-use mathlib.Core.Path.{_≡_, refl, sym, _∙_, subst}
-use mathlib.Core.Logic.{⊎-elim}
-use mathlib.Core.Bool.{false}
+use mathlib.Core.Path.{_≡_}
+use mathlib.Core.Bool.{not}
+use Rattle.matrix.specs.Bounded.{least}
+use Rattle.matrix.specs.Bytes.{bit}
 use Rattle.matrix.specs.declared.Form.the-variants.{Starred}
-use Rattle.matrix.specs.declared.Right.the-variants.{Basic}
-use Rattle.matrix.specs.Bounded.{any}
 use Rattle.matrix.specs.Reading.{stateOf}
-use Rattle.laws.specs.Bounded.{any-miss, least-hit, least-none}
 use Rattle.cells.specs.Places.{subjects-few}
 use Rattle.question.specs.Trust.{trustedBy}
-use Rattle.ways.specs.Ways.{starHolder}
-use Rattle.climbing.specs.Targets.{star-trusted, star-tested}
+use Rattle.climbing.specs.Passing.{Passed, passed-trusted, star-none, star-found, passed-more, passed-higher}
 use Rattle.climbing.proofs.star_row.Statement.{statement}
 use Rattle.climbing.proofs.star_row.Tie as tie
 
 abbrev Inv-loop : tie.InvT-loop
-Inv-loop b n p trust k x v₀ v = (v ≤ n) × (any v (starHolder (stateOf b) (trustedBy trust) x (Basic k Starred)) ≡ false)
+Inv-loop b n p trust k x passed₀ v₀ passed v =
+    (v ≡ least 64 (λ j. not (bit j passed))) × Passed (trustedBy trust) (λ j. stateOf b .basic k Starred j x) passed
 
 abbrev μ-loop : tie.MeasureT-loop
-μ-loop b n p trust k x v₀ v = n - v
+μ-loop b n p trust k x passed₀ v₀ passed v = n - v
+
+lowest-outside-requires : tie.Need-lowest-outside-requires Inv-loop μ-loop
+lowest-outside-requires c κs = search needs
 
 loop-holds : tie.Need-loop-holds Inv-loop μ-loop
-unfolding any
-loop-holds c = (search needs, refl)
-
-is-trusted-requires : tie.Need-is-trusted-requires Inv-loop μ-loop
-is-trusted-requires c κs = omega (arith, subjects-few _ _ _ (c .before .before .before .pre .0 .station))
+loop-holds c = (c .lowest-outside .ensures, passed-trusted _ _)
 
 has-bit-requires : tie.Need-has-bit-requires Inv-loop μ-loop
 has-bit-requires c κs =
-    let q = c .before .before .before .before .before .pre in
-    record { station = q .0 .station; right = q .1; row = c .before .before .loop-test .taken; column = q .0 .column }
+    let q = c .before .before .before .before .pre in
+    record { station = q .0 .station; right = q .1; row = c .loop-test .taken; column = q .0 .column }
 
 returns : tie.Need-returns Inv-loop μ-loop
-returns c = sym (least-hit _ _ _ (c .before .before .before .before .loop-test .taken) (c .before .before .before .before .before .loop .inv .1) (star-tested (not-true _ (c .before .before .if1 .taken)) (c .before .before .before .is-trusted .ensures) _ (c .before .has-bit .ensures) ∙ c .if2 .taken))
+returns c =
+    let i = c .before .before .before .loop .inv in
+    let l = c .before .before .loop-test .taken in
+    star-found (i .1) (i .0) (omega (arith, subjects-few _ _ _ (c .before .before .before .before .before .before .pre .0 .station))) l (c .before .has-bit .ensures) (c .if1 .taken)
 
-add-v : tie.Need-add-v Inv-loop μ-loop
-add-v c = search needs
+added-requires : tie.Need-added-requires Inv-loop μ-loop
+added-requires c κs = omega (arith, c .before .before .loop-test .taken, subjects-few _ _ _ (c .before .before .before .before .before .before .pre .0 .station))
+
+lowest-outside-requires-2 : tie.Need-lowest-outside-requires-2 Inv-loop μ-loop
+lowest-outside-requires-2 c κs = search needs
 
 loop-less : tie.Need-loop-less Inv-loop μ-loop
-loop-less c = search needs
+loop-less c =
+    let i = c .before .before .before .before .before .loop .inv in
+    let l = c .before .before .before .before .loop-test .taken in
+    omega (arith, passed-higher (i .1) (i .0) (omega (arith, subjects-few _ _ _ (c .before .before .before .before .before .before .before .before .pre .0 .station))) (c .before .added .ensures) (c .lowest-outside2 .ensures))
 
 loop-again : tie.Need-loop-again Inv-loop μ-loop
 loop-again c =
-    (search needs, rw add-one (any-miss _ _ (c .before .before .before .loop .inv .1) (⊎-elim (λ w. star-tested (not-true _ (w .0 .taken)) (c .before .is-trusted .ensures) _ (w .1 .ensures) ∙ w .2 .left) (λ w. star-trusted _ (not-false _ (w .left)) (c .before .is-trusted .ensures)) (c .if1 .came))))
+    let i = c .before .before .before .before .before .loop .inv in
+    let l = c .before .before .before .before .loop-test .taken in
+    (c .lowest-outside2 .ensures, passed-more (i .1) (i .0) (omega (arith, subjects-few _ _ _ (c .before .before .before .before .before .before .before .before .pre .0 .station))) (c .before .added .ensures) (c .before .before .before .has-bit .ensures) (c .before .before .if1 .left))
 
 returns-2 : tie.Need-returns-2 Inv-loop μ-loop
-returns-2 c = sym (least-none _ _ (subst (λ (m : ℕ). any m (starHolder (stateOf (c .before .before .before .args .b .now)) (trustedBy (c .before .before .before .args .trust)) (c .before .before .before .args .x) (Basic (c .before .before .before .args .k) Starred)) ≡ false) (omega arith) (c .before .loop .inv .1)))
+returns-2 c = star-none (c .before .loop .inv .1) (c .before .loop .inv .0) (c .loop-test .left)
 
 pub star-row-spec : {M : Type 1} → statement M
 star-row-spec =
@@ -59,11 +66,12 @@ star-row-spec =
     (tie.spec
     Inv-loop
     μ-loop
+    lowest-outside-requires
     loop-holds
-    is-trusted-requires
     has-bit-requires
     returns
-    add-v
+    added-requires
+    lowest-outside-requires-2
     loop-less
     loop-again
     returns-2)
