@@ -1,15 +1,18 @@
 // One command on a valid record: decoded, tested, and carried out where it is accepted.
 
 use decoding::Decoded;
+use matrix::Act;
 use matrix::Answer;
 use matrix::Command;
 use matrix::Fields;
 use matrix::Form;
 use matrix::Kind;
+use matrix::Name;
 use matrix::Right;
 ghost use mathlib.Core.Path.{_≡_};
 ghost use mathlib.Core.Bool.{true};
 ghost use Prim.Native.Nat.{_<_};
+ghost use lib.ListN.{length};
 ghost use Rattle.matrix.specs.Commands.{kindOf};
 ghost use Rattle.matrix.specs.Valid.{Valid};
 ghost use Rattle.matrix.specs.Reading.{stateOf};
@@ -20,16 +23,83 @@ ghost use Rattle.rules.specs.Needs.{CommandIn};
 ghost use Rattle.commands.specs.Answered.{Answered, Carried};
 ghost use Rattle.commands.specs.Allowed.{Where, Allowed};
 
+// Row w becomes the guess of who owns subject v.
+fn guess(owners: &mut [u8; 64], v: usize, w: usize)
+    requires { ⌜ (length (now owners) ≡ 64) × (w < 64) ⌝ }
+    ensures { λ _. ⌜ length (now (owners .exit)) ≡ 64 ⌝ }
+{
+    if v < 64 {
+        owners[v] = w as u8;
+    }
+}
+
+// A guess w, or row i where it is row s.
+fn handed_on(w: u8, s: u8, i: u8) -> u8 {
+    if w == s { i } else { w }
+}
+
+// Row i becomes the guess wherever row s is.
+fn hand_on(owners: &mut [u8; 64], s: usize, i: usize)
+    requires { ⌜ (length (now owners) ≡ 64) × (s < 64) × (i < 64) ⌝ }
+    ensures { λ _. ⌜ length (now (owners .exit)) ≡ 64 ⌝ }
+{
+    let from = s as u8;
+    let to = i as u8;
+    for v in 0..64 {
+        owners[v] = handed_on(owners[v], from, to);
+    }
+}
+
+// The guesses follow a transfer of the right y over o to s.
+fn follow_transfer(owners: &mut [u8; 64], o: Name, s: usize, y: Right)
+    requires { ⌜ (length (now owners) ≡ 64) × (s < 64) ⌝ }
+    ensures { λ _. ⌜ length (now (owners .exit)) ≡ 64 ⌝ }
+{
+    match y {
+        Right::Own => guess(owners, states::column_of(o), s),
+        Right::Control => {}
+        Right::Basic(_, _) => {}
+    }
+}
+
+// The guesses of who owns each subject follow an accepted command, so that a run's walks seldom have to search. They stay guesses:
+// nothing rests on what stands in the table.
+fn follow(owners: &mut [u8; 64], d: Command)
+    requires { ⌜ (length (now owners) ≡ 64) × (d .s < 64) × (d .i < 64) ⌝ }
+    ensures { λ _. ⌜ length (now (owners .exit)) ≡ 64 ⌝ }
+{
+    let act = d.act;
+    let o = d.o;
+    match act {
+        Act::Transfer(y) => follow_transfer(owners, o, d.s, y),
+        Act::Grant(_) => {}
+        Act::Delete(_) => {}
+        Act::CreateObject => {}
+        Act::DestroyObject => {}
+        Act::CreateSubject => guess(owners, d.s, d.i),
+        Act::DestroySubject => hand_on(owners, d.s, d.i),
+    }
+}
+
 // A decoded command, tested and carried out.
-fn carry_out(b: &mut [u8], n: usize, p: usize, owners: &[u8; 64], d: Command, kind: Kind) -> Answer
+fn carry_out(
+    b: &mut [u8],
+    n: usize,
+    p: usize,
+    owners: &mut [u8; 64],
+    d: Command,
+    kind: Kind,
+) -> Answer
     requires { ⌜ CommandIn (now b) n p d × (kind ≡ kindOf (d .act)) × Guessed (now b) n p (now owners) ⌝ }
-    ensures { λ r. ⌜ Carried (now (b .entry)) (now (b .exit)) d r ⌝ }
+    ensures answer { λ r. ⌜ Carried (now (b .entry)) (now (b .exit)) d r ⌝ }
+    ensures table { λ _. ⌜ length (now (owners .exit)) ≡ 64 ⌝ }
 {
     let v = verdict::judge(b, n, p, owners, d, kind);
     if v.refusal != 0 {
         return Answer::Refused(v.refusal, v.links);
     }
     changes::apply(b, n, p, d);
+    follow(owners, d);
     Answer::Accepted(v.links)
 }
 
@@ -79,9 +149,10 @@ fn by_right(b: &mut [u8], n: usize, p: usize, c: Fields) -> bool
 }
 
 // A command as given, on a valid record of n subject names and p plain names, with guesses of who owns each subject.
-pub fn command_on(b: &mut [u8], n: usize, p: usize, owners: &[u8; 64], c: Fields) -> Answer
+pub fn command_on(b: &mut [u8], n: usize, p: usize, owners: &mut [u8; 64], c: Fields) -> Answer
     requires { ⌜ Guessed (now b) n p (now owners) ⌝ }
-    ensures { λ r. ⌜ Answered (now (b .entry)) (now (b .exit)) c r ⌝ }
+    ensures answer { λ r. ⌜ Answered (now (b .entry)) (now (b .exit)) c r ⌝ }
+    ensures table { λ _. ⌜ length (now (owners .exit)) ≡ 64 ⌝ }
 {
     let decoded = decoding::decode(n, p, c);
     match decoded {
@@ -91,9 +162,16 @@ pub fn command_on(b: &mut [u8], n: usize, p: usize, owners: &[u8; 64], c: Fields
 }
 
 // The same in a list, where most commands are accepted: the short way is tried first.
-pub fn command_in_list(b: &mut [u8], n: usize, p: usize, owners: &[u8; 64], c: Fields) -> Answer
+pub fn command_in_list(
+    b: &mut [u8],
+    n: usize,
+    p: usize,
+    owners: &mut [u8; 64],
+    c: Fields,
+) -> Answer
     requires { ⌜ Guessed (now b) n p (now owners) ⌝ }
-    ensures { λ r. ⌜ Answered (now (b .entry)) (now (b .exit)) c r ⌝ }
+    ensures answer { λ r. ⌜ Answered (now (b .entry)) (now (b .exit)) c r ⌝ }
+    ensures table { λ _. ⌜ length (now (owners .exit)) ≡ 64 ⌝ }
 {
     if by_right(b, n, p, c) {
         return Answer::Accepted(0);

@@ -20,9 +20,9 @@ fn number_of(a: Answer) -> usize
     }
 }
 
-// The commands of the list in turn, up to the first that is refused. The guesses of who owns each subject stay as they are: where a
-// command gave a subject another owner, the guess is wrong from then on, and that owner is searched.
-pub fn run_on(b: &mut [u8], n: usize, p: usize, owners: &[u8; 64], l: &[u8]) -> Outcome
+// The commands of the list in turn, up to the first that is refused. The guesses of who owns each subject follow the commands; where one
+// is wrong all the same, that owner is searched.
+pub fn run_on(b: &mut [u8], n: usize, p: usize, owners: &mut [u8; 64], l: &[u8]) -> Outcome
     requires { ⌜ Guessed (now b) n p (now owners) × (wellFormed (now l) ≡ true) ⌝ }
     ensures { λ r. ⌜ RunOn (now (b .entry)) (now (b .exit)) (now (l .entry)) r ⌝ }
 {

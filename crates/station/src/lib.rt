@@ -49,7 +49,7 @@ pub fn command(b: &mut [u8], code: u64, i: u64, s: u64, o: u64, k: u64) -> Answe
         o: o as usize,
         k: k as usize,
     };
-    commands::command_on(b, n, p, &owners, c)
+    commands::command_on(b, n, p, &mut owners, c)
 }
 
 // The commands of a list in turn, up to the first that is refused: how many were accepted, and the refusal, 0 if none.
@@ -73,7 +73,7 @@ pub fn run(b: &mut [u8], l: &[u8]) -> Outcome
     }
     let n = opening::byte(b, 5);
     let p = opening::byte(b, 6);
-    runs::run_on(b, n, p, &owners, l)
+    runs::run_on(b, n, p, &mut owners, l)
 }
 
 // The safety question: safe, or leaks by a list that is written at the start of `out`, or refused by a number.

@@ -13,8 +13,9 @@ enum-known-decoded c = search needs
 
 carry-out-requires : tie.Need-carry-out-requires
 carry-out-requires c κs =
-    let w = decoded-to _ _ _ (c .before .before .before .before .decode .ensures) (c .before .before .decoded .given .1) in
-    (command-in _ _ _ (c .before .before .before .before .before .before .pre .station) _ w, w .kind-needed, c .before .before .before .before .before .before .pre)
+    let z = c .before .before .before .before .before .before .before .pre in
+    let w = decoded-to _ _ _ (c .before .before .before .before .before .decode .ensures) (c .before .before .before .decoded .given .1) in
+    (command-in _ _ _ (z .station) _ w, w .kind-needed, z)
 
 enum-known-decoded-2 : tie.Need-enum-known-decoded-2
 enum-known-decoded-2 c = search needs
@@ -24,10 +25,11 @@ same-length c = search needs
 
 returns : tie.Need-returns
 returns c =
-    answered-decoded _ _ _ (c .before .before .before .before .before .before .before .before .before .pre .station) _ (decoded-to _ _ _ (c .before .before .before .before .before .before .before .decode .ensures) (c .before .before .before .before .before .decoded .given .1)) (c .before .before .carry-out .ensures)
+    let w = decoded-to _ _ _ (c .before .before .before .before .before .before .before .before .decode .ensures) (c .before .before .before .before .before .before .decoded .given .1) in
+    (answered-decoded _ _ _ (c .before .before .before .before .before .before .before .before .before .before .pre .station) _ w (c .before .before .carry-out .ensures .0), c .before .before .carry-out .ensures .1)
 
 returns-2 : tie.Need-returns-2
-returns-2 c = answered-refused _ _ _ (c .before .before .before .before .before .pre .station) _ (refused-by _ _ _ (c .before .before .before .decode .ensures) (c .before .decoded2 .given .1))
+returns-2 c = let z = c .before .before .before .before .before .pre in (answered-refused _ _ _ (z .station) _ (refused-by _ _ _ (c .before .before .before .decode .ensures) (c .before .decoded2 .given .1)), z .size)
 
 pub command-on-spec : {M : Type 1} → statement M
 command-on-spec =

@@ -48,7 +48,7 @@ same-length-2 c = search needs
 returns-2 : tie.Need-returns-2
 returns-2 c =
     let f = c .before .before .before .before .before in
-    (command-reply (right (f .before .before .before .before)) (opened f) (c .before .before .command-on .ensures), command-done (right (f .before .before .before .before)) (opened f) (c .before .before .command-on .ensures))
+    (command-reply (right (f .before .before .before .before)) (opened f) (c .before .before .command-on .ensures .0), command-done (right (f .before .before .before .before)) (opened f) (c .before .before .command-on .ensures .0))
 
 pub command-spec : {M : Type 1} → statement M
 command-spec =
