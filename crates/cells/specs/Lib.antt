@@ -1,3 +1,4 @@
 pub mod Station
 pub mod Places
 pub mod Rows
+pub mod Blocks

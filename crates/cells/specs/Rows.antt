@@ -24,7 +24,7 @@ unfoldable pub rowHas : List ℕ → ℕ → ℕ → ℕ → ℕ → Bool
 rowHas b c j skip r = not (eqb r skip) && bit j (cellAt b r c)
 
 -- bits 0 to 7 of a cell are those of its low byte
-low-bit : (j high low : ℕ) → j < 8 → bit j (high * 256 + low) ≡ bit j low
+pub low-bit : (j high low : ℕ) → j < 8 → bit j (high * 256 + low) ≡ bit j low
 low-bit j high low h =
     let e : suc (7 - j) + j ≡ 8 = omega arith in
     subst (λ (m : ℕ). bit j (high * 2 ^ m + low) ≡ bit j low) e (bit-low j (7 - j) high low)

@@ -2,14 +2,16 @@
 
 ghost use mathlib.Core.Path.{_≡_};
 ghost use mathlib.Core.Bool.{cond};
-ghost use Prim.Native.Nat.{_+_, _<_};
+ghost use Prim.Native.Nat.{_+_, _*_, _/_, _<_};
 ghost use lib.Dec.{eqb};
+ghost use lib.ListN.{length, getD};
 ghost use Rattle.matrix.specs.Bounded.{any, least};
 ghost use Rattle.matrix.specs.Bytes.{bit};
 ghost use Rattle.matrix.specs.Reading.{cellAt, setCell};
 ghost use Rattle.cells.specs.Station.{Cell, Station};
 ghost use Rattle.cells.specs.Places.{placeOf};
 ghost use Rattle.cells.specs.Rows.{rowHas};
+ghost use Rattle.cells.specs.Blocks.{blockHas};
 
 // The place of the first byte of the cell of row r and column c.
 pub fn place(n: usize, p: usize, r: usize, c: usize) -> usize
@@ -85,4 +87,31 @@ pub fn some_row(b: &[u8], n: usize, p: usize, c: usize, j: usize, skip: usize) -
         low += stride;
     }
     bit_of(seen, j)
+}
+
+// Whether one of four bytes has bit j: the first is at `at`, each further one `stride` after it.
+fn one_of_four(b: &[u8], at: usize, stride: usize, j: usize) -> bool
+    requires { ⌜ (at + 3 * stride < length (now b)) × (j < 8) ⌝ }
+    ensures { λ t. ⌜ t ≡ any 4 (λ i. bit j (getD (now (b .entry)) (at + i * stride) 0)) ⌝ }
+{
+    let all = b[at] | b[at + stride] | b[at + 2 * stride] | b[at + 3 * stride];
+    bit_of(all as usize, j)
+}
+
+// The lowest block of four rows of which one has bit j, of 0 to 7, in column c, or the number of whole blocks if there is none. The rows of
+// block q are 4 q to 4 q + 3; their low bytes are tested together, the first of them at `low`.
+pub fn first_block(b: &[u8], n: usize, p: usize, c: usize, j: usize) -> usize
+    requires { ⌜ Station (now b) n p × (c < n + p) × (j < 8) ⌝ }
+    ensures { λ q. ⌜ q ≡ least (n / 4) (blockHas (now (b .entry)) c j) ⌝ }
+{
+    let stride = 2 * (n + p);
+    let blocks = n / 4;
+    let mut low = 8 + 2 * c;
+    for q in 0..blocks {
+        if one_of_four(b, low, stride, j) {
+            return q;
+        }
+        low += 4 * stride;
+    }
+    blocks
 }

@@ -7,10 +7,10 @@ use Rattle.commands.proofs.hand_on.Statement.{statement}
 use Rattle.commands.proofs.hand_on.Tie as tie
 
 abbrev Inv-loop : tie.InvT-loop
-Inv-loop owners₀ s i from to v₀ owners v = (v ≤ 128) × (length owners ≡ 128)
+Inv-loop owners₀ s i from to v₀ owners v = (v ≤ 64) × (length owners ≡ 64)
 
 abbrev μ-loop : tie.MeasureT-loop
-μ-loop owners₀ s i from to v₀ owners v = 128 - v
+μ-loop owners₀ s i from to v₀ owners v = 64 - v
 
 cast-from : tie.Need-cast-from Inv-loop μ-loop
 cast-from c = search needs

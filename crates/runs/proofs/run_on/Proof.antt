@@ -12,7 +12,7 @@ use Rattle.runs.proofs.run_on.Statement.{statement}
 use Rattle.runs.proofs.run_on.Tie as tie
 
 abbrev Inv-loop : tie.InvT-loop
-Inv-loop b₀ n p owners₀ l accepted₀ at₀ b owners accepted at = (accepted ≡ at) × Reached b₀ b l n p (commandsIn l) at × (length owners ≡ 128)
+Inv-loop b₀ n p owners₀ l accepted₀ at₀ b owners accepted at = (accepted ≡ at) × Reached b₀ b l n p (commandsIn l) at × (length owners ≡ 64)
 
 abbrev μ-loop : tie.MeasureT-loop
 μ-loop b₀ n p owners₀ l accepted₀ at₀ b owners accepted at = commandsIn l - at
