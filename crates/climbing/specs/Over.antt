@@ -1,5 +1,5 @@
 -- The steps of the search for an owner whose way up meets an untrusted subject.
-use Prim.Native.Nat.{ℕ, _≤_, _<_}
+use Prim.Native.Nat.{ℕ, _*_, _/_, _≤_, _<_}
 use native.Mathlib.Omega.{arith}
 use mathlib.Core.Path.{_≡_, refl, sym, _∙_, ap, subst}
 use mathlib.Core.Logic.{⊎-elim}
@@ -17,16 +17,16 @@ use Rattle.matrix.specs.Reading.{stateOf}
 use Rattle.laws.specs.Tests.{way, fails}
 use Rattle.laws.specs.Bounded.{any-none, none-any, least-hit, least-none, least-passes}
 use Rattle.cells.specs.Station.{Station}
-use Rattle.cells.specs.Rows.{rowHas}
+use Rattle.cells.specs.Blocks.{blockHas, blocks-clear}
 use Rattle.states.specs.Needs.{NameIn, Guessed}
-use Rattle.states.specs.Reads.{top-is, search-bit, owner-guessed}
+use Rattle.states.specs.Reads.{top-is, read-bit, owner-guessed}
 use Rattle.chain.specs.Rising.{riseIn}
 use Rattle.ways.specs.Ways.{riser, wayUp, wayOver}
 use Rattle.climbing.specs.declared.Climbed.{Climbed}
 use Rattle.climbing.specs.declared.Climbed.the-variants.{At, None}
 use Rattle.climbing.specs.Climbs.{risenTo, Rises, OwnerRises, Climbs}
 use Rattle.climbing.specs.Rising.{found-none}
-use Rattle.climbing.specs.Passing.{least-before}
+use Rattle.climbing.specs.Passing.{least-before, least-most}
 
 -- ---- one owner
 
@@ -83,16 +83,18 @@ module _ {b : List ℕ} {n p : ℕ} {trusted : ℕ → Bool} {x : Name} {path : 
 
 -- ---- a plain object
 
--- no row below the first that has own in the column of o owns it
-pub unowned : {b : List ℕ} {n p o first : ℕ} (trusted : ℕ → Bool) → NameIn b n p (Plain o) → first ≡ least n (rowHas b o 0 n)
-    → any first (riser (stateOf b) trusted (Plain o)) ≡ false
-unowned {b} {n} {p} {o} {first} trusted h e =
-    none-any first (riser (stateOf b) trusted (Plain o))
-    (λ j l. not-owner b trusted (Plain o) j (any-none first (λ w. stateOf b .owns w (Plain o)) j
-    (subst (λ (m : ℕ). any m (λ w. stateOf b .owns w (Plain o)) ≡ false) (sym searched) (least-before (stateOf b .top) (λ w. stateOf b .owns w (Plain o)))) l))
+-- nobody below the rows of the first block with an owner of o owns it
+pub unowned : {b : List ℕ} {n p o q : ℕ} (trusted : ℕ → Bool) → NameIn b n p (Plain o) → q ≡ least (n / 4) (blockHas b o 0)
+    → any (4 * q) (riser (stateOf b) trusted (Plain o)) ≡ false
+unowned {b} {n} {p} {o} {q} trusted h e = none-any (4 * q) (riser (stateOf b) trusted (Plain o)) (λ j l. not-owner b trusted (Plain o) j (each j l))
   where
-    searched : first ≡ least (stateOf b .top) (λ w. stateOf b .owns w (Plain o))
-    searched = e ∙ search-bit b n p (h .station) Own (Plain o) (omega arith) (h .column)
+    clear : any q (blockHas b o 0) ≡ false
+    clear = subst (λ (m : ℕ). any m (blockHas b o 0) ≡ false) (sym e) (least-before (n / 4) (blockHas b o 0))
+
+    each : (j : ℕ) → j < 4 * q → stateOf b .owns j (Plain o) ≡ false
+    each j l =
+        read-bit b n p (h .station) Own j (Plain o) (omega arith) (omega (arith, least-most (n / 4) (blockHas b o 0))) (h .column)
+        ∙ blocks-clear b o 0 q clear j l
 
 -- ---- a subject, which has one owner in a valid record
 

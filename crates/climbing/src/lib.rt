@@ -121,8 +121,8 @@ fn way_over_subject(
     rise_from(b, n, p, trust, w, owners, &mut closed, path)
 }
 
-// The way over plain object o: that of its lowest owner whose way up meets an untrusted subject. `closed` gathers the subjects passed by
-// ways up that met none, so that no later way passes them again.
+// The way over plain object o: that of its lowest owner whose way up meets an untrusted subject. The rows below the first block of rows with
+// an owner are left out. `closed` gathers the subjects passed by ways up that met none, so that no later way passes them again.
 fn way_over_plain(
     b: &[u8],
     n: usize,
@@ -135,7 +135,7 @@ fn way_over_plain(
     requires { ⌜ NameIn (now b) n p (Name.Plain o) × Guessed (now b) n p (now owners) × (length (now path) ≡ 64) ⌝ }
     ensures { λ r. ⌜ Climbs (now (b .entry)) n (trustedBy trust) (Name.Plain o) (now (path .exit)) r ⌝ }
 {
-    let first = cells::first_row(b, n, p, o, 0);
+    let first = 4 * cells::first_block(b, n, p, o, 0);
     let mut closed: u64 = 0;
     for w in first..n {
         let r = owner_rise(b, n, p, trust, Name::Plain(o), w, owners, &mut closed, path);

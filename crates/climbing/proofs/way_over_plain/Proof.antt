@@ -1,6 +1,6 @@
 -- `climbing::way_over_plain` meets its contract. The loop's invariant: no subject below w is an owner whose way up meets an untrusted one.
 use borrow.Author.Needs.{needs}
-use Prim.Native.Nat.{ℕ, _-_}
+use Prim.Native.Nat.{ℕ, _-_, _/_}
 use native.Mathlib.Numerals.{add-one}
 use native.Mathlib.Omega.{arith}
 use mathlib.Core.Path.{_≡_, refl}
@@ -10,11 +10,12 @@ use Rattle.matrix.specs.declared.Name.the-variants.{Plain}
 use Rattle.matrix.specs.Bounded.{any}
 use Rattle.matrix.specs.Reading.{stateOf}
 use Rattle.laws.specs.Bounded.{any-miss}
+use Rattle.cells.specs.Blocks.{blockHas}
 use Rattle.states.specs.Reads.{named-plain}
 use Rattle.question.specs.Trust.{trustedBy}
 use Rattle.ways.specs.Ways.{riser}
 use Rattle.climbing.specs.Shut.{ShutAll, shut-none}
-use Rattle.climbing.specs.Passing.{none-lower}
+use Rattle.climbing.specs.Passing.{least-most, none-lower}
 use Rattle.climbing.specs.Over.{climbs-met, climbs-none, unowned}
 use Rattle.climbing.proofs.way_over_plain.Statement.{statement}
 use Rattle.climbing.proofs.way_over_plain.Tie as tie
@@ -26,13 +27,18 @@ Inv-loop b n p trust o owners path₀ first closed₀ w₀ path closed w =
 abbrev μ-loop : tie.MeasureT-loop
 μ-loop b n p trust o owners path₀ first closed₀ w₀ path closed w = n - w
 
-first-row-requires : tie.Need-first-row-requires Inv-loop μ-loop
-first-row-requires c κs = let q = c .before .pre in (q .0 .station, named-plain (q .0) refl, omega arith)
+first-block-requires : tie.Need-first-block-requires Inv-loop μ-loop
+first-block-requires c κs = let q = c .before .pre in (q .0 .station, named-plain (q .0) refl, omega arith)
+
+mul-first : tie.Need-mul-first Inv-loop μ-loop
+mul-first c =
+    let z = c .before .before .args in
+    record { fits = omega (arith, c .first-block .ensures, least-most (z .n / 4) (blockHas (z .b .now) (z .o) 0)) }
 
 loop-holds : tie.Need-loop-holds Inv-loop μ-loop
 loop-holds c =
     let z = c .before .before in
-    (z .pre .2, unowned (trustedBy (z .args .trust)) (z .pre .0) (c .first-row .ensures), shut-none _ _)
+    (z .pre .2, unowned (trustedBy (z .args .trust)) (z .pre .0) (c .first-block .ensures), shut-none _ _)
 
 owner-rise-requires : tie.Need-owner-rise-requires Inv-loop μ-loop
 owner-rise-requires c κs =
@@ -74,7 +80,8 @@ way-over-plain-spec =
     (tie.spec
     Inv-loop
     μ-loop
-    first-row-requires
+    first-block-requires
+    mul-first
     loop-holds
     owner-rise-requires
     enum-told
