@@ -1,6 +1,7 @@
 pub mod Climbs
 pub mod Shut
 pub mod Rising
+pub mod Lowest
 pub mod Passing
 pub mod Over
 pub mod Targets

@@ -26,7 +26,7 @@ use Rattle.climbing.specs.declared.Climbed.{Climbed}
 use Rattle.climbing.specs.declared.Climbed.the-variants.{At, None}
 use Rattle.climbing.specs.Climbs.{risenTo, Rises, OwnerRises, Climbs}
 use Rattle.climbing.specs.Rising.{found-none}
-use Rattle.climbing.specs.Passing.{least-before, least-most}
+use Rattle.climbing.specs.Lowest.{least-before, least-most}
 
 -- ---- one owner
 

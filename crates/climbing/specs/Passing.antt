@@ -9,22 +9,9 @@ use borrow.Author.Tests.{not-true, not-false, eqb-true, eq-eqb, ltb-true, ltb-fa
 use Rattle.matrix.specs.Bounded.{any, least}
 use Rattle.matrix.specs.Bytes.{bit}
 use Rattle.laws.specs.Tests.{way, clash, or-cases, or-none-left, or-none-right}
-use Rattle.laws.specs.Bounded.{any-none, none-any, least-hit, least-none, least-first, least-passes}
+use Rattle.laws.specs.Bounded.{any-none, none-any, least-hit, least-none, least-passes}
 use Rattle.masks.specs.Marks.{Added}
-
--- a search finds nothing below its answer
-pub least-before : (n : ℕ) (f : ℕ → Bool) → any (least n f) f ≡ false
-least-before n f =
-    ⊎-elim (λ a. least-first n f a .none-before) (λ a. subst (λ (m : ℕ). any m f ≡ false) (sym (least-none n f a)) a) (way (any n f))
-
--- its answer is at most its bound
-pub least-most : (n : ℕ) (f : ℕ → Bool) → least n f ≤ n
-least-most n f =
-    ⊎-elim (λ a. let l : least n f < n = least-first n f a .below in omega arith) (λ a. omega (arith, least-none n f a)) (way (any n f))
-
--- where nothing passes below a number, nothing does below a lower one
-pub none-lower : {n m : ℕ} (f : ℕ → Bool) → n ≤ m → any m f ≡ false → any n f ≡ false
-none-lower {n} {m} f h a = none-any n f (λ j l. any-none m f j a (omega arith))
+use Rattle.climbing.specs.Lowest.{least-before, none-lower}
 
 -- nobody outside the set is trusted, and no member of it is an untrusted subject with the star
 pub record Passed (trusted star : ℕ → Bool) (set : ℕ) : Type 0 where

@@ -15,7 +15,7 @@ use Rattle.states.specs.Reads.{named-plain}
 use Rattle.question.specs.Trust.{trustedBy}
 use Rattle.ways.specs.Ways.{riser}
 use Rattle.climbing.specs.Shut.{ShutAll, shut-none}
-use Rattle.climbing.specs.Passing.{least-most, none-lower}
+use Rattle.climbing.specs.Lowest.{least-most, none-lower}
 use Rattle.climbing.specs.Over.{climbs-met, climbs-none, unowned}
 use Rattle.climbing.proofs.way_over_plain.Statement.{statement}
 use Rattle.climbing.proofs.way_over_plain.Tie as tie
