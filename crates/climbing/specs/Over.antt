@@ -15,7 +15,7 @@ use Rattle.matrix.specs.Bounded.{any, least}
 use Rattle.matrix.specs.Owners.{ownerOf}
 use Rattle.matrix.specs.Reading.{stateOf}
 use Rattle.laws.specs.Tests.{way, fails}
-use Rattle.laws.specs.Bounded.{any-none, none-any, least-hit, least-none, least-passes}
+use Rattle.laws.specs.Bounded.{none-any, least-hit, least-none, least-passes}
 use Rattle.cells.specs.Station.{Station}
 use Rattle.cells.specs.Blocks.{blockHas, blocks-clear}
 use Rattle.states.specs.Needs.{NameIn, Guessed}

@@ -162,13 +162,7 @@ pub fn command_on(b: &mut [u8], n: usize, p: usize, owners: &mut [u8; 64], c: Fi
 }
 
 // The same in a list, where most commands are accepted: the short way is tried first.
-pub fn command_in_list(
-    b: &mut [u8],
-    n: usize,
-    p: usize,
-    owners: &mut [u8; 64],
-    c: Fields,
-) -> Answer
+pub fn command_in_list(b: &mut [u8], n: usize, p: usize, owners: &mut [u8; 64], c: Fields) -> Answer
     requires { ⌜ Guessed (now b) n p (now owners) ⌝ }
     ensures answer { λ r. ⌜ Answered (now (b .entry)) (now (b .exit)) c r ⌝ }
     ensures table { λ _. ⌜ length (now (owners .exit)) ≡ 64 ⌝ }

@@ -9,7 +9,7 @@ use matrix::Name;
 use matrix::Right;
 use matrix::Rule;
 ghost use mathlib.Core.Path.{_≡_};
-ghost use mathlib.Core.Bool.{_||_, cond};
+ghost use mathlib.Core.Bool.{_||_};
 ghost use Prim.Native.Nat.{_≤_};
 ghost use lib.Dec.{eqb};
 ghost use Rattle.matrix.specs.Shape.{mostSubjects, mostPlain};

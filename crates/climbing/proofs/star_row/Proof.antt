@@ -1,7 +1,7 @@
 -- `climbing::star_row` meets its contract. The loop's invariant: v is the lowest subject not passed, and no subject passed is an untrusted
 -- one with the star.
 use borrow.Author.Needs.{needs}
-use Prim.Native.Nat.{ℕ, _-_}
+use Prim.Native.Nat.{_-_}
 use native.Mathlib.Omega.{arith}
 use mathlib.Core.Path.{_≡_}
 use mathlib.Core.Bool.{not}

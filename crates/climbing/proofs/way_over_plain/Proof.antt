@@ -1,6 +1,6 @@
 -- `climbing::way_over_plain` meets its contract. The loop's invariant: no subject below w is an owner whose way up meets an untrusted one.
 use borrow.Author.Needs.{needs}
-use Prim.Native.Nat.{ℕ, _-_, _/_}
+use Prim.Native.Nat.{_-_, _/_}
 use native.Mathlib.Numerals.{add-one}
 use native.Mathlib.Omega.{arith}
 use mathlib.Core.Path.{_≡_, refl}
