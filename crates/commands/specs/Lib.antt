@@ -3,4 +3,6 @@ pub mod Rows
 pub mod Ready
 pub mod Outcomes
 pub mod Carrying
+pub mod Accepting
 pub mod Allowed
+pub mod Objects

@@ -1,10 +1,11 @@
 -- A decoded command: it is what the definition decodes, on names and rights of the record.
 use Prim.Native.Nat.{ℕ, _+_, _<_}
 use native.Mathlib.Omega.{arith}
-use mathlib.Core.Path.{_≡_, refl, sym, _∙_, ap}
+use mathlib.Core.Path.{_≡_, refl, sym, _∙_, ap, subst}
 use mathlib.Core.Bool.{Bool, true, false, cond, _&&_}
 use lib.Dec.{ltb}
 use borrow.Author.Tests.{ltb-true}
+use Rattle.matrix.specs.declared.Name.{Name}
 use Rattle.matrix.specs.declared.Kind.{Kind}
 use Rattle.matrix.specs.declared.Fields.{Fields}
 use Rattle.matrix.specs.declared.Command.{Command}
@@ -30,8 +31,15 @@ row-i n p c h = ltb-true (c .i) n (and-left (ltb (c .i) n) (ltb (c .s) n) (and-l
 pub row-s : (n p : ℕ) (c : Fields) → withinNames n p c ≡ true → c .s < n
 row-s n p c h = ltb-true (c .s) n (and-right (ltb (c .i) n) (ltb (c .s) n) (and-left (ltb (c .i) n && ltb (c .s) n) (ltb (c .o) (n + p)) h))
 
+pub column-o : (n p : ℕ) (c : Fields) → withinNames n p c ≡ true → c .o < n + p
+column-o n p c h = ltb-true (c .o) (n + p) (and-right (ltb (c .i) n && ltb (c .s) n) (ltb (c .o) (n + p)) h)
+
 pub name-o : (n p : ℕ) (c : Fields) → withinNames n p c ≡ true → named n p (nameOf n (c .o)) ≡ true
-name-o n p c h = named-nameOf n p (c .o) (ltb-true (c .o) (n + p) (and-right (ltb (c .i) n && ltb (c .s) n) (ltb (c .o) (n + p)) h))
+name-o n p c h = named-nameOf n p (c .o) (column-o n p c h)
+
+-- a name that is theirs
+pub name-is : (n p : ℕ) (c : Fields) {x : Name} → x ≡ nameOf n (c .o) → withinNames n p c ≡ true → named n p x ≡ true
+name-is n p c e h = subst (λ (x : Name). named n p x ≡ true) (sym e) (name-o n p c h)
 
 -- the command that the fields are decoded to
 abbrev pub commandOf : ℕ → Fields → Command

@@ -22,6 +22,7 @@ ghost use Rattle.decoding.specs.Decoded.{formFrom, withinNames};
 ghost use Rattle.rules.specs.Needs.{CommandIn};
 ghost use Rattle.commands.specs.Answered.{Answered, Carried};
 ghost use Rattle.commands.specs.Allowed.{Where, Allowed};
+ghost use Rattle.commands.specs.Objects.{WithoutBasic};
 
 // Row w becomes the guess of who owns subject v.
 fn guess(owners: &mut [u8; 64], v: usize, w: usize)
@@ -148,6 +149,90 @@ fn by_right(b: &mut [u8], n: usize, p: usize, c: Fields) -> bool
     }
 }
 
+// The short way of code 10: an absent plain object gets an owner.
+fn create_object(b: &mut [u8], n: usize, p: usize, c: Fields) -> bool
+    requires { ⌜ WithoutBasic (now b) n p c × (c .code ≡ 10) ⌝ }
+    ensures { λ t. ⌜ Where t (now (b .entry)) (now (b .exit)) (Answered (now (b .entry)) (now (b .exit)) c (Answer.Accepted 0)) ⌝ }
+{
+    let o = states::name_of(n, c.o);
+    if c.s != 0 {
+        return false;
+    }
+    if !rules::kind_fits(Kind::PlainName, o) {
+        return false;
+    }
+    if !states::subject_exists(b, n, p, c.i) {
+        return false;
+    }
+    if states::name_exists(b, n, p, o) {
+        return false;
+    }
+    bits::put_right(b, n, p, Right::Own, c.i, o, true);
+    true
+}
+
+// The short way of code 11: the column of a plain object that i owns is cleared.
+fn destroy_object(b: &mut [u8], n: usize, p: usize, c: Fields) -> bool
+    requires { ⌜ WithoutBasic (now b) n p c × (c .code ≡ 11) ⌝ }
+    ensures { λ t. ⌜ Where t (now (b .entry)) (now (b .exit)) (Answered (now (b .entry)) (now (b .exit)) c (Answer.Accepted 0)) ⌝ }
+{
+    let o = states::name_of(n, c.o);
+    if c.s != 0 {
+        return false;
+    }
+    if !rules::kind_fits(Kind::PlainName, o) {
+        return false;
+    }
+    if !states::has_bit(b, n, p, Right::Own, c.i, o) {
+        return false;
+    }
+    bits::clear_column(b, n, p, c.o);
+    true
+}
+
+// The short way of code 7: i, which owns a plain object, gives own of it to s.
+fn grant_own(b: &mut [u8], n: usize, p: usize, c: Fields) -> bool
+    requires { ⌜ WithoutBasic (now b) n p c × (c .code ≡ 7) ⌝ }
+    ensures { λ t. ⌜ Where t (now (b .entry)) (now (b .exit)) (Answered (now (b .entry)) (now (b .exit)) c (Answer.Accepted 0)) ⌝ }
+{
+    let o = states::name_of(n, c.o);
+    if !rules::kind_fits(Kind::PlainName, o) {
+        return false;
+    }
+    let there = states::subject_exists(b, n, p, c.s);
+    if !there {
+        return false;
+    }
+    if !states::has_bit(b, n, p, Right::Own, c.i, o) {
+        return false;
+    }
+    bits::put_right(b, n, p, Right::Own, c.s, o, true);
+    true
+}
+
+// The short ways of the codes over a plain object, which use no basic right.
+fn over_object(b: &mut [u8], n: usize, p: usize, c: Fields) -> bool
+    requires { ⌜ Station (now b) n p × Valid (stateOf (now b)) ⌝ }
+    ensures { λ t. ⌜ Where t (now (b .entry)) (now (b .exit)) (Answered (now (b .entry)) (now (b .exit)) c (Answer.Accepted 0)) ⌝ }
+{
+    if c.k != 0 {
+        return false;
+    }
+    if !decoding::names_fit(n, p, c) {
+        return false;
+    }
+    if c.code == 7 {
+        return grant_own(b, n, p, c);
+    }
+    if c.code == 10 {
+        return create_object(b, n, p, c);
+    }
+    if c.code == 11 {
+        return destroy_object(b, n, p, c);
+    }
+    false
+}
+
 // A command as given, on a valid record of n subject names and p plain names, with guesses of who owns each subject.
 pub fn command_on(b: &mut [u8], n: usize, p: usize, owners: &mut [u8; 64], c: Fields) -> Answer
     requires { ⌜ Guessed (now b) n p (now owners) ⌝ }
@@ -161,7 +246,7 @@ pub fn command_on(b: &mut [u8], n: usize, p: usize, owners: &mut [u8; 64], c: Fi
     }
 }
 
-// The same in a list, where most commands are accepted: the short way is tried first.
+// The same in a list, where most commands are accepted: the short ways are tried first.
 pub fn command_in_list(b: &mut [u8], n: usize, p: usize, owners: &mut [u8; 64], c: Fields) -> Answer
     requires { ⌜ Guessed (now b) n p (now owners) ⌝ }
     ensures answer { λ r. ⌜ Answered (now (b .entry)) (now (b .exit)) c r ⌝ }
@@ -170,5 +255,8 @@ pub fn command_in_list(b: &mut [u8], n: usize, p: usize, owners: &mut [u8; 64], 
     if by_right(b, n, p, c) {
         return Answer::Accepted(0);
     }
-    command_on(b, n, p, owners, c)
+    if !over_object(b, n, p, c) {
+        return command_on(b, n, p, owners, c);
+    }
+    Answer::Accepted(0)
 }

@@ -1,16 +1,14 @@
 -- `commands::put_allowed` meets its contract.
-use mathlib.Core.Path.{_≡_, sym, _∙_, ap₂, subst}
-use mathlib.Core.Bool.{true, true≢false}
+use mathlib.Core.Path.{sym, _∙_, ap₂}
 use borrow.Author.Tests.{not-false}
 use Rattle.matrix.specs.declared.Name.{Name}
 use Rattle.matrix.specs.declared.Form.{Form}
 use Rattle.matrix.specs.declared.Right.the-variants.{Basic}
-use Rattle.matrix.specs.Names.{named}
-use Rattle.matrix.specs.State.{put}
+use Rattle.matrix.specs.State.{has, put}
 use Rattle.matrix.specs.Reading.{stateOf}
 use Rattle.bits.specs.Steps.{became-as}
-use Rattle.commands.specs.Ready.{row-i, row-s, name-o}
-use Rattle.commands.specs.Allowed.{left-alone, has-name}
+use Rattle.commands.specs.Ready.{row-i, row-s, name-is}
+use Rattle.commands.specs.Allowed.{left-alone, made, at-name}
 use borrow.Author.Needs.{needs}
 use Rattle.commands.proofs.put_allowed.Statement.{statement}
 use Rattle.commands.proofs.put_allowed.Tie as tie
@@ -34,7 +32,7 @@ has-bit-requires c κs =
       station = z .pre .0;
       right = z .pre .3;
       row = row-i _ _ (z .args .c) (z .pre .1);
-      column = subst (λ (x : Name). named (z .args .n) (z .args .p) x ≡ true) (sym (c .before .before .before .before .name-of .ensures)) (name-o _ _ (z .args .c) (z .pre .1));
+      column = name-is _ _ (z .args .c) (c .before .before .before .before .name-of .ensures) (z .pre .1);
     }
 
 same-length-2 : tie.Need-same-length-2
@@ -53,7 +51,7 @@ put-right-requires c κs =
       station = z .pre .0;
       right = z .pre .2;
       row = row-s _ _ (z .args .c) (z .pre .1);
-      column = subst (λ (x : Name). named (z .args .n) (z .args .p) x ≡ true) (sym (c .before .before .before .before .before .before .before .before .name-of .ensures)) (name-o _ _ (z .args .c) (z .pre .1));
+      column = name-is _ _ (z .args .c) (c .before .before .before .before .before .before .before .before .name-of .ensures) (z .pre .1);
     }
 
 same-length-3 : tie.Need-same-length-3
@@ -63,16 +61,13 @@ returns-3 : tie.Need-returns-3
 returns-3 c =
     let z = c .before .before .before .before .before .before .before .before .before .before .before .before .before .args in
     let x = c .before .before .before .before .before .before .before .before .before .before .before .name-of .ensures in
+    made
     record {
-      holds =
-          λ h. record {
-            there = sym (c .before .before .before .before .before .before .before .before .before .subject-exists .ensures) ∙ not-false _ (c .before .before .before .before .before .before .before .before .if1 .left);
-            held = has-name (stateOf (z .b .now)) (z .y) (z .c .i) x (c .before .before .before .before .before .before .has-bit .ensures) (not-false _ (c .before .before .before .before .before .if2 .left));
-            became =
-                became-as (c .before .before .put-right .ensures)
-                (ap₂ (λ (f : Form) (x : Name). put (Basic (z .c .k) f) (z .c .s) x (z .on) (stateOf (z .b .now))) (c .before .before .before .before .form-from .ensures) x);
-          };
-      stays = λ h. absurd (true≢false h);
+      there = sym (c .before .before .before .before .before .before .before .before .before .subject-exists .ensures) ∙ not-false _ (c .before .before .before .before .before .before .before .before .if1 .left);
+      held = at-name (λ (x : Name). has (stateOf (z .b .now)) (z .y) (z .c .i) x) x (c .before .before .before .before .before .before .has-bit .ensures) (not-false _ (c .before .before .before .before .before .if2 .left));
+      became =
+          became-as (c .before .before .put-right .ensures)
+          (ap₂ (λ (f : Form) (x : Name). put (Basic (z .c .k) f) (z .c .s) x (z .on) (stateOf (z .b .now))) (c .before .before .before .before .form-from .ensures) x);
     }
 
 pub put-allowed-spec : {M : Type 1} → statement M
