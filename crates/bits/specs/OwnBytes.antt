@@ -1,7 +1,8 @@
 -- The bytes of a row that gains own: what the code stores is the cell with own, or the byte that stands there.
 use Prim.Native.Nat.{ℕ, zero, suc, _+_, _*_, _/_, _%_, _<_, max}
+use native.Mathlib.Nat.{div-one}
 use native.Mathlib.Omega.{arith}
-use mathlib.Core.Path.{_≡_, refl, _∙_, ap, ap₂}
+use mathlib.Core.Path.{_≡_, refl, sym, _∙_, ap, ap₂}
 use mathlib.Core.Logic.{⊎-elim}
 use mathlib.Core.Bool.{Bool, true, false, cond, _&&_}
 use mathlib.Core.List.{List, [], _∷_}
@@ -12,6 +13,7 @@ use borrow.Author.Tests.{eqb-true, eqb-false}
 use Rattle.matrix.specs.Bytes.{bit}
 use Rattle.matrix.specs.Reading.{cellAt, setCell}
 use Rattle.laws.specs.Tests.{way}
+use Rattle.laws.specs.BitOps.{bit-count}
 use Rattle.codec.specs.Bits.{withBit, withBit-below, bit-low}
 use Rattle.cells.specs.Station.{Station}
 use Rattle.cells.specs.Places.{placeOf, cell-is, store-is}
@@ -23,9 +25,7 @@ ownJoined x y k = cond (eqb (k % 2) 1 && bit 0 y) (withBit 0 true x) x
 
 -- the digit that bit 0 is
 odd-is : (x : ℕ) (t : Bool) → bit 0 x ≡ t → x % 2 ≡ cond t 1 0
-unfolding bit
-odd-is x true h = let e : x / 1 % 2 ≡ 1 = eqb-true (x / 1 % 2) 1 h in omega arith
-odd-is x false h = let e : x / 1 % 2 ≡ 1 → ⊥ = eqb-false (x / 1 % 2) 1 h in omega arith
+odd-is x t h = ap (λ (m : ℕ). m % 2) (sym (div-one x)) ∙ bit-count 0 x ∙ ap (λ (u : Bool). cond u 1 0) h
 
 or-own : (x : ℕ) → bitOr x 1 ≡ withBit 0 true x
 unfolding withBit

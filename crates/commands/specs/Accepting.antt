@@ -6,9 +6,7 @@ use mathlib.Core.List.{List}
 use lib.Dec.{eqb}
 use Rattle.matrix.specs.declared.Act.{Act}
 use Rattle.matrix.specs.declared.Fields.{Fields}
-use Rattle.matrix.specs.declared.Command.{Command}
 use Rattle.matrix.specs.declared.Answer.the-variants.{Accepted}
-use Rattle.matrix.specs.Names.{nameOf}
 use Rattle.matrix.specs.State.{State}
 use Rattle.matrix.specs.Commands.{kindOf, known, ruleOf, fieldsFit}
 use Rattle.matrix.specs.Tests.{commandTests}
@@ -21,12 +19,8 @@ use Rattle.decoding.specs.Decoded.{withinNames}
 use Rattle.bits.specs.Became.{Became}
 use Rattle.bits.specs.Steps.{became-as}
 use Rattle.commands.specs.Answered.{Answered, Carried}
-use Rattle.commands.specs.Ready.{DecodedTo}
+use Rattle.commands.specs.Ready.{doing, DecodedTo}
 use Rattle.commands.specs.Outcomes.{answered-decoded}
-
--- the command of the fields that does `act`
-abbrev pub doing : ℕ → Fields → Act → Command
-doing n c act = record { i = c .i; s = c .s; o = nameOf n (c .o); act = act }
 
 module _ {b : List ℕ} {n p : ℕ} (c : Fields) (station : Station b n p) (names : withinNames n p c ≡ true) where
   abbrev S : State

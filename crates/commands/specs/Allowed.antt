@@ -31,7 +31,8 @@ use Rattle.decoding.specs.Arms.{basicRule, of-pair}
 use Rattle.bits.specs.Became.{Became}
 use Rattle.bits.specs.Steps.{became-as}
 use Rattle.commands.specs.Answered.{Answered}
-use Rattle.commands.specs.Accepting.{doing, answered-accepted}
+use Rattle.commands.specs.Ready.{doing}
+use Rattle.commands.specs.Accepting.{answered-accepted}
 
 -- where t holds, A; where it doesn't, the bytes stay
 pub record Where (t : Bool) (b b′ : List ℕ) (A : Type 0) : Type 0 where

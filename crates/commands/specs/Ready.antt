@@ -8,6 +8,7 @@ use borrow.Author.Tests.{ltb-true}
 use Rattle.matrix.specs.declared.Name.{Name}
 use Rattle.matrix.specs.declared.Kind.{Kind}
 use Rattle.matrix.specs.declared.Fields.{Fields}
+use Rattle.matrix.specs.declared.Act.{Act}
 use Rattle.matrix.specs.declared.Command.{Command}
 use Rattle.matrix.specs.Names.{nameOf, named}
 use Rattle.matrix.specs.Commands.{kindOf, known, ruleOf, fieldsFit}
@@ -41,9 +42,12 @@ name-o n p c h = named-nameOf n p (c .o) (column-o n p c h)
 pub name-is : (n p : ℕ) (c : Fields) {x : Name} → x ≡ nameOf n (c .o) → withinNames n p c ≡ true → named n p x ≡ true
 name-is n p c e h = subst (λ (x : Name). named n p x ≡ true) (sym e) (name-o n p c h)
 
--- the command that the fields are decoded to
+-- the command of the fields that does `act`, and the one that they are decoded to
+abbrev pub doing : ℕ → Fields → Act → Command
+doing n c act = record { i = c .i; s = c .s; o = nameOf n (c .o); act = act }
+
 abbrev pub commandOf : ℕ → Fields → Command
-commandOf n c = record { i = c .i; s = c .s; o = nameOf n (c .o); act = ruleOf (c .code) (c .k) .act }
+commandOf n c = doing n c (ruleOf (c .code) (c .k) .act)
 
 -- what decoding answered
 pub record DecodedTo (n p : ℕ) (c : Fields) (d : Command) (kind : Kind) : Type 0 where

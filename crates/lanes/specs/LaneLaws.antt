@@ -10,19 +10,11 @@ use mathlib.Core.List.{List}
 use lib.Dec.{eqb}
 use lib.Bits.{bitOr, bitXor, xor-shr, xor-add-and}
 use lib.ListN.{length}
-use borrow.Author.Tests.{eqb-true, eqb-false}
 use Rattle.laws.specs.Tests.{way}
 use Rattle.matrix.specs.Bounded.{count}
 use Rattle.matrix.specs.Bytes.{bit}
+use Rattle.laws.specs.BitOps.{bit-count}
 use Rattle.lanes.specs.Lanes.{merged, lows, paired, since, Matrix}
-
--- a bit, as the number that is counted
-pub bit-count : (k v : ℕ) → v / 2 ^ k % 2 ≡ cond (bit k v) 1 0
-unfolding bit
-bit-count k v = ⊎-elim (λ h. rw h (eqb-true (v / 2 ^ k % 2) 1 h)) (λ h. rw h (zero-left (eqb-false (v / 2 ^ k % 2) 1 h))) (way (eqb (v / 2 ^ k % 2) 1))
-  where
-    zero-left : (v / 2 ^ k % 2 ≡ 1 → ⊥) → v / 2 ^ k % 2 ≡ 0
-    zero-left ne = omega arith
 
 -- one row more
 pub merged-step : (r : ℕ) (f : ℕ → ℕ) → bitOr (merged r f) (f r) ≡ merged (r + 1) f

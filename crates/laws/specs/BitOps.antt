@@ -1,11 +1,14 @@
--- The bits of two numbers joined digit by digit.
+-- The bits of two numbers joined digit by digit, and a bit as a number.
 use Prim.Native.Nat.{ℕ, zero, suc, _/_, _%_, _^_, _<_}
 use native.Mathlib.Omega.{arith}
 use mathlib.Core.Path.{_≡_, refl, _∙_, ap}
-use mathlib.Core.Bool.{Bool, _&&_, _||_}
+use mathlib.Core.Logic.{⊎-elim}
+use mathlib.Core.Bool.{Bool, cond, _&&_, _||_}
 use lib.Dec.{eqb}
 use lib.Bits.{bitAnd, bitOr, and-shr, or-shr, and-mod, or-mod}
+use borrow.Author.Tests.{eqb-true, eqb-false}
 use Rattle.matrix.specs.Bytes.{bit}
+use Rattle.laws.specs.Tests.{way}
 
 -- what holds of the four pairs of digits
 two-digits : (P : ℕ → ℕ → Type 0) → P 0 0 → P 0 1 → P 1 0 → P 1 1 → (x y : ℕ) → x < 2 → y < 2 → P x y
@@ -33,3 +36,11 @@ bit-and = bit-joined bitAnd (λ t u. t && u) and-shr and-mod (two-digits (λ x y
 
 pub bit-or : (k a b : ℕ) → bit k (bitOr a b) ≡ (bit k a || bit k b)
 bit-or = bit-joined bitOr (λ t u. t || u) or-shr or-mod (two-digits (λ x y. eqb (bitOr x y) 1 ≡ (eqb x 1 || eqb y 1)) refl refl refl refl)
+
+-- a bit, as the number that is counted
+pub bit-count : (k v : ℕ) → v / 2 ^ k % 2 ≡ cond (bit k v) 1 0
+unfolding bit
+bit-count k v = ⊎-elim (λ h. rw h (eqb-true (v / 2 ^ k % 2) 1 h)) (λ h. rw h (zero-left (eqb-false (v / 2 ^ k % 2) 1 h))) (way (eqb (v / 2 ^ k % 2) 1))
+  where
+    zero-left : (v / 2 ^ k % 2 ≡ 1 → ⊥) → v / 2 ^ k % 2 ≡ 0
+    zero-left ne = omega arith

@@ -1,6 +1,6 @@
 -- The bits of a record's cells, by their place among the bytes: a cell's own and control bits are in its low byte.
 use Prim.Native.Nat.{ℕ, suc, _+_, _*_, _/_, _%_, _^_, _≤_, _<_}
-use native.Mathlib.Nat.{mul-left-comm}
+use native.Mathlib.Nat.{mul-left-comm, div-div-eq-div-mul}
 use native.Mathlib.Omega.{arith}
 use mathlib.Core.Path.{_≡_, refl, sym, _∙_, ap}
 use mathlib.Core.Logic.{_⊎_, inl, inr}
@@ -8,6 +8,7 @@ use mathlib.Core.Bool.{Bool, true, false, not, _&&_, Bool·not-not}
 use mathlib.Core.List.{List}
 use lib.Dec.{eqb, ltb}
 use lib.ListN.{getD}
+use lib.Pow.{pow-add}
 use borrow.Author.Tests.{eqb-true, eq-eqb, lt-ltb, le-ltb, ltb-true, ltb-false}
 use Rattle.matrix.specs.declared.Name.the-variants.{Subject, Plain}
 use Rattle.matrix.specs.declared.Right.the-variants.{Own, Control}
@@ -106,22 +107,15 @@ module _ (b : List ℕ) (octets : Octets b) where
       ∙ ap (λ (x : ℕ). bit i (byteAt b (rowBytes b) w (2 * c) * x + byteAt b (rowBytes b) w (2 * c + 1))) (sym e)
       ∙ bit-low i h (byteAt b (rowBytes b) w (2 * c)) (byteAt b (rowBytes b) w (2 * c + 1))
 
-  -- the own and the control bit of a cell as the code reads it
-  pub word-own : (k w c : ℕ) → bit 8 (wordAt b k w c) ≡ ownBit b (2 * k) w c
+  -- bit i of a cell's low byte, own or control, in the cell as the code reads it
+  pub word-bit : (i k w c : ℕ) → bit (8 + i) (wordAt b k w c) ≡ bitIn b (2 * k) i (2 * c + 1) w
   unfolding bit
-  word-own k w c =
+  word-bit i k w c =
       let h : getD b (7 + w * (2 * k) + 2 * c) 0 < 256 = octets .octet (7 + w * (2 * k) + 2 * c) in
       let e : getD b (7 + w * (2 * k) + 2 * c + 1) 0 ≡ byteAt b (2 * k) w (2 * c + 1) = low-byte b k w c in
-      let q : wordAt b k w c / 256 % 2 ≡ byteAt b (2 * k) w (2 * c + 1) / 1 % 2 = omega arith in
-      ap (λ (x : ℕ). eqb x 1) q
-
-  pub word-control : (k w c : ℕ) → bit 9 (wordAt b k w c) ≡ controlBit b (2 * k) w c
-  unfolding bit
-  word-control k w c =
-      let h : getD b (7 + w * (2 * k) + 2 * c) 0 < 256 = octets .octet (7 + w * (2 * k) + 2 * c) in
-      let e : getD b (7 + w * (2 * k) + 2 * c + 1) 0 ≡ byteAt b (2 * k) w (2 * c + 1) = low-byte b k w c in
-      let q : wordAt b k w c / 512 % 2 ≡ byteAt b (2 * k) w (2 * c + 1) / 2 % 2 = omega arith in
-      ap (λ (x : ℕ). eqb x 1) q
+      let q : wordAt b k w c / 256 ≡ byteAt b (2 * k) w (2 * c + 1) = omega arith in
+      ap (λ (x : ℕ). eqb (wordAt b k w c / x % 2) 1) (pow-add 2 8 i) ∙ ap (λ (x : ℕ). eqb (x % 2) 1) (sym (div-div-eq-div-mul (wordAt b k w c) 256 (2 ^ i)))
+      ∙ ap (λ (x : ℕ). eqb (x / 2 ^ i % 2) 1) q
 
   subject-name : (n s : ℕ) → s < n → nameOf n s ≡ Subject s
   subject-name n s l = rw (lt-ltb s n l) refl

@@ -23,7 +23,7 @@ use Rattle.owner_table.specs.Table.{ownerIn, Inside}
 use Rattle.validity.specs.Fast.{subjectRight, plainRight, ownerMark, allAscend, testsPass}
 use Rattle.validity.specs.Sound.{Framed}
 use Rattle.validity.specs.Tested.{tests-framed, mark-inside}
-use Rattle.validity.specs.Cells.{ownBit, controlBit, zeroCell, cell-bits, word-zero, word-own, word-control}
+use Rattle.validity.specs.Cells.{ownBit, controlBit, zeroCell, cell-bits, word-zero, word-bit}
 use Rattle.validity.specs.Merged.{merged-bit, plain-bits, all-pairs}
 
 -- a third test that is the same where the first two pass
@@ -120,9 +120,9 @@ module _ (b : List ℕ) (octets : Octets b) (n k : ℕ) (full : Bool) (seen tall
       let f : cond full n 0 ≤ c = from (way full) in
       let e : getD seen c 0 ≡ merged n (λ w. wordAt b k w c) = saw .value c f l in
       let p : bit 8 (getD seen c 0) ≡ any n (λ w. ownBit b m w c) =
-      ap (bit 8) e ∙ merged-bit 8 n (λ w. wordAt b k w c) ∙ any-same n _ _ (λ w h. word-own b octets k w c) in
+      ap (bit 8) e ∙ merged-bit 8 n (λ w. wordAt b k w c) ∙ any-same n _ _ (λ w h. word-bit b octets 0 k w c) in
       let q : bit 9 (getD seen c 0) ≡ any n (λ w. controlBit b m w c) =
-      ap (bit 9) e ∙ merged-bit 9 n (λ w. wordAt b k w c) ∙ any-same n _ _ (λ w h. word-control b octets k w c) in
+      ap (bit 9) e ∙ merged-bit 9 n (λ w. wordAt b k w c) ∙ any-same n _ _ (λ w h. word-bit b octets 1 k w c) in
       plain-bits (getD seen c 0) ∙ (λ i. cond (p i) (not (q i)) (column-zero c f l i))
     where
       from : (full ≡ true) ⊎ (full ≡ false) → cond full n 0 ≤ c
