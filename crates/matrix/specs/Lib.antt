@@ -1,6 +1,7 @@
 -- The definitions, in the order of the paper. A reader who checks these against the paper has checked what every promise says.
 pub mod Bounded
 pub mod Names
+pub mod Numbers
 pub mod Rights
 pub mod State
 pub mod Owners
