@@ -2,3 +2,10 @@
 pub mod Row
 pub mod Sheet
 pub mod SheetHolds
+pub mod First
+pub mod FirstLaws
+pub mod Printed
+pub mod Codes
+pub mod Refusals
+pub mod InTurn
+pub mod Records
