@@ -2,6 +2,7 @@
 -- its section 11 has the notation and says which rule is where.
 pub mod Bounded
 pub mod Names
+pub mod Numbers
 pub mod Rights
 pub mod State
 pub mod Owners

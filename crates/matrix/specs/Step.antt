@@ -50,10 +50,6 @@ links basics names S c = linksWith (refusal basics names S c) S (decode c)
 unfoldable pub next : ℕ → Bool → State → Raw → State
 next basics names S c = cond (eqb (refusal basics names S c) 0) (change S (decode c) (decode c .act)) S
 
--- the answer that a refusal number (0: accepted) and the links make, and the number of an answer
+-- the answer that a refusal number (0: accepted) and the links make
 abbrev pub answer : ℕ → ℕ → Answer
 answer number followed = cond (eqb number 0) (Accepted followed) (Refused number followed)
-
-abbrev pub numberOf : Answer → ℕ
-numberOf (Accepted followed) = 0
-numberOf (Refused number followed) = number

@@ -2,4 +2,5 @@
 pub mod Trust
 pub mod Safe
 pub mod Leaks
+pub mod Numbers
 pub mod Asked
