@@ -22,7 +22,7 @@ fn ask(trust: u64) {
                 println!("{} {} {} {} {}", c.code, c.i, c.s, c.o, c.k);
             }
         }
-        Err(refusal) => println!("trust {trust}: refused {}", refusal.number()),
+        Err(refusal) => println!("trust {trust}: {refusal}"),
     }
 }
 
