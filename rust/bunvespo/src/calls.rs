@@ -1,6 +1,8 @@
 //! The five calls on slices.
 
 use crate::command::Command;
+use crate::header::{Header, MOST_SUBJECTS, buffer_size};
+use crate::list::commands;
 use crate::raw;
 use crate::refusal::Refusal;
 use crate::refused::{CommandRefused, RunRefused};
@@ -39,6 +41,23 @@ fn refusal_of(answer: raw::Answer) -> Option<Refusal> {
 pub fn valid(record: &[u8]) -> bool {
     // SAFETY: the pointer and the length are those of a slice, which the call only reads.
     unsafe { raw::bunvespo_valid(record.as_ptr(), record.len()) == 1 }
+}
+
+/// The header of a valid record, or the refusal, 1 to 5, that it gets from every call but [`valid`].
+///
+/// ```
+/// use bunvespo::{Refusal, check, new_record};
+///
+/// let mut record = new_record(2, 1)?;
+/// assert_eq!(check(&record)?.n, 2);
+/// record.push(0);
+/// assert_eq!(check(&record), Err(Refusal::RecordLength));
+/// # Ok::<(), Refusal>(())
+/// ```
+pub fn check(record: &[u8]) -> Result<Header, Refusal> {
+    // Subject 0 and column 0 are in every record, so that this question is refused by 1 to 5 alone.
+    held(record, 0, 0, Right::Own)?;
+    Header::read(record)
 }
 
 /// Whether subject s holds a right over column o. A plain basic right is held by its starred bit too. Absent names hold nothing.
@@ -176,4 +195,31 @@ pub fn safety(
         (None, 0) => Ok(Safety::Safe),
         (None, value) => Ok(Safety::Leaks(value - 1)),
     }
+}
+
+/// The safety question with a buffer of its own: `None` for safe, or the commands of a list that leaks, none of them where the right
+/// is held already. Refusals: 1 to 5, 7.
+///
+/// ```
+/// use bunvespo::{Command, Right, new_record, witness};
+///
+/// let record = new_record(2, 1)?;
+/// let list = witness(&record, 0, 1, 2, Right::Own)?;
+/// let expected = [Command::create_object(0, 2), Command::create_subject(0, 1), Command::grant_own(0, 1, 2)];
+/// assert_eq!(list, Some(expected.to_vec()));
+/// assert_eq!(witness(&record, 0, 1, 1, Right::Own)?, None); // nobody ever owns itself
+/// # Ok::<(), bunvespo::Refusal>(())
+/// ```
+pub fn witness(
+    record: &[u8],
+    trust: u64,
+    s: u64,
+    o: u64,
+    right: Right,
+) -> Result<Option<Vec<Command>>, Refusal> {
+    let mut out = [0; buffer_size(MOST_SUBJECTS)];
+    Ok(match safety(record, trust, s, o, right, &mut out)? {
+        Safety::Safe => None,
+        Safety::Leaks(count) => Some(commands(&out, count).collect()),
+    })
 }

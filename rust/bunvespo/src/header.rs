@@ -8,6 +8,21 @@ pub const MOST_SUBJECTS: u8 = 64;
 /// The most plain names that a record may have.
 pub const MOST_PLAIN: u8 = 192;
 
+/// The most bytes that a record may have. Who reads one from a file needs at most one byte more, to see that it is too long.
+///
+/// ```
+/// use bunvespo::{MOST_RECORD, new_record};
+///
+/// assert_eq!(new_record(64, 192)?.len(), MOST_RECORD);
+/// # Ok::<(), bunvespo::Refusal>(())
+/// ```
+pub const MOST_RECORD: usize = record_length(MOST_SUBJECTS, MOST_PLAIN);
+
+/// The bytes of a record with n subject names and p plain names.
+const fn record_length(n: u8, p: u8) -> usize {
+    Header::SIZE + 2 * n as usize * (n as usize + p as usize)
+}
+
 /// The bytes of buffer that a safety question on a record of n subject names asks for.
 ///
 /// ```
@@ -77,7 +92,7 @@ impl Header {
 
     /// The number of bytes that a record of version 1 with this n and p has, header and cells. L and the version play no part.
     pub const fn expected_length(self) -> usize {
-        Header::SIZE + 2 * self.n as usize * self.columns() as usize
+        record_length(self.n, self.p)
     }
 
     /// The cell of row s and column o in a record with this header: bit c is set where s has the right of code c over o.
@@ -123,15 +138,9 @@ pub fn new_record(n: u64, p: u64) -> Result<Vec<u8>, Refusal> {
     let (Some(n), Some(p)) = (n, count(p, MOST_PLAIN)) else {
         return Err(Refusal::Counts);
     };
-    let header = Header {
-        version: 1,
-        length: 0,
-        n,
-        p,
-    };
-    let mut record = vec![0; header.expected_length()];
+    let mut record = vec![0; record_length(n, p)];
     let following = (record.len() - 5) as u32;
-    record[0] = header.version;
+    record[0] = 1;
     record[1..5].copy_from_slice(&following.to_be_bytes());
     record[5..7].copy_from_slice(&[n, p]);
     record[8] = 2; // U controls itself

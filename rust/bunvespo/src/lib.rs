@@ -1,7 +1,8 @@
 //! Safe calls of the proved library Bunvespo, which keeps the rights record of a log station: who owns, controls and may read each
 //! login (subject) and each log (plain object), as bytes.
 //!
-//! There are five calls: [`valid`], [`held`], [`command`], [`run`] and [`safety`]. Each takes any bytes, an empty slice too, and any
+//! There are five calls: [`valid`], [`held`], [`command`], [`run`] and [`safety`]; [`check`] and [`witness`] are two of them in another
+//! form. Each takes any bytes, an empty slice too, and any
 //! numbers as names; one that is out of range is refused and never wraps. Errors are types that `?` takes, each with the refusal's
 //! number and words. The calls keep nothing between them, so threads may call them at the same time; who may write a record is for
 //! Rust's borrows.
@@ -34,9 +35,9 @@ mod refusal;
 mod refused;
 mod right;
 
-pub use calls::{Safety, command, held, run, safety, trust_mask, valid};
+pub use calls::{Safety, check, command, held, run, safety, trust_mask, valid, witness};
 pub use command::{Command, code};
-pub use header::{Header, MOST_PLAIN, MOST_SUBJECTS, buffer_size, new_record};
+pub use header::{Header, MOST_PLAIN, MOST_RECORD, MOST_SUBJECTS, buffer_size, new_record};
 pub use list::{EncodeError, MOST_COMMANDS, commands, encode};
 pub use refusal::Refusal;
 pub use refused::{CommandRefused, RunRefused};
