@@ -59,9 +59,9 @@ extern "C" {
 #define BUNVESPO_LIBRARY_VERSION (BUNVESPO_VERSION_MAJOR * 1000000 + BUNVESPO_VERSION_MINOR * 1000 + BUNVESPO_VERSION_PATCH)
 
 /*
- * REFUSALS. The answer is the lowest number whose condition holds. bunvespo_refusal_words has the conditions in words; here stand
- * the calls that give each number, and what the words leave out. bunvespo_valid never refuses. Like the codes below these are
- * enumerators, for programs and not for #if.
+ * REFUSALS. The answer is the lowest number whose condition holds; only bunvespo_run tests 16 before its first command. The words
+ * of each condition are those of bunvespo_refusal_words. Here stand the calls that give the number, and what the words leave out.
+ * bunvespo_valid never refuses. Like the codes below these are enumerators, for programs and not for #if.
  */
 enum {
     BUNVESPO_ANSWERED = 0,                  /* not refused */

@@ -3,7 +3,8 @@
 use std::error::Error;
 use std::fmt;
 
-/// Why a call is turned down. Of several conditions that hold, the one with the lowest number is given.
+/// Why a call is turned down. Of several conditions that hold, the one with the lowest number is given; only `run` tests 16 before
+/// its first command.
 ///
 /// ```
 /// use bunvespo::{Refusal, Right, held};
