@@ -224,6 +224,10 @@ fn errors_in_words() {
     }
     assert_eq!(Refusal::from(CommandRefused { refusal, links }), refusal);
     assert_eq!(Refusal::from(RunRefused { refusal, accepted }), refusal);
+}
+
+#[test]
+fn refusals_and_their_numbers() {
     for (place, refusal) in Refusal::ALL.into_iter().enumerate() {
         let number = place as u64 + 1;
         assert_eq!(
