@@ -75,3 +75,28 @@ first-among (c ∷ cs) m (inr p) = inr (first-among cs m (p .1))
 pub numbered-among : (cs : List Condition) {m : ℕ} → Numbered cs m → Among m (0 ∷ map (λ c. c .number) cs)
 numbered-among cs {m} n =
     ⊎-elim (λ t. inl (eqb-true m 0 t)) (λ t. let some : m ≢ 0 = eqb-false m 0 t in inr (first-among cs m (n .refused m some .0 refl))) (way (eqb m 0))
+
+-- no condition of two lists holds: none of either does
+pub none-before : (cs ds : List Condition) → NoneHolds (cs ++ ds) → NoneHolds cs
+none-before [] ds h = tt
+none-before (c ∷ cs) ds h = (h .0, none-before cs ds (h .1))
+
+pub none-after : (cs ds : List Condition) → NoneHolds (cs ++ ds) → NoneHolds ds
+none-after [] ds h = h
+none-after (c ∷ cs) ds h = none-after cs ds (h .1)
+
+pub none-both : (cs ds : List Condition) → NoneHolds cs → NoneHolds ds → NoneHolds (cs ++ ds)
+none-both [] ds h g = g
+none-both (c ∷ cs) ds h g = (h .0, none-both cs ds (h .1) g)
+
+-- one of two lists is one of a longer list
+pub among-outside : (m : ℕ) (xs ys zs : List ℕ) → Among m (xs ++ zs) → Among m (xs ++ (ys ++ zs))
+among-outside m [] [] zs h = h
+among-outside m [] (y ∷ ys) zs h = inr (among-outside m [] ys zs h)
+among-outside m (x ∷ xs) ys zs (inl e) = inl e
+among-outside m (x ∷ xs) ys zs (inr h) = inr (among-outside m xs ys zs h)
+
+pub among-inside : (m : ℕ) (xs ys zs : List ℕ) → Among m ys → Among m (xs ++ (ys ++ zs))
+among-inside m [] (y ∷ ys) zs (inl e) = inl e
+among-inside m [] (y ∷ ys) zs (inr h) = inr (among-inside m [] ys zs h)
+among-inside m (x ∷ xs) ys zs h = inr (among-inside m xs ys zs h)

@@ -9,3 +9,9 @@ pub mod Codes
 pub mod Refusals
 pub mod InTurn
 pub mod Records
+pub mod Turns
+pub mod Shortened
+pub mod Stopped
+pub mod Demand1
+pub mod RunHolds
+pub mod Demand1Holds

@@ -1,3 +1,2 @@
 pub mod Given
-pub mod Answered
 pub mod Done

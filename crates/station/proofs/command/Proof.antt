@@ -6,7 +6,7 @@ use Rattle.matrix.specs.Shaped.{Octets}
 use Rattle.owners.specs.Read.{valid-record}
 use Rattle.cells.specs.Station.{Station}
 use Rattle.opening.specs.Opened.{station-of, long-enough}
-use Rattle.station.specs.Answered.{command-numbers}
+use Rattle.laws.specs.Numbers.{command-numbers}
 use Rattle.station.specs.Done.{command-turned-down, command-kept, command-reply, command-done}
 use borrow.Author.Needs.{needs}
 use Rattle.station.proofs.command.Statement.{statement}

@@ -5,7 +5,7 @@ use Rattle.matrix.specs.Record.{recordRefusal}
 use Rattle.matrix.specs.Shaped.{Octets}
 use Rattle.holding.specs.Asked.{held-answer}
 use Rattle.opening.specs.Opened.{station-of, long-enough}
-use Rattle.station.specs.Answered.{held-numbers}
+use Rattle.laws.specs.Numbers.{held-numbers}
 use Rattle.station.specs.Done.{held-turned-down}
 use borrow.Author.Needs.{needs}
 use Rattle.station.proofs.held.Statement.{statement}

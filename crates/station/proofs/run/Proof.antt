@@ -9,7 +9,7 @@ use borrow.Author.Tests.{not-true, not-false}
 use Rattle.owners.specs.Read.{valid-record}
 use Rattle.cells.specs.Station.{Station}
 use Rattle.opening.specs.Opened.{station-of, long-enough}
-use Rattle.station.specs.Answered.{run-numbers}
+use Rattle.laws.specs.Numbers.{run-numbers}
 use Rattle.station.specs.Done.{run-turned-down, run-kept, list-turned-down, list-kept, run-outcome, run-done}
 use borrow.Author.Needs.{needs}
 use Rattle.station.proofs.run.Statement.{statement}

@@ -1,4 +1,4 @@
--- The answers of the calls in numbers are the results of the definitions.
+-- The answers in numbers: those of an answer that is made from numbers, and those of each call's answer, which are the definition's results.
 use Prim.Native.Nat.{ℕ}
 use mathlib.Core.Path.{_≡_, refl, sym, _∙_, ap}
 use mathlib.Core.Logic.{⊎-elim}
@@ -10,23 +10,27 @@ use Rattle.matrix.specs.declared.Fields.{Fields}
 use Rattle.matrix.specs.declared.Answer.{Answer}
 use Rattle.matrix.specs.declared.Holding.{Holding}
 use Rattle.matrix.specs.declared.Outcome.{Outcome}
+use Rattle.matrix.specs.declared.Numbers.{Numbers}
 use Rattle.matrix.specs.Numbers.{truth, numbers, heldNumbers, commandNumbers, runNumbers}
 use Rattle.matrix.specs.Step.{answer}
 use Rattle.matrix.specs.Shape.{shapeOf}
 use Rattle.matrix.specs.Reading.{stateOf}
 use Rattle.matrix.specs.Record.{recordRefusal}
 use Rattle.matrix.specs.Calls.{heldRefusal, holdsOn, heldAnswer, heldResult, refusalOn, linksOn, commandAnswer, commandResult, runRefusal, runAnswer, runResult}
 use Rattle.laws.specs.Tests.{way}
+
+pub answer-numbers : (number links : ℕ) → commandNumbers (answer number links) ≡ numbers number links
+answer-numbers number links =
+    ⊎-elim (λ e. rw e (ap (λ (m : ℕ). numbers m links) (sym (eqb-true number 0 e)))) (λ e. rw e refl) (way (eqb number 0))
+
+-- the number alone
+pub answer-number : (number links : ℕ) → commandNumbers (answer number links) .refusal ≡ number
+answer-number number links = ap (λ (r : Numbers). r .refusal) (answer-numbers number links)
 
 -- yes or no in numbers
 said : (t : Bool) → heldNumbers (cond t Holding.Yes Holding.No) ≡ numbers 0 (truth t)
 said true = refl
 said false = refl
-
--- an accepted or refused command in numbers
-step-numbers : (number links : ℕ) → commandNumbers (answer number links) ≡ numbers number links
-step-numbers number links =
-    ⊎-elim (λ e. rw e (ap (λ (m : ℕ). numbers m links) (sym (eqb-true number 0 e)))) (λ e. rw e refl) (way (eqb number 0))
 
 module _ (b : List ℕ) where
   held-case : (s o right : ℕ) → heldNumbers (heldAnswer b s o right) ≡ heldResult b s o right
@@ -39,7 +43,7 @@ module _ (b : List ℕ) where
   command-case : (c : Fields) → commandNumbers (commandAnswer b c) ≡ commandResult b c
   unfolding commandAnswer commandResult
   command-case c =
-      let step = step-numbers (refusalOn (shapeOf b) (stateOf b) c) (linksOn (shapeOf b) (stateOf b) c) in
+      let step = answer-numbers (refusalOn (shapeOf b) (stateOf b) c) (linksOn (shapeOf b) (stateOf b) c) in
       ⊎-elim (λ e. rw e step) (λ e. rw e refl) (way (eqb (recordRefusal b) 0))
 
   run-case : (l : List ℕ) → runNumbers (runAnswer b l) ≡ runResult b l
