@@ -20,7 +20,7 @@ use Rattle.codec.specs.Bits.{fromBits-below}
 use Rattle.codec.specs.Numbers.{numberAt-agree, numberAt-bytes, length-bytesOfNumber, octets-bytesOfNumber, pow-bytes}
 use Rattle.codec.specs.Blocks.{length-joined, getD-joined, octets-nil, octets-cons, octets-append, octets-joined}
 
-length-header : (f : Shape) → ShapeRight f → length (header f) ≡ f .first
+pub length-header : (f : Shape) → ShapeRight f → length (header f) ≡ f .first
 length-header f g =
     length-append (f .version ∷ bytesOfNumber 4 (countOf f)) (f .n ∷ f .p ∷ [])
     ∙ ap (λ (k : ℕ). suc k + 2) (length-bytesOfNumber 4 (countOf f)) ∙ sym (g .first)

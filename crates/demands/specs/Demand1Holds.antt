@@ -105,7 +105,7 @@ answer-some number links followed h =
 
 module _ (b : List ℕ) (c : Fields) where
   -- the number is the record's refusal, or else the command's
-  command-number : commandNumbers (commandAnswer b c) .refusal ≡ cond (eqb (recordRefusal b) 0) (refusalOn (shapeOf b) (stateOf b) c) (recordRefusal b)
+  pub command-number : commandNumbers (commandAnswer b c) .refusal ≡ cond (eqb (recordRefusal b) 0) (refusalOn (shapeOf b) (stateOf b) c) (recordRefusal b)
   unfolding commandResult
   command-number = ap (λ (r : Numbers). r .refusal) (command-numbers b c refl) ∙ picked (eqb (recordRefusal b) 0)
     where

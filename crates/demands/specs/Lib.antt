@@ -15,3 +15,5 @@ pub mod Stopped
 pub mod Demand1
 pub mod RunHolds
 pub mod Demand1Holds
+pub mod Demand2
+pub mod Demand2Holds

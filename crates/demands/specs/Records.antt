@@ -15,13 +15,14 @@ use Rattle.matrix.specs.Shape.{Shape, shapeOf, widthOf}
 use Rattle.matrix.specs.Shaped.{Within, Octets}
 use Rattle.matrix.specs.Reading.{Content, stateOf, content, contentOf, bytesOf}
 use Rattle.matrix.specs.Record.{recordRefusal}
-use Rattle.matrix.specs.Calls.{refusalOn, linksOn, nextOn, commandAnswer, commandBytes}
+use Rattle.matrix.specs.CommandList.{commandsOf}
+use Rattle.matrix.specs.Calls.{refusalOn, linksOn, nextOn, commandAnswer, commandBytes, ranOn}
 use Rattle.codec.specs.ShapeRight.{ShapeRight}
 use Rattle.codec.specs.Written.{shape-write, shaped-write, octets-write}
 use Rattle.codec.specs.RoundTrip.{shape-right, within-read, read-write, write-read}
 use Rattle.owners.specs.Read.{record-shaped, valid-record, record-valid}
-use Rattle.kept.specs.Keeps.{on-keeps}
-use Rattle.frame.specs.Stays.{within-next}
+use Rattle.kept.specs.Keeps.{on-keeps, run-keeps}
+use Rattle.frame.specs.Stays.{within-next, within-run}
 
 -- what a record that is not turned down holds
 pub record Sound (m : Content) : Type 0 where
@@ -65,3 +66,13 @@ module _ (m : Content) (sound : Sound m) where
     sound-next =
         let wide : 1 ≤ m .shape .width = let e : m .shape .width ≡ widthOf (m .shape .version) = sound .shape .width in omega arith in
         record { shape = sound .shape; valid = on-keeps (m .shape) (m .state) c (sound .valid); within = within-next (m .shape) (m .state) c wide (sound .within) }
+
+-- what a list run on such a record comes to
+pub sound-run : (b l : List ℕ) → Sound (contentOf b) → Sound (content (shapeOf b) (ranOn b l .state))
+sound-run b l sound =
+    let wide : 1 ≤ shapeOf b .width = let e : shapeOf b .width ≡ widthOf (shapeOf b .version) = sound .shape .width in omega arith in
+    record {
+      shape = sound .shape;
+      valid = run-keeps 0 (shapeOf b) (stateOf b) (commandsOf l) (sound .valid);
+      within = within-run (shapeOf b) (stateOf b) (commandsOf l) 0 wide (sound .within);
+    }

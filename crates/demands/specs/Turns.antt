@@ -23,9 +23,9 @@ use Rattle.laws.specs.Tests.{way}
 use Rattle.laws.specs.Numbers.{answer-number}
 use Rattle.codec.specs.RoundTrip.{read-write}
 use Rattle.owners.specs.Read.{record-shaped}
-use Rattle.demands.specs.First.{condition, NoneHolds}
+use Rattle.demands.specs.First.{condition}
 use Rattle.demands.specs.FirstLaws.{none-before}
-use Rattle.demands.specs.Printed.{recordConditions, runConditions}
+use Rattle.demands.specs.Printed.{recordConditions}
 use Rattle.demands.specs.Refusals.{record-numbered, run-numbered}
 use Rattle.demands.specs.InTurn.{Ended, ended, refusalNumber, inTurn}
 use Rattle.demands.specs.Records.{Sound, sound-record, written-answer, written-bytes, sound-next}
@@ -75,12 +75,14 @@ turns f S sound j (c ∷ cs) = ⊎-elim (accepted (turns f (nextOn f S c) (sound
         → cond (eqb (refusalNumber b c) 0) (inTurn (j + 1) (commandBytes b c) cs) (ended j (refusalNumber b c) b) ≡ ran f (cond (eqb (refusalOn f S c) 0) (runFrom (j + 1) f (nextOn f S c) cs) stopped)
     refused e = by-number ∙ ap chosen e ∙ sym (ap (λ (t : Bool). ran f (cond t (runFrom (j + 1) f (nextOn f S c) cs) stopped)) e)
 
-module _ (b l : List ℕ) (octets : Octets b) (passes : runRefusal b l ≡ 0) where
-  none : NoneHolds (runConditions b l)
-  none = run-numbered b l .answered .0 passes
+-- a run that is not turned down before its first command has a record that is not
+pub run-valid : (b l : List ℕ) → runRefusal b l ≡ 0 → recordRefusal b ≡ 0
+run-valid b l passes =
+    record-numbered b .answered .1 (none-before (recordConditions b) (condition 16 (wellFormed l ≡ false) ∷ []) (run-numbered b l .answered .0 passes))
 
+module _ (b l : List ℕ) (octets : Octets b) (passes : runRefusal b l ≡ 0) where
   valid : recordRefusal b ≡ 0
-  valid = record-numbered b .answered .1 (none-before (recordConditions b) (condition 16 (wellFormed l ≡ false) ∷ []) none)
+  valid = run-valid b l passes
 
   -- the run from the record's own state
   whole : inTurn 0 b (commandsOf l) ≡ ran (shapeOf b) (ranOn b l)
