@@ -17,3 +17,5 @@ pub mod RunHolds
 pub mod Demand1Holds
 pub mod Demand2
 pub mod Demand2Holds
+pub mod Demand3
+pub mod Demand3Holds
