@@ -9,7 +9,6 @@ use lib.ListN.{length}
 use Rattle.matrix.specs.declared.Fields.{Fields}
 use Rattle.matrix.specs.declared.Answer.{Answer}
 use Rattle.matrix.specs.declared.Holding.{Holding}
-use Rattle.matrix.specs.declared.Outcome.{Outcome}
 use Rattle.matrix.specs.Names.{nameOf}
 use Rattle.matrix.specs.Numbers.{heldNumbers, commandNumbers, runNumbers}
 use Rattle.matrix.specs.State.{exists, existsName}

@@ -1,47 +1,39 @@
 -- Demand 1 holds.
-use Prim.Native.Nat.{ℕ, _+_, _≤_, _<_}
-use native.Mathlib.Omega.{arith}
+use Prim.Native.Nat.{ℕ}
 use mathlib.Core.Path.{_≡_, refl, sym, _∙_, ap, subst}
 use mathlib.Core.Logic.{_≢_, _↔_, _⊎_, inl, inr, ⊎-elim}
-use mathlib.Core.Bool.{Bool, true, false, cond, _&&_, _||_, false≢true}
-use mathlib.Core.List.{List, [], _∷_, _++_, map}
+use mathlib.Core.Bool.{Bool, true, false, cond, _&&_, false≢true}
+use mathlib.Core.List.{List, [], _∷_}
 use lib.Dec.{eqb}
-use lib.ListN.{length, take}
-use borrow.Author.Tests.{eqb-true, eqb-false, eq-eqb, ne-eqb}
+use lib.ListN.{length}
+use borrow.Author.Tests.{eqb-true, eqb-false, eq-eqb}
 use Rattle.matrix.specs.declared.Name.{Name}
 use Rattle.matrix.specs.declared.Right.{Right}
-use Rattle.matrix.specs.declared.Right.the-variants.{Own, Control, Basic}
-use Rattle.matrix.specs.declared.Form.the-variants.{Plain, Starred}
 use Rattle.matrix.specs.declared.Fields.{Fields}
 use Rattle.matrix.specs.declared.Answer.{Answer}
 use Rattle.matrix.specs.declared.Holding.{Holding}
-use Rattle.matrix.specs.declared.Outcome.{Outcome}
 use Rattle.matrix.specs.declared.Numbers.{Numbers}
 use Rattle.matrix.specs.Names.{nameOf}
-use Rattle.matrix.specs.Numbers.{numbers, heldNumbers, commandNumbers, runNumbers}
+use Rattle.matrix.specs.Numbers.{numbers, heldNumbers, commandNumbers}
 use Rattle.matrix.specs.Rights.{rightOf, heldBy}
 use Rattle.matrix.specs.State.{State, has, hasOne, exists, existsName}
-use Rattle.matrix.specs.Valid.{Valid}
 use Rattle.matrix.specs.Step.{answer}
 use Rattle.matrix.specs.Shape.{shapeOf}
-use Rattle.matrix.specs.Shaped.{Octets}
 use Rattle.matrix.specs.Reading.{stateOf}
 use Rattle.matrix.specs.Record.{recordRefusal}
-use Rattle.matrix.specs.CommandList.{commandPlace, commandsIn, wellFormed, fieldsAt, commandsOf}
-use Rattle.matrix.specs.Calls.{validAnswer, questionFits, heldRefusal, holdsOn, heldAnswer, heldResult, refusalOn, linksOn, commandAnswer, commandResult, commandBytes, runRefusal, ranOn, runFrom, runAnswer, runBytes}
+use Rattle.matrix.specs.Calls.{validAnswer, questionFits, heldRefusal, holdsOn, heldAnswer, heldResult, refusalOn, linksOn, commandAnswer, commandResult, commandBytes}
 use Rattle.laws.specs.Tests.{way, clash, fails, or-cases}
-use Rattle.laws.specs.Numbers.{answer-number, held-numbers, command-numbers, run-numbers}
+use Rattle.laws.specs.Numbers.{answer-number, held-numbers, command-numbers}
 use Rattle.owners.specs.Read.{valid-record}
 use Rattle.question.specs.declared.Safety.{Safety}
 use Rattle.question.specs.Numbers.{safetyNumbers}
 use Rattle.question.specs.Asked.{safetyRefusal, Decided, Answers}
-use Rattle.demands.specs.First.{condition, First, NoneHolds, Numbered, Among}
-use Rattle.demands.specs.FirstLaws.{numbered-then, numbered-among, none-before, none-after}
-use Rattle.demands.specs.Printed.{recordConditions, commandConditions, heldConditions, givenConditions, runConditions, safetyConditions}
-use Rattle.demands.specs.Refusals.{record-numbered, command-numbered, held-numbered, run-numbered, safety-numbered}
-use Rattle.demands.specs.InTurn.{inTurn, firstCommands}
+use Rattle.demands.specs.First.{condition, NoneHolds, Numbered}
+use Rattle.demands.specs.FirstLaws.{numbered-then, numbered-among, none-before}
+use Rattle.demands.specs.Printed.{recordConditions, commandConditions, heldConditions, givenConditions, safetyConditions}
+use Rattle.demands.specs.Refusals.{record-numbered, command-numbered, held-numbered, safety-numbered}
 use Rattle.demands.specs.RunHolds.{run-right}
-use Rattle.demands.specs.Demand1.{HeldRight, CommandRight, StoppedAfter, RunRight, SafetyRight, Demand1}
+use Rattle.demands.specs.Demand1.{HeldRight, CommandRight, SafetyRight, Demand1}
 
 -- ---- held
 

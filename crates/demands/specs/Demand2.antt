@@ -2,7 +2,7 @@
 -- one value, and that value is written as the same bytes (Manual 2, 5).
 use Prim.Native.Nat.{ℕ, _-_, _≤_, _<_}
 use mathlib.Core.Path.{_≡_}
-use mathlib.Core.Logic.{_↔_}
+use mathlib.Core.Logic.{_≢_, _↔_, _⊎_}
 use mathlib.Core.Bool.{true, false}
 use mathlib.Core.List.{List}
 use lib.ListN.{take, drop}
@@ -11,6 +11,7 @@ use Rattle.matrix.specs.declared.Fields.{Fields}
 use Rattle.matrix.specs.declared.Answer.the-variants.{Accepted}
 use Rattle.matrix.specs.Names.{nameOf}
 use Rattle.matrix.specs.Numbers.{commandNumbers}
+use Rattle.matrix.specs.Owners.{walk, linksOf}
 use Rattle.matrix.specs.Commands.{decode}
 use Rattle.matrix.specs.Touched.{touched}
 use Rattle.matrix.specs.Step.{refusal, links, next}
@@ -47,8 +48,14 @@ pub record Demand2 : Type 0 where
       × (refusal (basicsOf (shapeOf b)) (namesFit (shapeOf b) c) (stateOf b) (rawOf (shapeOf b) c) ≡ 0)
       × (links (basicsOf (shapeOf b)) (namesFit (shapeOf b) c) (stateOf b) (rawOf (shapeOf b) c) ≡ followed))
   pub next : (b : List ℕ) (c : Fields) (followed : ℕ) → Octets b → commandAnswer b c ≡ Accepted followed → NextRight b c
-  -- the links answered, with a refusal too
-  pub links : (b : List ℕ) (c : Fields) → commandNumbers (commandAnswer b c) .value ≤ shapeOf b .n - 1
+  -- the links answered, with a refusal too: those of the walk from s where code 3 is accepted or refused by 13, else 0; never over n - 1
+  pub walked : (b : List ℕ) (c : Fields) → validAnswer b ≡ true → c .code ≡ 3
+      → (commandNumbers (commandAnswer b c) .refusal ≡ 0) ⊎ (commandNumbers (commandAnswer b c) .refusal ≡ 13)
+      → commandNumbers (commandAnswer b c) .value ≡ linksOf (walk (stateOf b) (c .s) (nameOf (shapeOf b .n) (c .o)))
+  pub silent : (b : List ℕ) (c : Fields)
+      → (c .code ≢ 3) ⊎ ((commandNumbers (commandAnswer b c) .refusal ≢ 0) × (commandNumbers (commandAnswer b c) .refusal ≢ 13))
+      → commandNumbers (commandAnswer b c) .value ≡ 0
+  pub few-links : (b : List ℕ) (c : Fields) → commandNumbers (commandAnswer b c) .value ≤ shapeOf b .n - 1
   -- a record that 1 to 5 let pass: writing what is read gives the same bytes, and two that are read the same are the same bytes
   pub written : (b : List ℕ) → Octets b → validAnswer b ≡ true → bytesOf (contentOf b) ≡ b
   pub same : (b c : List ℕ) → Octets b → Octets c → validAnswer b ≡ true → validAnswer c ≡ true → contentOf b ≡ contentOf c → b ≡ c

@@ -1,39 +1,37 @@
 -- Demand 2 holds.
-use Prim.Native.Nat.{ℕ, _+_, _-_, _≤_, _<_}
+use Prim.Native.Nat.{ℕ, _-_, _≤_, _<_}
 use native.Mathlib.Omega.{arith}
 use mathlib.Core.Path.{_≡_, refl, sym, _∙_, ap, ap₂, subst}
-use mathlib.Core.Logic.{_↔_, ⊎-elim}
-use mathlib.Core.Bool.{Bool, true, false, cond, _&&_, _||_}
-use mathlib.Core.List.{List, _++_}
+use mathlib.Core.Logic.{_≢_, _↔_, _⊎_, inl, inr, ⊎-elim}
+use mathlib.Core.Bool.{Bool, true, false, cond, _||_}
+use mathlib.Core.List.{List}
 use lib.Dec.{eqb}
-use lib.ListN.{length, take, drop}
+use lib.ListN.{take}
 use lib.Seq.{take-at}
 use borrow.Author.Tests.{eqb-true, eq-eqb}
-use Rattle.matrix.specs.declared.Right.{Right}
 use Rattle.matrix.specs.declared.Right.the-variants.{Own, Control, Basic}
 use Rattle.matrix.specs.declared.Act.{Act}
 use Rattle.matrix.specs.declared.Act.the-variants.{Transfer, Grant, Delete, CreateObject, DestroyObject, CreateSubject, DestroySubject}
 use Rattle.matrix.specs.declared.Command.{Command}
 use Rattle.matrix.specs.declared.Fields.{Fields}
 use Rattle.matrix.specs.declared.Answer.{Answer}
-use Rattle.matrix.specs.declared.Answer.the-variants.{Accepted, Refused}
+use Rattle.matrix.specs.declared.Answer.the-variants.{Accepted}
 use Rattle.matrix.specs.declared.Numbers.{Numbers}
 use Rattle.matrix.specs.Names.{nameOf}
 use Rattle.matrix.specs.Numbers.{numbers, commandNumbers}
 use Rattle.matrix.specs.Rights.{rightOf}
 use Rattle.matrix.specs.State.{State, has}
 use Rattle.matrix.specs.Owners.{walk, linksOf}
-use Rattle.matrix.specs.Commands.{decode}
-use Rattle.matrix.specs.Touched.{touched}
-use Rattle.matrix.specs.Bytes.{bytesOfNumber, joined, fromBits}
-use Rattle.matrix.specs.Step.{answer, walkLinks, refusal, links, next}
+use Rattle.matrix.specs.Commands.{Raw, ruleOf, decode}
+use Rattle.matrix.specs.Bytes.{bytesOfNumber, joined}
+use Rattle.matrix.specs.Step.{walkLinks, refusal, links, next}
 use Rattle.matrix.specs.Shape.{Shape, shapeOf, basicsOf, bitsOf, columns, cellPlace}
-use Rattle.matrix.specs.Shaped.{Shaped, Octets}
+use Rattle.matrix.specs.Shaped.{Octets}
 use Rattle.matrix.specs.Reading.{Content, stateOf, content, contentOf, header, rowOf, cellAt, cellOf, bytesOf}
 use Rattle.matrix.specs.Record.{recordRefusal}
 use Rattle.matrix.specs.Calls.{validAnswer, rawOf, namesFit, refusalOn, linksOn, nextOn, commandAnswer, commandResult, commandBytes, runRefusal, ranOn, runBytes}
-use Rattle.laws.specs.Tests.{way, clash}
-use Rattle.laws.specs.Numbers.{answer-number, command-numbers}
+use Rattle.laws.specs.Tests.{way}
+use Rattle.laws.specs.Numbers.{command-numbers}
 use Rattle.codec.specs.Bits.{fromBits-same}
 use Rattle.codec.specs.Cells.{cell-inside}
 use Rattle.codec.specs.Numbers.{bytes-numberAt}
@@ -41,6 +39,7 @@ use Rattle.codec.specs.Written.{length-header, shaped-write, cell-write}
 use Rattle.codec.specs.RoundTrip.{read-write}
 use Rattle.owners.specs.Read.{record-shaped, record-links}
 use Rattle.frame.specs.Untouched.{untouched-next}
+use Rattle.frame.specs.Answers.{links-only, links-only-three}
 use Rattle.demands.specs.First.{NoneHolds}
 use Rattle.demands.specs.Printed.{runConditions}
 use Rattle.demands.specs.Refusals.{run-numbered}
@@ -184,6 +183,40 @@ links-few b c =
     number : ℕ
     number = refusal (basicsOf (shapeOf b)) (namesFit (shapeOf b) c) (stateOf b) (rawOf (shapeOf b) c)
 
+linked : (number : ℕ) (followed : ℕ) → (number ≡ 0) ⊎ (number ≡ 13) → cond (eqb number 0 || eqb number 13) followed 0 ≡ followed
+linked number followed (inl e) = rw e refl
+linked number followed (inr e) = rw e refl
+
+module _ (b : List ℕ) (c : Fields) where
+  abbrev raw : Raw
+  raw = rawOf (shapeOf b) c
+
+  -- where the record passes, the number is the command's
+  number-is : recordRefusal b ≡ 0 → commandNumbers (commandAnswer b c) .refusal ≡ refusal (basicsOf (shapeOf b)) (namesFit (shapeOf b) c) (stateOf b) raw
+  unfolding refusalOn
+  number-is h = command-number b c ∙ rw h refl
+
+  walked : validAnswer b ≡ true → c .code ≡ 3
+      → (commandNumbers (commandAnswer b c) .refusal ≡ 0) ⊎ (commandNumbers (commandAnswer b c) .refusal ≡ 13)
+      → commandNumbers (commandAnswer b c) .value ≡ linksOf (walk (stateOf b) (c .s) (nameOf (shapeOf b .n) (c .o)))
+  unfolding linksOn links
+  walked valid three number =
+      let z = passes b valid in
+      value-is b c ∙ ap (λ (k : ℕ). cond (eqb k 0) (linksOn (shapeOf b) (stateOf b) c) 0) z
+      ∙ linked _ _ (subst (λ (k : ℕ). (k ≡ 0) ⊎ (k ≡ 13)) (number-is z) number)
+      ∙ ap (λ (code : ℕ). walkLinks (stateOf b) (decode raw) (ruleOf code (c .k) .act)) three
+
+  silent : (c .code ≢ 3) ⊎ ((commandNumbers (commandAnswer b c) .refusal ≢ 0) × (commandNumbers (commandAnswer b c) .refusal ≢ 13))
+      → commandNumbers (commandAnswer b c) .value ≡ 0
+  unfolding linksOn
+  silent h = value-is b c ∙ ⊎-elim (λ t. rw t (none (eqb-true (recordRefusal b) 0 t) h)) (λ t. rw t refl) (way (eqb (recordRefusal b) 0))
+    where
+      none : recordRefusal b ≡ 0 → (c .code ≢ 3) ⊎ ((commandNumbers (commandAnswer b c) .refusal ≢ 0) × (commandNumbers (commandAnswer b c) .refusal ≢ 13))
+          → links (basicsOf (shapeOf b)) (namesFit (shapeOf b) c) (stateOf b) raw ≡ 0
+      none z (inl other) = links-only-three (basicsOf (shapeOf b)) (namesFit (shapeOf b) c) (stateOf b) raw other
+      none z (inr other) =
+          links-only (basicsOf (shapeOf b)) (namesFit (shapeOf b) c) (stateOf b) raw (λ e. other .0 (number-is z ∙ e)) (λ e. other .1 (number-is z ∙ e))
+
 -- ---- a list run
 
 run-read : (b l : List ℕ) → Octets b → NoneHolds (runConditions b l)
@@ -212,7 +245,9 @@ demand-2 =
     record {
       accepted = allowed;
       next = λ b c followed octets e. next-right b c followed e octets;
-      links = links-few;
+      walked = walked;
+      silent = silent;
+      few-links = links-few;
       written = written-same;
       same = read-same;
       run = run-read;

@@ -5,7 +5,6 @@ use mathlib.Core.Logic.{_≢_, _↔_}
 use mathlib.Core.List.{List}
 use lib.ListN.{length, take, drop}
 use Rattle.matrix.specs.declared.Holding.{Holding}
-use Rattle.matrix.specs.declared.Outcome.{Outcome}
 use Rattle.matrix.specs.Shape.{shapeOf}
 use Rattle.matrix.specs.CommandList.{commandsOf}
 use Rattle.matrix.specs.Calls.{heldAnswer, runAnswer, runBytes}

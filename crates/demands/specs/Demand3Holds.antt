@@ -1,12 +1,11 @@
 -- Demand 3 holds.
 use Prim.Native.Nat.{ℕ, _+_, _≤_, _<_}
-use mathlib.Core.Path.{_≡_, refl, sym, _∙_, ap, subst}
-use mathlib.Core.Logic.{_≢_, _↔_, inl, inr}
-use mathlib.Core.Bool.{Bool, true, false, cond, _&&_}
+use mathlib.Core.Path.{_≡_, refl, _∙_, ap, subst}
+use mathlib.Core.Logic.{_≢_, inl, inr}
+use mathlib.Core.Bool.{Bool, true, false, _&&_}
 use mathlib.Core.List.{List, [], _∷_}
 use lib.ListN.{length}
 use Rattle.matrix.specs.declared.Holding.{Holding}
-use Rattle.matrix.specs.declared.Outcome.{Outcome}
 use Rattle.matrix.specs.Names.{nameOf}
 use Rattle.matrix.specs.Rights.{rightOf}
 use Rattle.matrix.specs.State.{held}
@@ -14,11 +13,11 @@ use Rattle.matrix.specs.Tests.{firstFailed}
 use Rattle.matrix.specs.Shape.{shapeOf}
 use Rattle.matrix.specs.Reading.{Content, content, contentOf, bytesOf}
 use Rattle.matrix.specs.Record.{recordRefusal}
-use Rattle.matrix.specs.CommandList.{wellFormed, commandsOf}
+use Rattle.matrix.specs.CommandList.{wellFormed}
 use Rattle.matrix.specs.Calls.{questionFits, heldRefusal, heldAnswer, runRefusal, ranOn, runAnswer, runBytes}
 use Rattle.laws.specs.Tests.{clash, holds, and-left}
 use Rattle.question.specs.declared.Safety.{Safety}
-use Rattle.question.specs.Asked.{trustFits, listRoom, safetyRefusal, SafeRecord, Written, Decided, Answers}
+use Rattle.question.specs.Asked.{trustFits, listRoom, SafeRecord, Written, Decided, Answers}
 use Rattle.steps.specs.Runs.{leaks-unsafe}
 use Rattle.demands.specs.First.{condition, Condition, NoneHolds}
 use Rattle.demands.specs.FirstLaws.{none-before, none-after, none-both}

@@ -1,17 +1,15 @@
 -- Records that hold a valid state: what is read from them, and what a command answers and leaves.
 use Prim.Native.Nat.{ℕ, _≤_}
 use native.Mathlib.Omega.{arith}
-use mathlib.Core.Path.{_≡_, refl, sym, _∙_, ap, ap₂, subst}
-use mathlib.Core.Logic.{⊎-elim}
-use mathlib.Core.Bool.{Bool, true, false, cond, _&&_}
+use mathlib.Core.Path.{_≡_, sym, _∙_, ap, subst}
+use mathlib.Core.Bool.{cond, _&&_}
 use mathlib.Core.List.{List}
 use lib.Dec.{eqb}
 use Rattle.matrix.specs.declared.Fields.{Fields}
 use Rattle.matrix.specs.declared.Answer.{Answer}
-use Rattle.matrix.specs.State.{State}
 use Rattle.matrix.specs.Step.{answer}
 use Rattle.matrix.specs.Valid.{Valid}
-use Rattle.matrix.specs.Shape.{Shape, shapeOf, widthOf}
+use Rattle.matrix.specs.Shape.{shapeOf, widthOf}
 use Rattle.matrix.specs.Shaped.{Within, Octets}
 use Rattle.matrix.specs.Reading.{Content, stateOf, content, contentOf, bytesOf}
 use Rattle.matrix.specs.Record.{recordRefusal}
@@ -19,7 +17,7 @@ use Rattle.matrix.specs.CommandList.{commandsOf}
 use Rattle.matrix.specs.Calls.{refusalOn, linksOn, nextOn, commandAnswer, commandBytes, ranOn}
 use Rattle.codec.specs.ShapeRight.{ShapeRight}
 use Rattle.codec.specs.Written.{shape-write, shaped-write, octets-write}
-use Rattle.codec.specs.RoundTrip.{shape-right, within-read, read-write, write-read}
+use Rattle.codec.specs.RoundTrip.{shape-right, within-read, write-read}
 use Rattle.owners.specs.Read.{record-shaped, valid-record, record-valid}
 use Rattle.kept.specs.Keeps.{on-keeps, run-keeps}
 use Rattle.frame.specs.Stays.{within-next, within-run}

@@ -15,7 +15,7 @@ use Rattle.matrix.specs.Valid.{Valid}
 use Rattle.matrix.specs.Commands.{known, ruleOf, fieldsFit, decode}
 use Rattle.matrix.specs.Tests.{Test, test, firstFailed, commandTests}
 use Rattle.matrix.specs.Step.{refusalOf, refusal}
-use Rattle.matrix.specs.Shape.{Shape, shapeOf, knownVersion, inRange, sized, basicsOf}
+use Rattle.matrix.specs.Shape.{Shape, shapeOf, basicsOf}
 use Rattle.matrix.specs.Reading.{stateOf}
 use Rattle.matrix.specs.Record.{validMatrix, recordRefusal}
 use Rattle.matrix.specs.CommandList.{wellFormed}
@@ -24,10 +24,11 @@ use Rattle.laws.specs.Tests.{way, clash}
 use Rattle.codec.specs.Columns.{columnOf-nameOf}
 use Rattle.codec.specs.RoundTrip.{within-read}
 use Rattle.owners.specs.Test.{valid-of-test, test-of-valid}
+use Rattle.owners.specs.Read.{recordTests}
 use Rattle.question.specs.Asked.{trustFits, listRoom, safetyRefusal}
 use Rattle.demands.specs.First.{Condition, condition, Numbered}
 use Rattle.demands.specs.FirstLaws.{Against, AllAgainst, numbered, numbered-then}
-use Rattle.demands.specs.Printed.{recordConditions, fieldsRight, commandConditions, heldConditions, givenConditions, runConditions, safetyConditions}
+use Rattle.demands.specs.Printed.{recordConditions, fieldsRight, commandConditions, heldConditions, runConditions, safetyConditions}
 use Rattle.demands.specs.Codes.{Agrees, agrees}
 
 -- a test, and the condition that it fails
@@ -44,13 +45,7 @@ opposite m t false some e = record { number = refl; some = some; failed = λ h. 
 pub record-numbered : (b : List ℕ) → Numbered (recordConditions b) (recordRefusal b)
 unfolding recordRefusal
 record-numbered b =
-    numbered
-    (test 1 (leb 7 (length b)) ∷
-    test 2 (knownVersion (shapeOf b .version)) ∷
-    test 3 (inRange (shapeOf b)) ∷
-    test 4 (sized b) ∷
-    test 5 (validMatrix (shapeOf b) (stateOf b)) ∷ [])
-    (recordConditions b)
+    numbered (recordTests b) (recordConditions b)
     (short, λ a. (fails-test 2 _ (omega arith), λ c. (fails-test 3 _ (omega arith), λ d. (fails-test 4 _ (omega arith), λ e. (matrix, λ f. tt)))))
   where
     short : Against (test 1 (leb 7 (length b))) (condition 1 (length b < 7))

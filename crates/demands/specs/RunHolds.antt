@@ -4,20 +4,20 @@ use native.Mathlib.Nat.{zero-add}
 use native.Mathlib.Omega.{arith}
 use mathlib.Core.Path.{_≡_, refl, sym, _∙_, ap, ap₂, subst}
 use mathlib.Core.Logic.{_≢_, inl, inr, ⊎-elim}
-use mathlib.Core.Bool.{Bool, true, false, cond}
+use mathlib.Core.Bool.{true, false}
 use mathlib.Core.List.{List, [], _∷_, _++_}
 use lib.Dec.{eqb}
-use lib.ListN.{length, take}
-use borrow.Author.Tests.{eqb-true, eqb-false, ne-eqb}
+use lib.ListN.{take}
+use borrow.Author.Tests.{ne-eqb}
 use Rattle.matrix.specs.declared.Fields.{Fields}
 use Rattle.matrix.specs.declared.Outcome.{Outcome}
-use Rattle.matrix.specs.Numbers.{commandNumbers, runNumbers}
+use Rattle.matrix.specs.Numbers.{runNumbers}
 use Rattle.matrix.specs.State.{State}
 use Rattle.matrix.specs.Shape.{Shape, shapeOf}
 use Rattle.matrix.specs.Shaped.{Octets}
 use Rattle.matrix.specs.Reading.{stateOf}
 use Rattle.matrix.specs.CommandList.{commandPlace, commandsIn, wellFormed, fieldsAt, commandsOf}
-use Rattle.matrix.specs.Calls.{refusalOn, nextOn, commandAnswer, runRefusal, ranOn, runFrom, runAnswer, runBytes}
+use Rattle.matrix.specs.Calls.{refusalOn, nextOn, runRefusal, ranOn, runFrom, runAnswer, runBytes}
 use Rattle.laws.specs.Tests.{way, clash, holds}
 use Rattle.lists.specs.Formed.{length-commands}
 use Rattle.demands.specs.First.{condition, Condition, First, NoneHolds, Among}

@@ -1,16 +1,16 @@
 -- The sheet holds.
 use Prim.Native.Nat.{ℕ}
 use mathlib.Core.Path.{_≡_, refl, sym, _∙_, ap, subst}
-use mathlib.Core.Logic.{_↔_, ⊎-elim}
+use mathlib.Core.Logic.{⊎-elim}
 use mathlib.Core.Bool.{Bool, true, false, cond, not, _&&_, _||_}
 use mathlib.Core.List.{List, [], _∷_}
 use lib.Dec.{eqb, ltb}
 use borrow.Author.Tests.{eq-eqb}
 use Rattle.matrix.specs.declared.Name.{Name}
 use Rattle.matrix.specs.declared.Name.the-variants.{Subject}
-use Rattle.matrix.specs.declared.Form.the-variants.{Plain, Starred}
+use Rattle.matrix.specs.declared.Form.the-variants.{Starred}
 use Rattle.matrix.specs.declared.Right.{Right}
-use Rattle.matrix.specs.declared.Right.the-variants.{Own, Control, Basic}
+use Rattle.matrix.specs.declared.Right.the-variants.{Own, Control}
 use Rattle.matrix.specs.Names.{isSubject, columnOf}
 use Rattle.matrix.specs.State.{State, has, exists, existsName, put, clear}
 use Rattle.matrix.specs.Owners.{walk, meets, linksOf}
@@ -22,7 +22,7 @@ use Rattle.matrix.specs.Touched.{isBit}
 use Rattle.laws.specs.Tests.{way, and-left, and-right, and-both}
 use Rattle.laws.specs.Same.{isBit-eq}
 use Rattle.laws.specs.Changed.{has-put, has-put-other}
-use Rattle.laws.specs.Passed.{Passed, all-passed, tests-passed, Taken, taken}
+use Rattle.laws.specs.Passed.{Passed, all-passed, tests-passed, taken}
 use Rattle.codec.specs.Columns.{same-state}
 use Rattle.frame.specs.Untouched.{refused-same}
 use Rattle.demands.specs.Row.{AllHold, raw, Row}

@@ -3,7 +3,7 @@ use Prim.Native.Nat.{ℕ, zero, suc, _+_, _*_, _/_, _%_, _≤_, _<_}
 use native.Mathlib.Omega.{arith}
 use mathlib.Core.Path.{_≡_, refl, sym, _∙_, ap}
 use mathlib.Core.Bool.{Bool, true, _&&_}
-use mathlib.Core.List.{List, [], _∷_}
+use mathlib.Core.List.{List, _∷_}
 use lib.Dec.{eqb, leb}
 use lib.ListN.{length, getD, take}
 use lib.Seq.{getD-take, length-take-le}
@@ -15,7 +15,7 @@ use Rattle.matrix.specs.CommandList.{recordBytes, mostListBytes, commandPlace, 
 use Rattle.laws.specs.Tests.{and-left, and-right}
 use Rattle.laws.specs.Bounded.{all-each, each-all}
 use Rattle.codec.specs.Numbers.{numberAt-agree, length-setNumber, getD-setNumber-other, numberAt-set-same}
-use Rattle.lists.specs.Formed.{Formed, formed}
+use Rattle.lists.specs.Formed.{formed}
 use Rattle.lists.specs.Forms.{lengthRight, lengthsRight, by-count, by-lengths}
 use Rattle.writing.specs.Commands.{commands-agree}
 use Rattle.demands.specs.InTurn.{firstCommands}

@@ -1,24 +1,20 @@
 -- A list run is the command call on each of its commands in turn, and the run that stopped is that of the list's first commands.
-use Prim.Native.Nat.{ℕ, zero, suc, _+_, _*_, _/_, _%_, _≤_, _<_}
-use native.Mathlib.Omega.{arith}
-use mathlib.Core.Path.{_≡_, refl, sym, _∙_, ap, ap₂, subst}
-use mathlib.Core.Logic.{_≢_, ⊎-elim}
-use mathlib.Core.Bool.{Bool, true, false, cond, _&&_}
+use Prim.Native.Nat.{ℕ, _+_}
+use mathlib.Core.Path.{_≡_, refl, sym, _∙_, ap}
+use mathlib.Core.Logic.{⊎-elim}
+use mathlib.Core.Bool.{Bool, true, false, cond}
 use mathlib.Core.List.{List, [], _∷_}
 use lib.Dec.{eqb}
-use lib.ListN.{length, getD, take}
-use borrow.Author.Tests.{eqb-true, eqb-false, eq-eqb}
 use Rattle.matrix.specs.declared.Fields.{Fields}
 use Rattle.matrix.specs.declared.Answer.{Answer}
-use Rattle.matrix.specs.declared.Outcome.{Outcome}
 use Rattle.matrix.specs.Numbers.{commandNumbers}
 use Rattle.matrix.specs.State.{State}
 use Rattle.matrix.specs.Shape.{Shape, shapeOf}
 use Rattle.matrix.specs.Shaped.{Octets}
-use Rattle.matrix.specs.Reading.{Content, stateOf, content, contentOf, bytesOf}
+use Rattle.matrix.specs.Reading.{Content, stateOf, content, bytesOf}
 use Rattle.matrix.specs.Record.{recordRefusal}
 use Rattle.matrix.specs.CommandList.{wellFormed, commandsOf}
-use Rattle.matrix.specs.Calls.{refusalOn, linksOn, nextOn, commandAnswer, commandBytes, Ran, runFrom, ranOn, runRefusal, runAnswer, runBytes}
+use Rattle.matrix.specs.Calls.{refusalOn, linksOn, nextOn, commandBytes, Ran, runFrom, ranOn, runRefusal, runAnswer, runBytes}
 use Rattle.laws.specs.Tests.{way}
 use Rattle.laws.specs.Numbers.{answer-number}
 use Rattle.codec.specs.RoundTrip.{read-write}

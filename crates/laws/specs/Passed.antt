@@ -1,5 +1,4 @@
--- Lists of tests: what holds of the number of the first test that failed, that no test failed exactly where every test is passed, and
--- what the tests of an accepted command say.
+-- Lists of tests: no test failed exactly where every test is passed, and what the tests of an accepted command say.
 use Prim.Native.Nat.{ℕ}
 use native.Mathlib.Omega.{arith}
 use mathlib.Core.Path.{_≡_, refl}
@@ -25,13 +24,6 @@ Passed (t ∷ ts) = (t .passed ≡ true) × Passed ts
 abbrev pub Numbers : (ℕ → Type 0) → List Test → Type 0
 Numbers P [] = Unit
 Numbers P (t ∷ ts) = (t .passed ≡ false → P (t .number)) × Numbers P ts
-
--- the number of the first test that is not passed, or 0, has a property that 0 and the numbers of all such tests have
-pub first-number : (P : ℕ → Type 0) (ts : List Test) → P 0 → Numbers P ts → P (firstFailed ts)
-unfolding firstFailed
-first-number P [] none each = none
-first-number P (t ∷ ts) none each =
-    ⊎-elim (λ e. rw e (first-number P ts none (each .1))) (λ e. rw e (each .0 e)) (way (t .passed))
 
 -- no test failed: every test is passed
 pub none-failed : (ts : List Test) → Numbers (λ m. m ≢ 0) ts → firstFailed ts ≡ 0 → Passed ts

@@ -23,7 +23,7 @@ use Rattle.owners.specs.Walk.{walk-links}
 use Rattle.owners.specs.Test.{valid-of-test, test-of-valid}
 
 -- the tests of a record, in their order
-abbrev recordTests : List ℕ → List Test
+abbrev pub recordTests : List ℕ → List Test
 recordTests b =
     test 1 (leb 7 (length b)) ∷
     test 2 (knownVersion (shapeOf b .version)) ∷

@@ -1,10 +1,12 @@
--- The rows of "Stations A and B" that are marked to be theorems, gathered under one proof: those about commands (crate frame), and
--- those about the safety question. The safe ones go through the theorem that decides the question, the others are computed.
-use Prim.Native.Nat.{ℕ, _<_}
+-- The worked rows that are theorems (Manual 10.2), gathered under one proof: those about commands (crate frame), and those about the safety
+-- question. The safe ones go through the theorem that decides the question, the others are computed.
+use Prim.Native.Nat.{ℕ, _+_, _≤_, _<_}
 use native.Mathlib.Omega.{arith}
 use mathlib.Core.Path.{_≡_, refl, subst}
-use mathlib.Core.Bool.{true}
+use mathlib.Core.Bool.{true, _&&_}
 use mathlib.Core.List.{List, [], _∷_}
+use lib.ListN.{length}
+use borrow.Author.Tests.{le-leb}
 use Rattle.matrix.specs.declared.Fields.{Fields}
 use Rattle.matrix.specs.Bounded.{any, all, count, least}
 use Rattle.matrix.specs.Names.{nameOf, named}
@@ -16,17 +18,22 @@ use Rattle.matrix.specs.Bytes.{numberAt, bit, fromBits}
 use Rattle.matrix.specs.Shape.{shapeOf, basicsOf}
 use Rattle.matrix.specs.Reading.{cellAt, bitAt, stateOf}
 use Rattle.matrix.specs.Record.{climb, validMatrix, recordRefusal}
-use Rattle.matrix.specs.Calls.{refusalOn, linksOn, nextOn, runFrom}
+use Rattle.matrix.specs.Calls.{questionFits, refusalOn, linksOn, nextOn, runFrom}
 use Rattle.codec.specs.RoundTrip.{within-read}
 use Rattle.owners.specs.Read.{valid-record}
 use Rattle.frame.specs.StationBytes.{A, B}
 use Rattle.frame.specs.Stations.{Stations, stations}
 use Rattle.question.specs.Trust.{trustedBy}
-use Rattle.question.specs.Asked.{SafeRecord, LeaksRecord}
+use Rattle.question.specs.declared.Safety.{Safety}
+use Rattle.question.specs.Asked.{trustFits, listRoom, safetyRefusal, SafeRecord, LeaksRecord, Answers}
 use Rattle.route.specs.Parts.{fields, basicNumber, destroysAll, among}
 use Rattle.route.specs.Rise.{rise}
 use Rattle.ways.specs.Ways.{Way, no-way, wayOver, wayMade, wayOf, listOf}
+use Rattle.steps.specs.Runs.{leaks-unsafe}
 use Rattle.decision.specs.Decides.{Says, decides}
+use Rattle.demands.specs.Refusals.{safety-numbered}
+use Rattle.demands.specs.Demand3.{Decides}
+use Rattle.demands.specs.Demand3Holds.{demand-3}
 
 -- the way that a question on a record is decided by
 abbrev wayAt : List ℕ → ℕ → ℕ → ℕ → ℕ → Way
@@ -50,26 +57,60 @@ decided b mask s o right valid ls ho lk h =
     subst (λ (w : Way). Says (shapeOf b) (stateOf b) (trustedBy mask) s (nameOf (shapeOf b .n) o) (rightOf right) w) h
     (decides (shapeOf b) (stateOf b) (trustedBy mask) s (nameOf (shapeOf b .n) o) (rightOf right) (valid-record b valid) (within-read b) ls ho lk)
 
-pub record SafetyRows : Type 0 where
-  -- "A, trust 7, s 1, o 3, right 2: safe. Trust 5: leaks, as by 13 (1, 2) then 4 (1, 1, 3, 0)."
-  pub a-7 : SafeRecord A 7 1 3 2
-  pub a-5 : LeaksRecord A 5 1 3 2 (fields 13 1 2 0 0 ∷ fields 4 1 1 3 0 ∷ [])
-  -- "A, trust 1, s 1, o 1, own: safe; nobody owns itself."
-  pub a-1 : SafeRecord A 1 1 1 0
-  -- "A, trust 7, s 2, o 3, own: leaks, 0 commands."
-  pub a-held : LeaksRecord A 7 2 3 0 []
-  -- "A, trust 6, s 0, o 2, own: leaks, as by 13 (0, 1)."
-  pub a-6-up : LeaksRecord A 6 0 2 0 (fields 13 0 1 0 0 ∷ [])
-  -- "A, trust 6, s 2, o 1, own: leaks, as by 13 (0, 1), 12 (0, 1), 3 (0, 2, 1)."
-  pub a-6-down : LeaksRecord A 6 2 1 0 (fields 13 0 1 0 0 ∷ fields 12 0 1 0 0 ∷ fields 3 0 2 1 0 ∷ [])
-  -- "B, trust 0, s 1, o 2, right 3: leaks, as by 10 (0, 2), 12 (0, 1), 5 (0, 1, 2, 0). Trust 1: safe."
-  pub b-0 : LeaksRecord B 0 1 2 3 (fields 10 0 0 2 0 ∷ fields 12 0 1 0 0 ∷ fields 5 0 1 2 0 ∷ [])
-  pub b-1 : SafeRecord B 1 1 2 3
+-- The question is not turned down where the buffer has room for its list, and no list gets there: so the call answers "safe".
+pub record SafeRow (b : List ℕ) (mask s o right : ℕ) : Type 0 where
+  pub asked : (room : ℕ) → listRoom (shapeOf b .n + 2) ≤ room → safetyRefusal b mask s o right room ≡ 0
+  pub safe : SafeRecord b mask s o right
+  pub answers : (out out′ : List ℕ) (r : Safety) → listRoom (shapeOf b .n + 2) ≤ length out → Answers b mask s o right out out′ r → r ≡ Safety.Safe
 
--- every marked row
+-- It is not turned down there, and the list cs gets there: so the call answers "leaks".
+pub record LeaksRow (b : List ℕ) (mask s o right : ℕ) (cs : List Fields) : Type 0 where
+  pub asked : (room : ℕ) → listRoom (shapeOf b .n + 2) ≤ room → safetyRefusal b mask s o right room ≡ 0
+  pub leaks : LeaksRecord b mask s o right cs
+  pub answers : (out out′ : List ℕ) (r : Safety) → listRoom (shapeOf b .n + 2) ≤ length out → Answers b mask s o right out out′ r
+      → (commands : ℕ) × (r ≡ Safety.Leaks commands)
+
+pub record SafetyRows : Type 0 where
+  -- A, 0, 1 and 2 trusted: subject 1 never comes to r0 over log 3. With 1 untrusted it does: it destroys 2 and grants itself r0
+  pub a-7 : SafeRow A 7 1 3 2
+  pub a-5 : LeaksRow A 5 1 3 2 (fields 13 1 2 0 0 ∷ fields 4 1 1 3 0 ∷ [])
+  -- A, only 0 trusted: subject 1 never owns itself
+  pub a-1 : SafeRow A 1 1 1 0
+  -- A, all trusted: subject 2 owns log 3 at the start
+  pub a-held : LeaksRow A 7 2 3 0 []
+  -- A, 0 untrusted: it comes to own 2 by destroying 1 ..
+  pub a-6-up : LeaksRow A 6 0 2 0 (fields 13 0 1 0 0 ∷ [])
+  -- .. and 2 comes to own 1, who is destroyed and created again
+  pub a-6-down : LeaksRow A 6 2 1 0 (fields 13 0 1 0 0 ∷ fields 12 0 1 0 0 ∷ fields 3 0 2 1 0 ∷ [])
+  -- B, nobody trusted: subject 1 and log 2 are created, and 1 is granted r0*. With 0 trusted that never happens
+  pub b-0 : LeaksRow B 0 1 2 3 (fields 10 0 0 2 0 ∷ fields 12 0 1 0 0 ∷ fields 5 0 1 2 0 ∷ [])
+  pub b-1 : SafeRow B 1 1 2 3
+
+-- every row
 pub record Worked : Type 0 where
   pub commands : Stations
   pub safety : SafetyRows
+
+-- rows from what is computed of a question
+module _ (b : List ℕ) (mask s o right : ℕ) (valid : recordRefusal b ≡ 0) (fits : (questionFits (shapeOf b) s o right && trustFits (shapeOf b) mask) ≡ true) where
+  not-turned-down : (room : ℕ) → listRoom (shapeOf b .n + 2) ≤ room → safetyRefusal b mask s o right room ≡ 0
+  unfolding safetyRefusal firstFailed
+  not-turned-down room h = rw (valid, fits, le-leb (listRoom (shapeOf b .n + 2)) room h) refl
+
+  decision : (out out′ : List ℕ) (r : Safety) → listRoom (shapeOf b .n + 2) ≤ length out → Answers b mask s o right out out′ r → Decides b mask s o right out out′ r
+  decision out out′ r h a =
+      demand-3 .decides b mask s o right out out′ r a (safety-numbered b mask s o right (length out) .answered .0 (not-turned-down (length out) h))
+
+  safe-row : SafeRecord b mask s o right → SafeRow b mask s o right
+  safe-row safe = record { asked = not-turned-down; safe = safe; answers = λ out out′ r h a. decision out out′ r h a .safe .1 safe }
+
+  leaks-row : (cs : List Fields) → LeaksRecord b mask s o right cs → LeaksRow b mask s o right cs
+  leaks-row cs leaks =
+      record {
+        asked = not-turned-down;
+        leaks = leaks;
+        answers = λ out out′ r h a. let d = decision out out′ r h a in let w = d .leaks (λ e. leaks-unsafe leaks (d .safe .0 e)) in (w .0, w .1);
+      }
 
 pub worked : Worked
 unfolding A B any all count least walkFrom firstFailed refusalOf refusal links next numberAt bit fromBits shapeOf cellAt bitAt stateOf climb validMatrix recordRefusal refusalOn linksOn nextOn runFrom
@@ -78,14 +119,14 @@ worked =
       commands = stations;
       safety =
           record {
-            a-7 = decided A 7 1 3 2 refl (omega arith) refl (omega arith) A-7;
-            a-5 = record { begun = (refl, (refl, tt)); accepted = refl; whole = refl; reached = refl; few = omega arith };
-            a-1 = decided A 1 1 1 0 refl (omega arith) refl (omega arith) A-1;
-            a-held = record { begun = tt; accepted = refl; whole = refl; reached = refl; few = omega arith };
-            a-6-up = record { begun = (refl, tt); accepted = refl; whole = refl; reached = refl; few = omega arith };
-            a-6-down = record { begun = (refl, (refl, (refl, tt))); accepted = refl; whole = refl; reached = refl; few = omega arith };
-            b-0 = record { begun = (refl, (refl, (refl, tt))); accepted = refl; whole = refl; reached = refl; few = omega arith };
-            b-1 = decided B 1 1 2 3 refl (omega arith) refl (omega arith) B-1;
+            a-7 = safe-row A 7 1 3 2 refl refl (decided A 7 1 3 2 refl (omega arith) refl (omega arith) A-7);
+            a-5 = leaks-row A 5 1 3 2 refl refl _ (record { begun = (refl, (refl, tt)); accepted = refl; whole = refl; reached = refl; few = omega arith });
+            a-1 = safe-row A 1 1 1 0 refl refl (decided A 1 1 1 0 refl (omega arith) refl (omega arith) A-1);
+            a-held = leaks-row A 7 2 3 0 refl refl _ (record { begun = tt; accepted = refl; whole = refl; reached = refl; few = omega arith });
+            a-6-up = leaks-row A 6 0 2 0 refl refl _ (record { begun = (refl, tt); accepted = refl; whole = refl; reached = refl; few = omega arith });
+            a-6-down = leaks-row A 6 2 1 0 refl refl _ (record { begun = (refl, (refl, (refl, tt))); accepted = refl; whole = refl; reached = refl; few = omega arith });
+            b-0 = leaks-row B 0 1 2 3 refl refl _ (record { begun = (refl, (refl, (refl, tt))); accepted = refl; whole = refl; reached = refl; few = omega arith });
+            b-1 = safe-row B 1 1 2 3 refl refl (decided B 1 1 2 3 refl (omega arith) refl (omega arith) B-1);
           };
     }
 
