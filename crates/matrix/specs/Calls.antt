@@ -1,4 +1,4 @@
--- The answer of every public call, and the bytes after it.
+-- The answer of every public call, and the bytes after it (Manual 7, 8.6).
 use Prim.Native.Nat.{ℕ, _+_}
 use mathlib.Core.Bool.{Bool, cond, _&&_}
 use mathlib.Core.List.{List, [], _∷_}
@@ -22,11 +22,11 @@ use Rattle.matrix.specs.Reading.{stateOf, content, bytesOf}
 use Rattle.matrix.specs.Record.{recordRefusal}
 use Rattle.matrix.specs.CommandList.{wellFormed, commandsOf}
 
--- Whether a record is valid: "no exactly where 1 to 5 would turn it down, and never a refusal".
+-- The validity call: yes where none of 1 to 5 applies. It is never refused.
 unfoldable pub validAnswer : List ℕ → Bool
 validAnswer b = eqb (recordRefusal b) 0
 
--- Refusal 7 of a question: "i or s ≥ n, o ≥ n + p, .. right > 15".
+-- the numbers of a question are within bounds: where they are not, it is refused by 7
 abbrev pub questionFits : Shape → ℕ → ℕ → ℕ → Bool
 questionFits f s o right = ltb s (f .n) && ltb o (columns f) && ltb right (bitsOf f)
 
@@ -47,11 +47,11 @@ heldAnswer b s o right =
 unfoldable pub heldResult : List ℕ → ℕ → ℕ → ℕ → Numbers
 heldResult b s o right = numbers (heldRefusal b s o right) (cond (eqb (heldRefusal b s o right) 0) (truth (holdsOn b s o right)) 0)
 
--- A command as given to a record of a shape: "in a written list o below n is subject o, any other is plain name o".
+-- A command given to a record of a shape: its column o is a subject's name below n, and from n on a plain object's (Manual 1.1).
 abbrev pub rawOf : Shape → Fields → Raw
 rawOf f c = record { code = c .code; i = c .i; s = c .s; o = nameOf (f .n) (c .o); k = c .k }
 
--- "i or s ≥ n, o ≥ n + p"
+-- its names are the record's: else refusal 7
 abbrev pub namesFit : Shape → Fields → Bool
 namesFit f c = ltb (c .i) (f .n) && ltb (c .s) (f .n) && ltb (c .o) (columns f)
 
@@ -65,7 +65,7 @@ linksOn f S c = links (basicsOf f) (namesFit f c) S (rawOf f c)
 unfoldable pub nextOn : Shape → State → Fields → State
 nextOn f S c = next (basicsOf f) (namesFit f c) S (rawOf f c)
 
--- A command on a record: 1 to 5, then 6 to 14. "A refusal changes nothing."
+-- A command on a record: 1 to 5, then 6 to 14. Where it is refused the bytes stay as they are.
 unfoldable pub commandAnswer : List ℕ → Fields → Answer
 commandAnswer b c =
     cond (eqb (recordRefusal b) 0)
@@ -86,8 +86,8 @@ commandBytes b c =
     (bytesOf (content (shapeOf b) (nextOn (shapeOf b) (stateOf b) c)))
     b
 
--- A run over a list of commands. "The run stops at the first refused command and answers the number accepted and the refusal,
--- 0 if none."
+-- Commands in turn, up to the first that is refused: how many were accepted, the refusal (0 where there was none) and the state left
+-- (Manual 6.2).
 pub record Ran : Type 0 where
   pub accepted : ℕ
   pub refusal : ℕ
@@ -100,7 +100,7 @@ runFrom accepted f S (c ∷ cs) =
     (runFrom (accepted + 1) f (nextOn f S c) cs)
     (record { accepted = accepted; refusal = refusalOn f S c; state = S })
 
--- A list run on a record: 1 to 5, then 16, then each command. "Refusals 1 to 5 and 16 come with 0 accepted."
+-- A list run on a record: 1 to 5, then 16; where one of these refuses it, nothing is accepted. Then each command.
 unfoldable pub runRefusal : List ℕ → List ℕ → ℕ
 runRefusal b l = firstFailed (test (recordRefusal b) (eqb (recordRefusal b) 0) ∷ test 16 (wellFormed l) ∷ [])
 
@@ -120,6 +120,6 @@ runResult b l =
     (numbers (ranOn b l .refusal) (ranOn b l .accepted))
     (numbers (runRefusal b l) 0)
 
--- "a list run keeps what it accepted before"
+-- the record after it holds what the accepted commands made, also where a later one was refused
 unfoldable pub runBytes : List ℕ → List ℕ → List ℕ
 runBytes b l = cond (eqb (runRefusal b l) 0) (bytesOf (content (shapeOf b) (ranOn b l .state))) b

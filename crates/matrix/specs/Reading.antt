@@ -18,12 +18,12 @@ cellAt b r c = numberAt b (cellPlace (shapeOf b) r c) (shapeOf b .width)
 unfoldable pub setCell : List ℕ → ℕ → ℕ → ℕ → List ℕ
 setCell b r c v = setNumber b (cellPlace (shapeOf b) r c) (shapeOf b .width) v
 
--- Bit j of the cell of row w and column x: "with every cell beyond the record zero".
+-- bit j of the cell of row w and column x; of a cell beyond the record no bit is set
 unfoldable pub bitAt : List ℕ → ℕ → ℕ → Name → Bool
 bitAt b j w x =
     ltb w (shapeOf b .n) && named (shapeOf b .n) (shapeOf b .p) x && ltb j (bitsOf (shapeOf b)) && bit j (cellAt b w (columnOf x))
 
--- "Row s is subject s." A right's bit is the one of its code.
+-- Row s has the bits of subject s, and a right's bit is the one of its code. `top` is n.
 unfoldable pub stateOf : List ℕ → State
 stateOf b =
     record { top = shapeOf b .n; owns = bitAt b (codeOf Own); controls = bitAt b (codeOf Control); basic = λ k f. bitAt b (codeOf (Basic k f)) }

@@ -21,11 +21,11 @@ use Rattle.question.specs.Trust.{trustedBy}
 use Rattle.question.specs.Safe.{Safe}
 use Rattle.question.specs.Leaks.{LeaksBy}
 
--- "trust bit ≥ n" is refusal 7
+-- the mask has no bit from n on: else refusal 7
 abbrev pub trustFits : Shape → ℕ → Bool
 trustFits f mask = ltb mask (2 ^ f .n)
 
--- "buffer under 5 + 6·(n + 2) bytes" is refusal 15
+-- the bytes of a list of so many commands; a buffer without room for n + 2 is refused by 15
 abbrev pub listRoom : ℕ → ℕ
 listRoom commands = 5 + recordBytes * commands
 
@@ -44,8 +44,8 @@ abbrev pub LeaksRecord : List ℕ → ℕ → ℕ → ℕ → ℕ → List Field
 LeaksRecord b mask s o right cs =
     LeaksBy (shapeOf b) (stateOf b) (trustedBy mask) s (nameOf (shapeOf b .n) o) (rightOf right) cs
 
--- "'Leaks' gives the number of commands and writes them as a list at the buffer's start. .. Later bytes .. are unchanged."
--- After the answer "leaks" by `commands` commands, the buffer `out` has become `out′`.
+-- After the answer "leaks" by so many commands the buffer `out` has become `out′`: it begins with a list of these commands, which gets
+-- there, and the bytes after that list are as they were (Manual 8.4).
 pub record Written (b : List ℕ) (mask s o right : ℕ) (out out′ : List ℕ) (commands : ℕ) : Type 0 where
   pub formed : wellFormed (take (listRoom commands) out′) ≡ true
   pub number : length (commandsOf (take (listRoom commands) out′)) ≡ commands
