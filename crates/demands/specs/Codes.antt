@@ -44,21 +44,46 @@ module _ (S : State) (i s : ℕ) (o : Name) (k : ℕ) where
 
   -- the thirteen codes, one after another
   each-code : Each Agrees 1 13
-  each-code =
-      (record { fields = λ basics. refl; kind = refl; there = back (exists S s && existsName S o); absent = refl; entitled = back (S .basic k Starred i o); unmet = refl; alone = refl },
-      (record { fields = λ basics. refl; kind = refl; there = back (exists S s && existsName S o); absent = refl; entitled = back (S .basic k Starred i o); unmet = refl; alone = refl },
-      (record { fields = λ basics. refl; kind = back (isSubject o); there = back (exists S s && existsName S o); absent = refl; entitled = back (S .owns i o); unmet = refl; alone = refl },
-      (record { fields = λ basics. refl; kind = refl; there = back (exists S s && existsName S o); absent = refl; entitled = back (S .owns i o); unmet = refl; alone = refl },
-      (record { fields = λ basics. refl; kind = refl; there = back (exists S s && existsName S o); absent = refl; entitled = back (S .owns i o); unmet = refl; alone = refl },
-      (record { fields = λ basics. refl; kind = back (isSubject o); there = back (exists S s && existsName S o); absent = refl; entitled = back (S .owns i o); unmet = refl; alone = refl },
-      (record { fields = λ basics. refl; kind = refl; there = back (exists S s && existsName S o); absent = refl; entitled = back (S .owns i o); unmet = refl; alone = refl },
-      (record { fields = λ basics. refl; kind = refl; there = back (exists S s && existsName S o); absent = refl; entitled = back (S .owns i o || S .controls i (Subject s)); unmet = refl; alone = refl },
-      (record { fields = λ basics. refl; kind = refl; there = back (exists S s && existsName S o); absent = refl; entitled = back (S .owns i o || S .controls i (Subject s)); unmet = refl; alone = refl },
-      (record { fields = λ basics. refl; kind = refl; there = refl; absent = refl; entitled = refl; unmet = refl; alone = refl },
-      (record { fields = λ basics. refl; kind = refl; there = back (existsName S o); absent = refl; entitled = back (S .owns i o); unmet = refl; alone = refl },
-      (record { fields = λ basics. refl; kind = refl; there = refl; absent = refl; entitled = refl; unmet = refl; alone = refl },
-      (record { fields = λ basics. refl; kind = refl; there = back (exists S s); absent = refl; entitled = back (S .owns i (Subject s)); unmet = refl; alone = refl },
-      tt)))))))))))))
+  each-code = (
+    record { fields = λ basics. refl; kind = refl; there = back (exists S s && existsName S o); absent = refl; entitled = back (S .basic k Starred i o); unmet = refl; alone = refl },
+    (
+      record { fields = λ basics. refl; kind = refl; there = back (exists S s && existsName S o); absent = refl; entitled = back (S .basic k Starred i o); unmet = refl; alone = refl },
+      (
+        record { fields = λ basics. refl; kind = back (isSubject o); there = back (exists S s && existsName S o); absent = refl; entitled = back (S .owns i o); unmet = refl; alone = refl },
+        (
+          record { fields = λ basics. refl; kind = refl; there = back (exists S s && existsName S o); absent = refl; entitled = back (S .owns i o); unmet = refl; alone = refl },
+          (
+            record { fields = λ basics. refl; kind = refl; there = back (exists S s && existsName S o); absent = refl; entitled = back (S .owns i o); unmet = refl; alone = refl },
+            (
+              record { fields = λ basics. refl; kind = back (isSubject o); there = back (exists S s && existsName S o); absent = refl; entitled = back (S .owns i o); unmet = refl; alone = refl },
+              (
+                record { fields = λ basics. refl; kind = refl; there = back (exists S s && existsName S o); absent = refl; entitled = back (S .owns i o); unmet = refl; alone = refl },
+                (
+                  record { fields = λ basics. refl; kind = refl; there = back (exists S s && existsName S o); absent = refl; entitled = back (S .owns i o || S .controls i (Subject s)); unmet = refl; alone = refl },
+                  (
+                    record { fields = λ basics. refl; kind = refl; there = back (exists S s && existsName S o); absent = refl; entitled = back (S .owns i o || S .controls i (Subject s)); unmet = refl; alone = refl },
+                    (
+                      record { fields = λ basics. refl; kind = refl; there = refl; absent = refl; entitled = refl; unmet = refl; alone = refl },
+                      (
+                        record { fields = λ basics. refl; kind = refl; there = back (existsName S o); absent = refl; entitled = back (S .owns i o); unmet = refl; alone = refl },
+                        (
+                          record { fields = λ basics. refl; kind = refl; there = refl; absent = refl; entitled = refl; unmet = refl; alone = refl },
+                          (
+                            record { fields = λ basics. refl; kind = refl; there = back (exists S s); absent = refl; entitled = back (S .owns i (Subject s)); unmet = refl; alone = refl },
+                            tt,
+                          ),
+                        ),
+                      ),
+                    ),
+                  ),
+                ),
+              ),
+            ),
+          ),
+        ),
+      ),
+    ),
+  )
 
   pub agrees : (code : ℕ) → known code ≡ true → Agrees code
   agrees code h =

@@ -24,13 +24,16 @@ use Rattle.demands.specs.First.{First, NoneHolds, Numbered, Among}
 use Rattle.demands.specs.Printed.{recordConditions, heldConditions, givenConditions, runConditions, safetyConditions}
 use Rattle.demands.specs.InTurn.{inTurn, firstCommands}
 
+-- subject s or the name of column o is absent
+abbrev pub AbsentName : List ℕ → ℕ → ℕ → Type 0
+AbsentName b s o = (exists (stateOf b) s ≡ false) ⊎ (existsName (stateOf b) (nameOf (shapeOf b .n) o) ≡ false)
+
 -- The held question: refused by 1 to 5 or 7, and no for an absent subject or name.
 pub record HeldRight (b : List ℕ) (s o right : ℕ) : Type 0 where
   pub number : Numbered (heldConditions b s o right) (heldNumbers (heldAnswer b s o right) .refusal)
   pub only : Among (heldNumbers (heldAnswer b s o right) .refusal) (0 ∷ 1 ∷ 2 ∷ 3 ∷ 4 ∷ 5 ∷ 7 ∷ [])
   pub some : heldAnswer b s o right ≢ Holding.Refused 0
-  pub absent : NoneHolds (heldConditions b s o right)
-      → (exists (stateOf b) s ≡ false) ⊎ (existsName (stateOf b) (nameOf (shapeOf b .n) o) ≡ false) → heldAnswer b s o right ≡ Holding.No
+  pub absent : NoneHolds (heldConditions b s o right) → AbsentName b s o → heldAnswer b s o right ≡ Holding.No
 
 -- A command: refused by 1 to 14, and then the record is byte for byte as it was.
 pub record CommandRight (b : List ℕ) (c : Fields) : Type 0 where
@@ -48,11 +51,14 @@ pub record StoppedAfter (b l : List ℕ) (m : ℕ) : Type 0 where
   pub earned : commandNumbers (commandAnswer (runBytes b l) (fieldsAt l (commandPlace m))) .refusal ≡ runAnswer b l .refusal
   pub first : m ≡ 0 → runBytes b l ≡ b
 
+-- nothing is accepted and nothing is changed
+abbrev pub TurnedDown : List ℕ → List ℕ → ℕ → Type 0
+TurnedDown b l number = (runAnswer b l ≡ record { accepted = 0; refusal = number }) × (runBytes b l ≡ b)
+
 -- A list run: refused by 1 to 5 or 16 with nothing accepted and nothing changed. Else it is the command call on each command in turn, up to
 -- the first that is refused, by 6 to 14.
 pub record RunRight (b l : List ℕ) : Type 0 where
-  pub turned : (number : ℕ) → number ≢ 0 → First (runConditions b l) number
-      → (runAnswer b l ≡ record { accepted = 0; refusal = number }) × (runBytes b l ≡ b)
+  pub turned : (number : ℕ) → number ≢ 0 → First (runConditions b l) number → TurnedDown b l number
   pub each : Octets b → NoneHolds (runConditions b l)
       → (runAnswer b l ≡ inTurn 0 b (commandsOf l) .outcome) × (runBytes b l ≡ inTurn 0 b (commandsOf l) .bytes)
   pub only : Among (runNumbers (runAnswer b l) .refusal)

@@ -16,7 +16,7 @@ use Rattle.matrix.specs.declared.Numbers.{Numbers}
 use Rattle.matrix.specs.Names.{nameOf}
 use Rattle.matrix.specs.Numbers.{numbers, heldNumbers, commandNumbers}
 use Rattle.matrix.specs.Rights.{rightOf, heldBy}
-use Rattle.matrix.specs.State.{State, has, hasOne, exists, existsName}
+use Rattle.matrix.specs.State.{State, has, hasOne}
 use Rattle.matrix.specs.Step.{answer}
 use Rattle.matrix.specs.Shape.{shapeOf}
 use Rattle.matrix.specs.Reading.{stateOf}
@@ -33,7 +33,7 @@ use Rattle.demands.specs.FirstLaws.{numbered-then, numbered-among, none-
 use Rattle.demands.specs.Printed.{recordConditions, commandConditions, heldConditions, givenConditions, safetyConditions}
 use Rattle.demands.specs.Refusals.{record-numbered, command-numbered, held-numbered, safety-numbered}
 use Rattle.demands.specs.RunHolds.{run-right}
-use Rattle.demands.specs.Demand1.{HeldRight, CommandRight, SafetyRight, Demand1}
+use Rattle.demands.specs.Demand1.{AbsentName, HeldRight, CommandRight, SafetyRight, Demand1}
 
 -- ---- held
 
@@ -68,8 +68,7 @@ module _ (b : List ℕ) (s o right : ℕ) where
       let number : heldRefusal b s o right ≡ 0 = sym held-number ∙ ap (λ (r : Holding). heldNumbers r .refusal) h in
       clash (ap holdingRefused h) (rw number (said (holdsOn b s o right)))
 
-  held-absent : NoneHolds (heldConditions b s o right)
-      → (exists (stateOf b) s ≡ false) ⊎ (existsName (stateOf b) (nameOf (shapeOf b .n) o) ≡ false) → heldAnswer b s o right ≡ Holding.No
+  held-absent : NoneHolds (heldConditions b s o right) → AbsentName b s o → heldAnswer b s o right ≡ Holding.No
   unfolding heldAnswer
   held-absent none gone =
       let number : heldRefusal b s o right ≡ 0 = held-numbered b s o right .answered .1 none in
@@ -77,8 +76,7 @@ module _ (b : List ℕ) (s o right : ℕ) where
       let not : holdsOn b s o right ≡ false = fails (holdsOn b s o right) (λ h. bit valid (one-bit (stateOf b) (heldBy (rightOf right)) s (nameOf (shapeOf b .n) o) h) gone) in
       rw (number, not) refl
     where
-      bit : recordRefusal b ≡ 0 → (z : Right) × (has (stateOf b) z s (nameOf (shapeOf b .n) o) ≡ true)
-          → (exists (stateOf b) s ≡ false) ⊎ (existsName (stateOf b) (nameOf (shapeOf b .n) o) ≡ false) → ⊥
+      bit : recordRefusal b ≡ 0 → (z : Right) × (has (stateOf b) z s (nameOf (shapeOf b .n) o) ≡ true) → AbsentName b s o → ⊥
       bit valid z =
           let v = valid-record b valid in
           ⊎-elim (λ e. clash (v .row (z .0) s (nameOf (shapeOf b .n) o) (z .1)) e) (λ e. clash (v .column (z .0) s (nameOf (shapeOf b .n) o) (z .1)) e)

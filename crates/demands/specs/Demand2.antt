@@ -41,24 +41,38 @@ pub record NextRight (b : List ℕ) (c : Fields) : Type 0 where
   pub header : take (shapeOf b .first) (commandBytes b c) ≡ take (shapeOf b .first) b
   pub cells : (r d : ℕ) → r < shapeOf b .n → d < columns (shapeOf b) → Unnamed b c r d → cellBytes (commandBytes b c) r d ≡ cellBytes b r d
 
+-- the command c is allowed on the record, which is valid: the sheet (Sheet.antt) has it accepted, with so many links
+pub record Allowed (b : List ℕ) (c : Fields) (followed : ℕ) : Type 0 where
+  pub valid : validAnswer b ≡ true
+  pub accepted : refusal (basicsOf (shapeOf b)) (namesFit (shapeOf b) c) (stateOf b) (rawOf (shapeOf b) c) ≡ 0
+  pub walked : links (basicsOf (shapeOf b)) (namesFit (shapeOf b) c) (stateOf b) (rawOf (shapeOf b) c) ≡ followed
+
+-- the refusal and the links of a command's answer
+abbrev pub refusalFor : List ℕ → Fields → ℕ
+refusalFor b c = commandNumbers (commandAnswer b c) .refusal
+
+abbrev pub linksFor : List ℕ → Fields → ℕ
+linksFor b c = commandNumbers (commandAnswer b c) .value
+
+-- The links are those of the walk from s where code 3 is accepted or refused by 13, and 0 with every other answer; never more than n - 1.
+pub record LinksRight (b : List ℕ) (c : Fields) : Type 0 where
+  pub walked : validAnswer b ≡ true → c .code ≡ 3 → (refusalFor b c ≡ 0) ⊎ (refusalFor b c ≡ 13)
+      → linksFor b c ≡ linksOf (walk (stateOf b) (c .s) (nameOf (shapeOf b .n) (c .o)))
+  pub silent : (c .code ≢ 3) ⊎ ((refusalFor b c ≢ 0) × (refusalFor b c ≢ 13)) → linksFor b c ≡ 0
+  pub few : linksFor b c ≤ shapeOf b .n - 1
+
+-- what a list run leaves: a record that passes 1 to 5, of the same shape, read as the state that its accepted commands make
+pub record RunLeaves (b l : List ℕ) : Type 0 where
+  pub valid : validAnswer (runBytes b l) ≡ true
+  pub octets : Octets (runBytes b l)
+  pub read : contentOf (runBytes b l) ≡ content (shapeOf b) (ranOn b l .state)
+
 pub record Demand2 : Type 0 where
-  -- a command is accepted exactly where the record is valid and the sheet (Sheet.antt) has it accepted, with the links of the walk
-  pub accepted : (b : List ℕ) (c : Fields) (followed : ℕ) → (commandAnswer b c ≡ Accepted followed)
-      ↔ ((validAnswer b ≡ true)
-      × (refusal (basicsOf (shapeOf b)) (namesFit (shapeOf b) c) (stateOf b) (rawOf (shapeOf b) c) ≡ 0)
-      × (links (basicsOf (shapeOf b)) (namesFit (shapeOf b) c) (stateOf b) (rawOf (shapeOf b) c) ≡ followed))
+  -- a command is accepted exactly where it is allowed, and then the record holds the next state
+  pub accepted : (b : List ℕ) (c : Fields) (followed : ℕ) → (commandAnswer b c ≡ Accepted followed) ↔ Allowed b c followed
   pub next : (b : List ℕ) (c : Fields) (followed : ℕ) → Octets b → commandAnswer b c ≡ Accepted followed → NextRight b c
-  -- the links answered, with a refusal too: those of the walk from s where code 3 is accepted or refused by 13, else 0; never over n - 1
-  pub walked : (b : List ℕ) (c : Fields) → validAnswer b ≡ true → c .code ≡ 3
-      → (commandNumbers (commandAnswer b c) .refusal ≡ 0) ⊎ (commandNumbers (commandAnswer b c) .refusal ≡ 13)
-      → commandNumbers (commandAnswer b c) .value ≡ linksOf (walk (stateOf b) (c .s) (nameOf (shapeOf b .n) (c .o)))
-  pub silent : (b : List ℕ) (c : Fields)
-      → (c .code ≢ 3) ⊎ ((commandNumbers (commandAnswer b c) .refusal ≢ 0) × (commandNumbers (commandAnswer b c) .refusal ≢ 13))
-      → commandNumbers (commandAnswer b c) .value ≡ 0
-  pub few-links : (b : List ℕ) (c : Fields) → commandNumbers (commandAnswer b c) .value ≤ shapeOf b .n - 1
+  pub links : (b : List ℕ) (c : Fields) → LinksRight b c
   -- a record that 1 to 5 let pass: writing what is read gives the same bytes, and two that are read the same are the same bytes
   pub written : (b : List ℕ) → Octets b → validAnswer b ≡ true → bytesOf (contentOf b) ≡ b
   pub same : (b c : List ℕ) → Octets b → Octets c → validAnswer b ≡ true → validAnswer c ≡ true → contentOf b ≡ contentOf c → b ≡ c
-  -- what a list run leaves is such a record again, of the same shape, read as the state that its accepted commands make
-  pub run : (b l : List ℕ) → Octets b → NoneHolds (runConditions b l)
-      → (validAnswer (runBytes b l) ≡ true) × Octets (runBytes b l) × (contentOf (runBytes b l) ≡ content (shapeOf b) (ranOn b l .state))
+  pub run : (b l : List ℕ) → Octets b → NoneHolds (runConditions b l) → RunLeaves b l

@@ -46,7 +46,7 @@ use Rattle.demands.specs.Refusals.{run-numbered}
 use Rattle.demands.specs.Records.{Sound, sound-record, content-read, bytes-pass, bytes-octets, sound-next, sound-run}
 use Rattle.demands.specs.Turns.{run-valid}
 use Rattle.demands.specs.Demand1Holds.{command-number}
-use Rattle.demands.specs.Demand2.{cellBytes, Unnamed, NextRight, Demand2}
+use Rattle.demands.specs.Demand2.{cellBytes, Unnamed, NextRight, Allowed, refusalFor, linksFor, RunLeaves, Demand2}
 
 -- ---- records and what they hold
 
@@ -92,7 +92,7 @@ module _ (b : List ℕ) (c : Fields) where
   S = stateOf b
 
   -- the value of the answer
-  value-is : commandNumbers (commandAnswer b c) .value ≡ cond (eqb (recordRefusal b) 0) (linksOn f S c) 0
+  value-is : linksFor b c ≡ cond (eqb (recordRefusal b) 0) (linksOn f S c) 0
   unfolding commandResult
   value-is = ap (λ (r : Numbers). r .value) (command-numbers b c refl) ∙ picked (eqb (recordRefusal b) 0)
     where
@@ -173,7 +173,7 @@ cond-few : (t : Bool) (m n : ℕ) → (t ≡ true → m ≤ n) → cond t m 0 �
 cond-few true m n h = h refl
 cond-few false m n h = omega arith
 
-links-few : (b : List ℕ) (c : Fields) → commandNumbers (commandAnswer b c) .value ≤ shapeOf b .n - 1
+links-few : (b : List ℕ) (c : Fields) → linksFor b c ≤ shapeOf b .n - 1
 unfolding linksOn links
 links-few b c =
     subst (λ (k : ℕ). k ≤ shapeOf b .n - 1) (sym (value-is b c))
@@ -192,13 +192,12 @@ module _ (b : List ℕ) (c : Fields) where
   raw = rawOf (shapeOf b) c
 
   -- where the record passes, the number is the command's
-  number-is : recordRefusal b ≡ 0 → commandNumbers (commandAnswer b c) .refusal ≡ refusal (basicsOf (shapeOf b)) (namesFit (shapeOf b) c) (stateOf b) raw
+  number-is : recordRefusal b ≡ 0 → refusalFor b c ≡ refusal (basicsOf (shapeOf b)) (namesFit (shapeOf b) c) (stateOf b) raw
   unfolding refusalOn
   number-is h = command-number b c ∙ rw h refl
 
-  walked : validAnswer b ≡ true → c .code ≡ 3
-      → (commandNumbers (commandAnswer b c) .refusal ≡ 0) ⊎ (commandNumbers (commandAnswer b c) .refusal ≡ 13)
-      → commandNumbers (commandAnswer b c) .value ≡ linksOf (walk (stateOf b) (c .s) (nameOf (shapeOf b .n) (c .o)))
+  walked : validAnswer b ≡ true → c .code ≡ 3 → (refusalFor b c ≡ 0) ⊎ (refusalFor b c ≡ 13)
+      → linksFor b c ≡ linksOf (walk (stateOf b) (c .s) (nameOf (shapeOf b .n) (c .o)))
   unfolding linksOn links
   walked valid three number =
       let z = passes b valid in
@@ -206,12 +205,11 @@ module _ (b : List ℕ) (c : Fields) where
       ∙ linked _ _ (subst (λ (k : ℕ). (k ≡ 0) ⊎ (k ≡ 13)) (number-is z) number)
       ∙ ap (λ (code : ℕ). walkLinks (stateOf b) (decode raw) (ruleOf code (c .k) .act)) three
 
-  silent : (c .code ≢ 3) ⊎ ((commandNumbers (commandAnswer b c) .refusal ≢ 0) × (commandNumbers (commandAnswer b c) .refusal ≢ 13))
-      → commandNumbers (commandAnswer b c) .value ≡ 0
+  silent : (c .code ≢ 3) ⊎ ((refusalFor b c ≢ 0) × (refusalFor b c ≢ 13)) → linksFor b c ≡ 0
   unfolding linksOn
   silent h = value-is b c ∙ ⊎-elim (λ t. rw t (none (eqb-true (recordRefusal b) 0 t) h)) (λ t. rw t refl) (way (eqb (recordRefusal b) 0))
     where
-      none : recordRefusal b ≡ 0 → (c .code ≢ 3) ⊎ ((commandNumbers (commandAnswer b c) .refusal ≢ 0) × (commandNumbers (commandAnswer b c) .refusal ≢ 13))
+      none : recordRefusal b ≡ 0 → (c .code ≢ 3) ⊎ ((refusalFor b c ≢ 0) × (refusalFor b c ≢ 13))
           → links (basicsOf (shapeOf b)) (namesFit (shapeOf b) c) (stateOf b) raw ≡ 0
       none z (inl other) = links-only-three (basicsOf (shapeOf b)) (namesFit (shapeOf b) c) (stateOf b) raw other
       none z (inr other) =
@@ -219,35 +217,34 @@ module _ (b : List ℕ) (c : Fields) where
 
 -- ---- a list run
 
-run-read : (b l : List ℕ) → Octets b → NoneHolds (runConditions b l)
-    → (validAnswer (runBytes b l) ≡ true) × Octets (runBytes b l) × (contentOf (runBytes b l) ≡ content (shapeOf b) (ranOn b l .state))
+run-read : (b l : List ℕ) → Octets b → NoneHolds (runConditions b l) → RunLeaves b l
 unfolding runBytes
 run-read b l octets h =
     let passed : runRefusal b l ≡ 0 = run-numbered b l .answered .1 h in
     let before = sound-record b (run-valid b l passed) in
     let m : Content = content (shapeOf b) (ranOn b l .state) in
     let sound : Sound m = sound-run b l before in
-    rw passed (valid-so (bytesOf m) (bytes-pass m sound), bytes-octets m sound, content-read m sound)
+    record {
+      valid = rw passed (valid-so (bytesOf m) (bytes-pass m sound));
+      octets = rw passed (bytes-octets m sound);
+      read = rw passed (content-read m sound);
+    }
 
 -- ---- the demand
 
-allowed : (b : List ℕ) (c : Fields) (followed : ℕ) → (commandAnswer b c ≡ Accepted followed)
-    ↔ ((validAnswer b ≡ true)
-    × (refusal (basicsOf (shapeOf b)) (namesFit (shapeOf b) c) (stateOf b) (rawOf (shapeOf b) c) ≡ 0)
-    × (links (basicsOf (shapeOf b)) (namesFit (shapeOf b) c) (stateOf b) (rawOf (shapeOf b) c) ≡ followed))
+allowed : (b : List ℕ) (c : Fields) (followed : ℕ) → (commandAnswer b c ≡ Accepted followed) ↔ Allowed b c followed
 unfolding refusalOn linksOn
-allowed b c followed =
-    (λ e. (valid-so b (record-passes b c followed e), taken b c followed e, followed-is b c followed e),
-    λ h. accepted-so b c (passes b (h .0)) (h .1) ∙ ap Accepted (h .2))
+allowed b c followed = (
+  λ e. record { valid = valid-so b (record-passes b c followed e); accepted = taken b c followed e; walked = followed-is b c followed e },
+  λ h. accepted-so b c (passes b (h .valid)) (h .accepted) ∙ ap Accepted (h .walked),
+)
 
 pub demand-2 : Demand2
 demand-2 =
     record {
       accepted = allowed;
       next = λ b c followed octets e. next-right b c followed e octets;
-      walked = walked;
-      silent = silent;
-      few-links = links-few;
+      links = λ b c. record { walked = walked b c; silent = silent b c; few = links-few b c };
       written = written-same;
       same = read-same;
       run = run-read;

@@ -28,13 +28,16 @@ pub record LeaksRight (b : List ℕ) (mask s o right : ℕ) (out out′ : List �
   pub held : heldAnswer (runBytes b (listIn commands out′)) s o right ≡ Holding.Yes
   pub later : drop (listRoom commands) out′ ≡ drop (listRoom commands) out
 
+-- the answer is "leaks", by a list that does
+abbrev pub Leaks : List ℕ → ℕ → ℕ → ℕ → ℕ → List ℕ → List ℕ → Safety → Type 0
+Leaks b mask s o right out out′ r = (commands : ℕ) × (r ≡ Safety.Leaks commands) × LeaksRight b mask s o right out out′ commands
+
 -- the answer r to a question that is not turned down
 pub record Decides (b : List ℕ) (mask s o right : ℕ) (out out′ : List ℕ) (r : Safety) : Type 0 where
   -- safe if and only if no list gets there, and then the buffer is as it was
   pub safe : (r ≡ Safety.Safe) ↔ SafeRecord b mask s o right
   pub untouched : r ≡ Safety.Safe → out′ ≡ out
-  -- every other answer is "leaks", by a list that does
-  pub leaks : r ≢ Safety.Safe → (commands : ℕ) × (r ≡ Safety.Leaks commands) × LeaksRight b mask s o right out out′ commands
+  pub leaks : r ≢ Safety.Safe → Leaks b mask s o right out out′ r
 
 pub record Demand3 : Type 0 where
   pub decides : (b : List ℕ) (mask s o right : ℕ) (out out′ : List ℕ) (r : Safety) → Answers b mask s o right out out′ r

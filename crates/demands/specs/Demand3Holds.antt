@@ -24,7 +24,7 @@ use Rattle.demands.specs.FirstLaws.{none-before, none-after, none-both}
 use Rattle.demands.specs.Printed.{recordConditions, safetyConditions}
 use Rattle.demands.specs.Refusals.{record-numbered, run-numbered, safety-numbered}
 use Rattle.demands.specs.Records.{Sound, sound-record, sound-run, content-read, bytes-pass}
-use Rattle.demands.specs.Demand3.{listIn, LeaksRight, Decides, Demand3}
+use Rattle.demands.specs.Demand3.{listIn, LeaksRight, Leaks, Decides, Demand3}
 
 abbrev isSafe : Safety → Bool
 isSafe Safety.Safe = true
@@ -99,7 +99,7 @@ module _ (b : List ℕ) (mask s o right : ℕ) (out out′ : List ℕ) (r : Safe
   unchanged (inl d) e = d .1
   unchanged (inr d) e = absurd (clash (ap isSafe e) (ap isSafe (d .1)))
 
-  leaks-so : Decided b mask s o right out out′ r → r ≢ Safety.Safe → (commands : ℕ) × (r ≡ Safety.Leaks commands) × LeaksRight b mask s o right out out′ commands
+  leaks-so : Decided b mask s o right out out′ r → r ≢ Safety.Safe → Leaks b mask s o right out out′ r
   leaks-so (inl d) not = absurd (not (d .0))
   leaks-so (inr d) not = (d .0, d .1, leaks-right (d .0) (d .2))
 

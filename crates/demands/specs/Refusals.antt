@@ -90,16 +90,30 @@ module _ (f : Shape) (S : State) (c : Fields) where
       column = columnOf-nameOf (f .n) (c .o)
 
       later : Agrees S (c .i) (c .s) (nameOf (f .n) (c .o)) (c .k) (c .code) → AllAgainst (drop 1 code-tests) (drop 1 (commandConditions f S c))
-      later a =
-          (subst (λ (t : Bool). Against (test 7 (namesFit f c && t)) (condition 7 ((namesFit f c && fieldsRight (basicsOf f) (c .code) (c .s) (c .o) (c .k)) ≡ false)))
-          (sym (a .fields (basicsOf f) ∙ ap (λ (m : ℕ). fieldsRight (basicsOf f) (c .code) (c .s) m (c .k)) column)) (fails-test 7 _ (omega arith)), λ t.
-          (fails-test 8 (exists S (c .i)) (omega arith), λ t.
-          (opposite 9 _ _ (omega arith) (a .kind), λ t.
-          (opposite 10 _ _ (omega arith) (a .there), λ t.
-          (opposite 11 _ _ (omega arith) (a .absent), λ t.
-          (opposite 12 _ _ (omega arith) (a .entitled), λ t.
-          (opposite 13 _ _ (omega arith) (a .unmet), λ t.
-          (opposite 14 _ _ (omega arith) (a .alone), λ t. tt))))))))
+      later a = (
+        subst (λ (t : Bool). Against (test 7 (namesFit f c && t)) (condition 7 ((namesFit f c && fieldsRight (basicsOf f) (c .code) (c .s) (c .o) (c .k)) ≡ false)))
+            (sym (a .fields (basicsOf f) ∙ ap (λ (m : ℕ). fieldsRight (basicsOf f) (c .code) (c .s) m (c .k)) column)) (fails-test 7 _ (omega arith)),
+        λ t. (
+          fails-test 8 (exists S (c .i)) (omega arith),
+          λ t. (
+            opposite 9 _ _ (omega arith) (a .kind),
+            λ t. (
+              opposite 10 _ _ (omega arith) (a .there),
+              λ t. (
+                opposite 11 _ _ (omega arith) (a .absent),
+                λ t. (
+                  opposite 12 _ _ (omega arith) (a .entitled),
+                  λ t. (
+                    opposite 13 _ _ (omega arith) (a .unmet),
+                    λ t.
+                        (opposite 14 _ _ (omega arith) (a .alone), λ t. tt),
+                  ),
+                ),
+              ),
+            ),
+          ),
+        ),
+      )
 
   pub command-numbered : Numbered (commandConditions f S c) (refusalOn f S c)
   command-numbered = subst (Numbered (commandConditions f S c)) (sym one-list) (numbered code-tests (commandConditions f S c) against)

@@ -28,7 +28,7 @@ use Rattle.demands.specs.InTurn.{Ended, inTurn, refusalNumber, firstComm
 use Rattle.demands.specs.Turns.{run-turns, bytes-turns}
 use Rattle.demands.specs.Shortened.{cut-formed, cut-commands}
 use Rattle.demands.specs.Stopped.{Stopped, stopped, command-at}
-use Rattle.demands.specs.Demand1.{StoppedAfter, RunRight}
+use Rattle.demands.specs.Demand1.{StoppedAfter, TurnedDown, RunRight}
 
 -- the refusals of a record, of a command on it, and of a list
 abbrev ofRecord : List ℕ
@@ -51,7 +51,7 @@ module _ (b l : List ℕ) where
   abbrev ofList : List Condition
   ofList = condition 16 (wellFormed l ≡ false) ∷ []
 
-  turned : (number : ℕ) → number ≢ 0 → First (runConditions b l) number → (runAnswer b l ≡ record { accepted = 0; refusal = number }) × (runBytes b l ≡ b)
+  turned : (number : ℕ) → number ≢ 0 → First (runConditions b l) number → TurnedDown b l number
   unfolding runAnswer runBytes
   turned number some h =
       let e : runRefusal b l ≡ number = run-numbered b l .refused number some .1 h in

@@ -2,7 +2,7 @@
 use Prim.Native.Nat.{ℕ}
 use mathlib.Core.Path.{_≡_, refl, sym, _∙_, ap, subst}
 use mathlib.Core.Logic.{⊎-elim}
-use mathlib.Core.Bool.{Bool, true, false, cond, not, _&&_, _||_}
+use mathlib.Core.Bool.{Bool, true, false, cond, _&&_, _||_}
 use mathlib.Core.List.{List, [], _∷_}
 use lib.Dec.{eqb, ltb}
 use borrow.Author.Tests.{eq-eqb}
@@ -10,13 +10,12 @@ use Rattle.matrix.specs.declared.Name.{Name}
 use Rattle.matrix.specs.declared.Name.the-variants.{Subject}
 use Rattle.matrix.specs.declared.Form.the-variants.{Starred}
 use Rattle.matrix.specs.declared.Right.{Right}
-use Rattle.matrix.specs.declared.Right.the-variants.{Own, Control}
-use Rattle.matrix.specs.Names.{isSubject, columnOf}
-use Rattle.matrix.specs.State.{State, has, exists, existsName, put, clear}
-use Rattle.matrix.specs.Owners.{walk, meets, linksOf}
+use Rattle.matrix.specs.declared.Right.the-variants.{Own}
+use Rattle.matrix.specs.Names.{columnOf}
+use Rattle.matrix.specs.State.{State, has, exists, existsName, put}
 use Rattle.matrix.specs.Commands.{Raw, known, ruleOf, fieldsFit, decode}
-use Rattle.matrix.specs.Tests.{Test, test, firstFailed, commandTests, otherController}
-use Rattle.matrix.specs.Changes.{change, admit, inherit, inColumn, inCross}
+use Rattle.matrix.specs.Tests.{Test, test, firstFailed, commandTests}
+use Rattle.matrix.specs.Changes.{change}
 use Rattle.matrix.specs.Step.{refusalOf, refusal, links, walkLinks, next}
 use Rattle.matrix.specs.Touched.{isBit}
 use Rattle.laws.specs.Tests.{way, and-left, and-right, and-both}
@@ -79,9 +78,6 @@ module _ (basics : ℕ) (names : Bool) (S : State) where
         fixed : List Test
         fixed = test 8 (exists S i) ∷ test 9 true ∷ test 10 there ∷ test 11 true ∷ test 12 entitled ∷ test 13 true ∷ test 14 true ∷ []
 
-    abbrev controls-or-owns : Bool
-    controls-or-owns = S .owns i o || S .controls i (Subject s)
-
     -- own handed to whom it belongs: the bit is cleared and set again
     own-again : S .owns i o ≡ true → put Own i o true (put Own i o false S) ≡ S
     own-again own = same-state again S refl (λ z w x. has-put Own i o true (put Own i o false S) z w x ∙ each z w x)
@@ -97,51 +93,16 @@ module _ (basics : ℕ) (names : Bool) (S : State) where
             ⊎-elim (λ e. ap (λ (t : Bool). cond t true (has (put Own i o false S) z w x)) e ∙ sym (set-bit z w x e))
             (λ e. ap (λ (t : Bool). cond t true (has (put Own i o false S) z w x)) e ∙ has-put-other Own i o false S z w x e) (way (isBit Own i o z w x))
 
-    transfers-own : Row basics names S (raw 3 i s o k) (names ∷ eqb k 0 ∷ exists S i ∷ isSubject o ∷ exists S s ∷ existsName S o ∷ S .owns i o ∷ not (meets (walk S s o)) ∷ []) (put Own s o true (put Own i o false S)) (linksOf (walk S s o))
-    transfers-own =
-        row (raw 3 i s o k) _ refl
-        (λ n f p. (n, (f, (p .0, (p .1 .0, (and-left (exists S s) (existsName S o) (p .1 .1 .0), (and-right (exists S s) (existsName S o) (p .1 .1 .0), (p .1 .1 .1 .1 .0, (p .1 .1 .1 .1 .1 .0, tt)))))))))
-        (λ h. (h .0, h .1 .0, (h .1 .1 .0, (h .1 .1 .1 .0, (and-both (h .1 .1 .1 .1 .0) (h .1 .1 .1 .1 .1 .0), (refl, (h .1 .1 .1 .1 .1 .1 .0, (h .1 .1 .1 .1 .1 .1 .1 .0, (refl, tt)))))))))
-
-    grants-control : Row basics names S (raw 6 i s o k) (names ∷ eqb k 0 ∷ exists S i ∷ isSubject o ∷ exists S s ∷ existsName S o ∷ S .owns i o ∷ not (otherController S o) ∷ []) (put Control s o true S) 0
-    grants-control =
-        row (raw 6 i s o k) _ refl
-        (λ n f p. (n, (f, (p .0, (p .1 .0, (and-left (exists S s) (existsName S o) (p .1 .1 .0), (and-right (exists S s) (existsName S o) (p .1 .1 .0), (p .1 .1 .1 .1 .0, (p .1 .1 .1 .1 .1 .1 .0, tt)))))))))
-        (λ h. (h .0, h .1 .0, (h .1 .1 .0, (h .1 .1 .1 .0, (and-both (h .1 .1 .1 .1 .0) (h .1 .1 .1 .1 .1 .0), (refl, (h .1 .1 .1 .1 .1 .1 .0, (refl, (h .1 .1 .1 .1 .1 .1 .1 .0, tt)))))))))
-
-    grants-own : Row basics names S (raw 7 i s o k) (names ∷ eqb k 0 ∷ exists S i ∷ not (isSubject o) ∷ exists S s ∷ existsName S o ∷ S .owns i o ∷ []) (put Own s o true S) 0
-    grants-own =
-        row (raw 7 i s o k) _ refl
-        (λ n f p. (n, (f, (p .0, (p .1 .0, (and-left (exists S s) (existsName S o) (p .1 .1 .0), (and-right (exists S s) (existsName S o) (p .1 .1 .0), (p .1 .1 .1 .1 .0, tt))))))))
-        (λ h. (h .0, h .1 .0, (h .1 .1 .0, (h .1 .1 .1 .0, (and-both (h .1 .1 .1 .1 .0) (h .1 .1 .1 .1 .1 .0), (refl, (h .1 .1 .1 .1 .1 .1 .0, (refl, (refl, tt)))))))))
-
-    -- a command that uses neither s nor k
+    -- fields that are not used: s and k, or o and k
     unused : (eqb s 0 && true && eqb k 0) ≡ true → (eqb s 0 ≡ true) × (eqb k 0 ≡ true)
     unused f = (and-left (eqb s 0) true (and-left (eqb s 0 && true) (eqb k 0) f), and-right (eqb s 0 && true) (eqb k 0) f)
 
-    creates-object : Row basics names S (raw 10 i s o k) (names ∷ eqb s 0 ∷ eqb k 0 ∷ exists S i ∷ not (isSubject o) ∷ not (existsName S o) ∷ []) (put Own i o true S) 0
-    creates-object =
-        row (raw 10 i s o k) _ refl
-        (λ n f p. (n, (unused f .0, (unused f .1, (p .0, (p .1 .0, (p .1 .1 .1 .0, tt)))))))
-        (λ h. (h .0, and-both (and-both (h .1 .0) refl) (h .1 .1 .0), (h .1 .1 .1 .0, (h .1 .1 .1 .1 .0, (refl, (h .1 .1 .1 .1 .1 .0, (refl, (refl, (refl, tt)))))))))
+    unused-o : (eqb (columnOf o) 0 && eqb k 0) ≡ true → (eqb (columnOf o) 0 ≡ true) × (eqb k 0 ≡ true)
+    unused-o f = (and-left (eqb (columnOf o) 0) (eqb k 0) f, and-right (eqb (columnOf o) 0) (eqb k 0) f)
 
-    destroys-object : Row basics names S (raw 11 i s o k) (names ∷ eqb s 0 ∷ eqb k 0 ∷ exists S i ∷ not (isSubject o) ∷ existsName S o ∷ S .owns i o ∷ []) (clear (inColumn o) S) 0
-    destroys-object =
-        row (raw 11 i s o k) _ refl
-        (λ n f p. (n, (unused f .0, (unused f .1, (p .0, (p .1 .0, (p .1 .1 .0, (p .1 .1 .1 .1 .0, tt))))))))
-        (λ h. (h .0, and-both (and-both (h .1 .0) refl) (h .1 .1 .0), (h .1 .1 .1 .0, (h .1 .1 .1 .1 .0, (h .1 .1 .1 .1 .1 .0, (refl, (h .1 .1 .1 .1 .1 .1 .0, (refl, (refl, tt)))))))))
-
-    creates-subject : Row basics names S (raw 12 i s o k) (names ∷ eqb (columnOf o) 0 ∷ eqb k 0 ∷ exists S i ∷ not (exists S s) ∷ []) (put Control s (Subject s) true (put Own i (Subject s) true (admit s S))) 0
-    creates-subject =
-        row (raw 12 i s o k) _ refl
-        (λ n f p. (n, (and-left (eqb (columnOf o) 0) (eqb k 0) f, (and-right (eqb (columnOf o) 0) (eqb k 0) f, (p .0, (p .1 .1 .1 .0, tt))))))
-        (λ h. (h .0, and-both (h .1 .0) (h .1 .1 .0), (h .1 .1 .1 .0, (refl, (refl, (h .1 .1 .1 .1 .0, (refl, (refl, (refl, tt)))))))))
-
-    destroys-subject : Row basics names S (raw 13 i s o k) (names ∷ eqb (columnOf o) 0 ∷ eqb k 0 ∷ exists S i ∷ exists S s ∷ S .owns i (Subject s) ∷ []) (clear (inCross s) (inherit i s S)) 0
-    destroys-subject =
-        row (raw 13 i s o k) _ refl
-        (λ n f p. (n, (and-left (eqb (columnOf o) 0) (eqb k 0) f, (and-right (eqb (columnOf o) 0) (eqb k 0) f, (p .0, (p .1 .1 .0, (p .1 .1 .1 .1 .0, tt)))))))
-        (λ h. (h .0, and-both (h .1 .0) (h .1 .1 .0), (h .1 .1 .1 .0, (refl, (h .1 .1 .1 .1 .0, (refl, (h .1 .1 .1 .1 .1 .0, (refl, (refl, tt)))))))))
+    -- s and o are there
+    here : (exists S s && existsName S o) ≡ true → (exists S s ≡ true) × (existsName S o ≡ true)
+    here h = (and-left (exists S s) (existsName S o) h, and-right (exists S s) (existsName S o) h)
 
     unknown : (code : ℕ) → known code ≡ false → refusal basics names S (raw code i s o k) ≡ 6
     unfolding refusal firstFailed
@@ -149,27 +110,52 @@ module _ (basics : ℕ) (names : Bool) (S : State) where
 
   -- own transferred to its owner changes nothing
   to-itself : (i : ℕ) (o : Name) (k : ℕ) → refusal basics names S (raw 3 i i o k) ≡ 0 → next basics names S (raw 3 i i o k) ≡ S
+  unfolding next
   to-itself i o k e =
-      let r = transfers-own i i o k in
-      r .leaves e ∙ own-again i i o k (r .accepted .0 e .1 .1 .1 .1 .1 .1 .0)
+      let c = raw 3 i i o k in
+      let owns = tests-passed S (decode c) (taken basics names S c e .decoded) .1 .1 .1 .1 .0 in
+      rw e (own-again i i o k owns)
 
-pub sheet : (basics : ℕ) (names : Bool) (S : State) (i s : ℕ) (o : Name) (k : ℕ) → Sheet basics names S i s o k
-sheet basics names S i s o k =
-    record {
-      transfer-plain = over-right basics names S i s o k 1 (S .basic k Starred i o) refl refl refl;
-      transfer-starred = over-right basics names S i s o k 2 (S .basic k Starred i o) refl refl refl;
-      transfer-own = transfers-own basics names S i s o k;
-      transfer-to-itself = to-itself basics names S i o k;
-      grant-plain = over-right basics names S i s o k 4 (S .owns i o) refl refl refl;
-      grant-starred = over-right basics names S i s o k 5 (S .owns i o) refl refl refl;
-      grant-control = grants-control basics names S i s o k;
-      grant-own = grants-own basics names S i s o k;
-      delete-plain = over-right basics names S i s o k 8 (controls-or-owns basics names S i s o k) refl refl refl;
-      delete-starred = over-right basics names S i s o k 9 (controls-or-owns basics names S i s o k) refl refl refl;
-      create-object = creates-object basics names S i s o k;
-      destroy-object = destroys-object basics names S i s o k;
-      create-subject = creates-subject basics names S i s o k;
-      destroy-subject = destroys-subject basics names S i s o k;
-      others = unknown basics names S i s o k;
-      refused = λ code h. refused-same basics names S (raw code i s o k) h;
-    }
+  -- the sheet, row by row: each condition from the tests that are passed, and each test from the conditions
+  module _ (i s : ℕ) (o : Name) (k : ℕ) where
+    pub sheet : Sheet basics names S i s o k
+    sheet =
+        record {
+          transfer-plain = over-right i s o k 1 (S .basic k Starred i o) refl refl refl;
+          transfer-starred = over-right i s o k 2 (S .basic k Starred i o) refl refl refl;
+          transfer-own =
+              row (raw 3 i s o k) _ refl
+              (λ n f p. let h = here i s o k (p .1 .1 .0) in (n, (f, (p .0, (p .1 .0, (h .0, (h .1, (p .1 .1 .1 .1 .0, (p .1 .1 .1 .1 .1 .0, tt)))))))))
+              (λ h. (h .0, h .1 .0, (h .1 .1 .0, (h .1 .1 .1 .0, (and-both (h .1 .1 .1 .1 .0) (h .1 .1 .1 .1 .1 .0), (refl, (h .1 .1 .1 .1 .1 .1 .0, (h .1 .1 .1 .1 .1 .1 .1 .0, (refl, tt)))))))));
+          transfer-to-itself = to-itself i o k;
+          grant-plain = over-right i s o k 4 (S .owns i o) refl refl refl;
+          grant-starred = over-right i s o k 5 (S .owns i o) refl refl refl;
+          grant-control =
+              row (raw 6 i s o k) _ refl
+              (λ n f p. let h = here i s o k (p .1 .1 .0) in (n, (f, (p .0, (p .1 .0, (h .0, (h .1, (p .1 .1 .1 .1 .0, (p .1 .1 .1 .1 .1 .1 .0, tt)))))))))
+              (λ h. (h .0, h .1 .0, (h .1 .1 .0, (h .1 .1 .1 .0, (and-both (h .1 .1 .1 .1 .0) (h .1 .1 .1 .1 .1 .0), (refl, (h .1 .1 .1 .1 .1 .1 .0, (refl, (h .1 .1 .1 .1 .1 .1 .1 .0, tt)))))))));
+          grant-own =
+              row (raw 7 i s o k) _ refl
+              (λ n f p. let h = here i s o k (p .1 .1 .0) in (n, (f, (p .0, (p .1 .0, (h .0, (h .1, (p .1 .1 .1 .1 .0, tt))))))))
+              (λ h. (h .0, h .1 .0, (h .1 .1 .0, (h .1 .1 .1 .0, (and-both (h .1 .1 .1 .1 .0) (h .1 .1 .1 .1 .1 .0), (refl, (h .1 .1 .1 .1 .1 .1 .0, (refl, (refl, tt)))))))));
+          delete-plain = over-right i s o k 8 (S .owns i o || S .controls i (Subject s)) refl refl refl;
+          delete-starred = over-right i s o k 9 (S .owns i o || S .controls i (Subject s)) refl refl refl;
+          create-object =
+              row (raw 10 i s o k) _ refl
+              (λ n f p. let u = unused i s o k f in (n, (u .0, (u .1, (p .0, (p .1 .0, (p .1 .1 .1 .0, tt)))))))
+              (λ h. (h .0, and-both (and-both (h .1 .0) refl) (h .1 .1 .0), (h .1 .1 .1 .0, (h .1 .1 .1 .1 .0, (refl, (h .1 .1 .1 .1 .1 .0, (refl, (refl, (refl, tt)))))))));
+          destroy-object =
+              row (raw 11 i s o k) _ refl
+              (λ n f p. let u = unused i s o k f in (n, (u .0, (u .1, (p .0, (p .1 .0, (p .1 .1 .0, (p .1 .1 .1 .1 .0, tt))))))))
+              (λ h. (h .0, and-both (and-both (h .1 .0) refl) (h .1 .1 .0), (h .1 .1 .1 .0, (h .1 .1 .1 .1 .0, (h .1 .1 .1 .1 .1 .0, (refl, (h .1 .1 .1 .1 .1 .1 .0, (refl, (refl, tt)))))))));
+          create-subject =
+              row (raw 12 i s o k) _ refl
+              (λ n f p. let u = unused-o i s o k f in (n, (u .0, (u .1, (p .0, (p .1 .1 .1 .0, tt))))))
+              (λ h. (h .0, and-both (h .1 .0) (h .1 .1 .0), (h .1 .1 .1 .0, (refl, (refl, (h .1 .1 .1 .1 .0, (refl, (refl, (refl, tt)))))))));
+          destroy-subject =
+              row (raw 13 i s o k) _ refl
+              (λ n f p. let u = unused-o i s o k f in (n, (u .0, (u .1, (p .0, (p .1 .1 .0, (p .1 .1 .1 .1 .0, tt)))))))
+              (λ h. (h .0, and-both (h .1 .0) (h .1 .1 .0), (h .1 .1 .1 .0, (refl, (h .1 .1 .1 .1 .0, (refl, (h .1 .1 .1 .1 .1 .0, (refl, (refl, tt)))))))));
+          others = unknown i s o k;
+          refused = λ code h. refused-same basics names S (raw code i s o k) h;
+        }
