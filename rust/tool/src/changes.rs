@@ -1,0 +1,126 @@
+//! What differs between two records: names made and gone, and bits set and cleared.
+
+use crate::library::{basic, held};
+use crate::names::Names;
+use crate::record::{Name, Record};
+
+/// A bit that is set in one of two records.
+#[derive(Clone, Copy, Debug, PartialEq, Eq)]
+pub struct Moved {
+    pub login: u64,
+    pub over: Name,
+    pub right: u64,
+    /// Set in the new record; otherwise in the old one.
+    pub gained: bool,
+    /// Held in the new record, though the bit is cleared: the starred right is there.
+    pub still_held: bool,
+}
+
+/// All that differs, names and moves each in the matrix's order.
+#[derive(Debug, Default, PartialEq, Eq)]
+pub struct Changes {
+    pub made: Vec<Name>,
+    pub gone: Vec<Name>,
+    pub moved: Vec<Moved>,
+}
+
+impl Changes {
+    /// Whether nothing differs.
+    pub fn is_empty(&self) -> bool {
+        self.made.is_empty() && self.gone.is_empty() && self.moved.is_empty()
+    }
+
+    /// The moves of one login.
+    pub fn of_login(&self, login: u64, gained: bool) -> Vec<Moved> {
+        let moves = self.moved.iter().copied();
+        moves
+            .filter(|m| m.login == login && m.gained == gained)
+            .collect()
+    }
+}
+
+/// What differs. Logins are compared by number and logs by column, also where the two have different sizes.
+pub fn changes(old: &Record, new: &Record) -> Changes {
+    let logins = old.logins().max(new.logins());
+    let names: Vec<Name> = (0..logins)
+        .map(Name::Login)
+        .chain((0..old.columns().max(new.columns())).map(Name::Log))
+        .collect();
+    let mut changes = Changes::default();
+    for name in &names {
+        match (exists(old, *name), exists(new, *name)) {
+            (false, true) => changes.made.push(*name),
+            (true, false) => changes.gone.push(*name),
+            _ => {}
+        }
+    }
+    for login in 0..logins {
+        for over in &names {
+            let (before, after) = (cell(old, login, *over), cell(new, login, *over));
+            if before != after {
+                push_moves(&mut changes.moved, new, (login, *over), before, after);
+            }
+        }
+    }
+    changes
+}
+
+/// Whether a record has such a name, and it exists.
+fn exists(record: &Record, name: Name) -> bool {
+    has(record, name) && record.exists(name)
+}
+
+/// Whether a column of this kind stands in the record.
+fn has(record: &Record, name: Name) -> bool {
+    match name {
+        Name::Login(s) => s < record.logins(),
+        Name::Log(c) => (record.logins()..record.columns()).contains(&c),
+    }
+}
+
+fn cell(record: &Record, login: u64, over: Name) -> u16 {
+    match over {
+        Name::Login(c) | Name::Log(c) if has(record, over) => record.cell(login, c),
+        _ => 0,
+    }
+}
+
+fn push_moves(moved: &mut Vec<Moved>, new: &Record, at: (u64, Name), before: u16, after: u16) {
+    let (login, over) = at;
+    for right in 0..16 {
+        if (before ^ after) >> right & 1 == 1 {
+            let gained = after >> right & 1 == 1;
+            moved.push(Moved {
+                login,
+                over,
+                right,
+                gained,
+                still_held: !gained && is_held(new, login, over, right),
+            });
+        }
+    }
+}
+
+fn is_held(record: &Record, login: u64, over: Name, right: u64) -> bool {
+    let (Name::Login(column) | Name::Log(column)) = over;
+    has(record, over) && held(&record.bytes, login, column, right) == Ok(true)
+}
+
+/// A move as a part of a sentence, without the login.
+pub fn told(moved: &Moved, names: &Names) -> String {
+    let (right, over) = (names.right(moved.right), names.name(moved.over));
+    match (moved.gained, moved.still_held) {
+        (true, _) => format!("gains {right} over {over}"),
+        (false, false) => format!("loses {right} over {over}"),
+        (false, true) => {
+            let star = names.right(basic((moved.right - 2) / 2, true));
+            format!("loses {right} over {over}, but still holds it by {star}")
+        }
+    }
+}
+
+/// Whether a name is made or gone, as a sentence.
+pub fn told_name(name: Name, made: bool, names: &Names) -> String {
+    let what = if made { "is made" } else { "is gone" };
+    format!("{} {what}", names.name(name))
+}

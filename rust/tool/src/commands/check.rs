@@ -1,0 +1,78 @@
+//! `check FILE`: whether a record is valid, and if not, why.
+
+use crate::answer::Answer;
+use crate::faults::{Fault, reasons};
+use crate::input::{called, names_of, record_bytes};
+use crate::json;
+use crate::library::{Refusal, refusal, valid};
+use crate::names::{Names, counted};
+use crate::no_answer::Answered;
+use crate::record::{Name, Record};
+use crate::words::Given;
+
+/// How many reasons are printed.
+const MOST_REASONS: usize = 20;
+
+pub fn check(given: &Given) -> Answered<Answer> {
+    let path = &given.words[0];
+    let bytes = record_bytes(path)?;
+    let refusal = refusal(&bytes);
+    let names = match refusal {
+        None | Some(Refusal::NotValid) => {
+            names_of(path, given.names.as_ref(), &Record::shaped(&bytes))?
+        }
+        Some(_) => Names::default(),
+    };
+    let faults = reasons(&bytes, refusal, &names);
+    let text = match (given.json, refusal) {
+        (true, _) => in_json(refusal, &faults, &names),
+        (false, None) => valid_text(&called(path), &Record::shaped(&bytes)),
+        (false, Some(refusal)) => text(&called(path), refusal, &faults),
+    };
+    Ok(Answer::new(text, valid(&bytes)))
+}
+
+/// How many names there are and exist.
+pub fn sizes(record: &Record) -> String {
+    let existing = record.existing();
+    let logs = existing.iter().filter(|name| matches!(name, Name::Log(_)));
+    let logs = logs.count();
+    let logins = existing.len() - logs;
+    let names = [
+        (record.logins(), "login", logins),
+        (record.logs(), "log", logs),
+    ];
+    let told = names.map(|(all, noun, exist)| format!("{}, {exist} existing", counted(all, noun)));
+    told.join("; ")
+}
+
+fn valid_text(file: &str, record: &Record) -> String {
+    format!("{file} is valid: {}.\n", sizes(record))
+}
+
+fn text(file: &str, refusal: Refusal, faults: &[Fault]) -> String {
+    let mut text = format!("{file} is not valid (refusal {}):\n", refusal.number());
+    for fault in faults.iter().take(MOST_REASONS) {
+        text.push_str(&format!("  {}\n", fault.sentence));
+    }
+    if faults.len() > MOST_REASONS {
+        text.push_str(&format!("  and {} more\n", faults.len() - MOST_REASONS));
+    }
+    text
+}
+
+fn in_json(refusal: Option<Refusal>, faults: &[Fault], names: &Names) -> String {
+    let reasons = faults.iter().map(|fault| {
+        let at = fault.at.iter().map(|name| json::name(*name, names));
+        json::object(&[
+            ("at", json::array(at)),
+            ("words", json::text(&fault.sentence)),
+        ])
+    });
+    let answer = json::object(&[
+        ("valid", refusal.is_none().to_string()),
+        ("refusal", refusal.map_or(0, |r| r.number()).to_string()),
+        ("reasons", json::array(reasons)),
+    ]);
+    format!("{answer}\n")
+}

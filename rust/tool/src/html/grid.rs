@@ -1,0 +1,218 @@
+//! The matrix as a coloured grid, whole or a part of it, and where a record before is given with the cells that change.
+
+use crate::html::escape;
+use crate::names::Names;
+use crate::record::{Name, Record, column_of, rights_in};
+
+/// The most columns with each right in words; grids of more have short cells, with the words as each cell's title.
+const MOST_WORDY: usize = 14;
+
+/// What is drawn.
+pub struct Grid<'a> {
+    pub record: &'a Record,
+    pub names: &'a Names,
+    pub rows: Vec<u64>,
+    pub columns: Vec<Name>,
+    /// The logins marked as trusted.
+    pub trusted: u64,
+    /// The record before, where changes are marked.
+    pub before: Option<&'a Record>,
+    /// The cell that a question is about.
+    pub asked: Option<(u64, u64)>,
+}
+
+impl Grid<'_> {
+    fn is_small(&self) -> bool {
+        self.columns.len() > MOST_WORDY
+    }
+
+    /// The grid as a table.
+    pub fn html(&self) -> String {
+        let small = if self.is_small() { " small" } else { "" };
+        let mut out =
+            format!("<div class=\"wide\"><table class=\"grid{small}\">\n<thead><tr><th></th>");
+        for (at, name) in self.columns.iter().enumerate() {
+            out.push_str(&self.head(at, *name));
+        }
+        out.push_str("</tr></thead>\n<tbody>\n");
+        for login in &self.rows {
+            out.push_str(&self.row(*login));
+        }
+        out.push_str("</tbody></table></div>\n");
+        out
+    }
+
+    fn head(&self, at: usize, name: Name) -> String {
+        let class = match name {
+            Name::Login(_) => String::new(),
+            Name::Log(_) => format!("log{}", self.first(at)),
+        };
+        let label = escape(&self.names.label(name));
+        let number = column_of(name);
+        format!(
+            "<th class=\"{class}\" title=\"column {number}: {label}\"><span>{label}</span></th>"
+        )
+    }
+
+    /// The class of the first log's column, which has a line before it.
+    fn first(&self, at: usize) -> &'static str {
+        let is_log = |at: usize| matches!(self.columns[at], Name::Log(_));
+        if is_log(at) && (at == 0 || !is_log(at - 1)) {
+            " first"
+        } else {
+            ""
+        }
+    }
+
+    fn row(&self, login: u64) -> String {
+        let label = escape(&self.names.label(Name::Login(login)));
+        let trusted = self.trusted >> login & 1 == 1;
+        let (class, mut marks) = if trusted {
+            ("trusted", vec!["trusted"])
+        } else {
+            ("", vec![])
+        };
+        if login == 0 {
+            marks.insert(0, "U");
+        }
+        let mark = match marks.is_empty() {
+            true => String::new(),
+            false => format!(" <span class=\"mark\">{}</span>", marks.join(", ")),
+        };
+        let mut out = format!("<tr><th class=\"{class}\">{label}{mark}</th>");
+        for (at, name) in self.columns.iter().enumerate() {
+            out.push_str(&self.cell(login, *name, self.first(at)));
+        }
+        out.push_str("</tr>\n");
+        out
+    }
+
+    fn cell(&self, login: u64, name: Name, first: &str) -> String {
+        let column = column_of(name);
+        let cell = self.record.cell(login, column);
+        let before = self
+            .before
+            .map_or(cell, |before| before.cell(login, column));
+        let mut classes = vec![first.trim()];
+        if name == Name::Login(login) {
+            classes.push("self");
+        }
+        if before != cell {
+            classes.push("changed");
+        }
+        if self.asked == Some((login, column)) {
+            classes.push("asked");
+        }
+        let content = if self.is_small() {
+            classes.push(strongest(cell | before));
+            short(cell)
+        } else {
+            self.chips(before, cell)
+        };
+        classes.retain(|class| !class.is_empty());
+        let class = classes.join(" ");
+        if cell | before == 0 {
+            return format!("<td class=\"{class}\"></td>");
+        }
+        let title = escape(&self.title(login, name, before, cell));
+        format!("<td class=\"{class}\" title=\"{title}\">{content}</td>")
+    }
+
+    /// Each right as a word; those lost are struck out.
+    fn chips(&self, before: u16, cell: u16) -> String {
+        let chip = |code: u64| {
+            let change = match (before >> code & 1, cell >> code & 1) {
+                (0, _) => " gained",
+                (_, 0) => " lost",
+                _ => "",
+            };
+            let label = escape(&self.names.right_label(code));
+            format!("<span class=\"x {}{change}\">{label}</span>", kind(code))
+        };
+        rights_in(before | cell).into_iter().map(chip).collect()
+    }
+
+    /// A cell in words.
+    fn title(&self, login: u64, name: Name, before: u16, cell: u16) -> String {
+        let names = self.names;
+        let (who, over) = (names.label(Name::Login(login)), names.label(name));
+        let mut parts = Vec::new();
+        for (rights, verb) in [
+            (cell & before, "has"),
+            (cell & !before, "gains"),
+            (before & !cell, "loses"),
+        ] {
+            if rights != 0 {
+                parts.push(format!("{verb} {}", names.rights(&rights_in(rights))));
+            }
+        }
+        format!("{who} {} over {over}", parts.join(", "))
+    }
+}
+
+/// The class of a right's colour.
+pub fn kind(code: u64) -> &'static str {
+    match code {
+        0 => "own",
+        1 => "control",
+        code if code % 2 == 0 => "plain",
+        _ => "star",
+    }
+}
+
+/// The class of a short cell: that of its strongest right.
+fn strongest(cell: u16) -> &'static str {
+    match cell {
+        0 => "",
+        cell if cell & 1 != 0 => "k-own",
+        cell if cell & 2 != 0 => "k-control",
+        cell if cell & 0b1010_1010_1010_1000 != 0 => "k-star",
+        _ => "k-plain",
+    }
+}
+
+/// A short cell: o, c, and the number of basic rights, with a star if one is starred.
+fn short(cell: u16) -> String {
+    let own = if cell & 1 != 0 { "o" } else { "" };
+    let control = if cell & 2 != 0 { "c" } else { "" };
+    let basics = (0..7).filter(|k| cell >> (2 + 2 * k) & 3 != 0).count();
+    let basics = if basics == 0 {
+        String::new()
+    } else {
+        basics.to_string()
+    };
+    let star = if cell & 0b1010_1010_1010_1000 != 0 {
+        "*"
+    } else {
+        ""
+    };
+    format!("{own}{control}{basics}{star}")
+}
+
+/// What the colours and letters mean.
+pub fn legend(columns: usize, names: &Names) -> String {
+    let chip = |class: &str, word: &str| format!("<span class=\"x {class}\">{word}</span>");
+    let rights = names
+        .of_rights
+        .iter()
+        .map(|(k, name)| format!("r{k} is {}", escape(name)));
+    let rights: Vec<String> = rights.collect();
+    let rights = match rights.is_empty() {
+        true => String::new(),
+        false => format!(" Here {}.", rights.join(", ")),
+    };
+    let short = if columns > MOST_WORDY {
+        " In a cell o is own, c control, and the number counts the basic rights; \
+         it has the colour of the first of these that it has. Rest the pointer on a cell for its rights in words."
+    } else {
+        ""
+    };
+    format!(
+        "<p class=\"legend\">Each row is a login and says what it has over each column. \
+         {}{}{}{}may be handed on.{rights}{short}</p>\n",
+        chip("own", "own"),
+        chip("control", "control"),
+        chip("plain", "a basic right"),
+        chip("star", "with the star*"),
+    )
+}

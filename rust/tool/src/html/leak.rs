@@ -1,0 +1,128 @@
+//! The page of `ask`: the question, the answer, and a leak step by step with the cells that change.
+
+use std::collections::BTreeSet;
+
+use crate::commands::ask::verdict;
+use crate::html::grid::{Grid, legend};
+use crate::html::{escape, page as whole};
+use crate::input::Station;
+use crate::leak::{Question, Step, effects, notes, question};
+use crate::record::{Name, Record};
+use crate::sentence::numbers;
+
+/// The most rows and columns that are drawn of every step; where more change in all, each step has its own.
+const MOST_DRAWN: usize = 14;
+
+/// The page of an answer.
+pub fn page(q: &Question, station: &Station, leak: Option<&[Step]>) -> String {
+    let class = if leak.is_some() { "leaks" } else { "safe" };
+    let verdict = verdict(q, station, leak);
+    let verdict = verdict.replace(" [code i s o k]:", ".");
+    let mut body = format!(
+        "<div class=\"verdict {class}\">{}</div>\n",
+        escape(&verdict)
+    );
+    for note in notes(q, station) {
+        body.push_str(&format!("<p>Note: {}.</p>\n", escape(&note)));
+    }
+    body.push_str(&format!(
+        "<p>The record is {}.</p>\n",
+        escape(&station.file)
+    ));
+    let steps = leak.unwrap_or(&[]);
+    let shared = Part::of(q, station, steps);
+    let shared = Some(shared).filter(Part::is_small);
+    let whole_station = Part::whole(&station.record);
+    let first = shared.as_ref().unwrap_or(&whole_station);
+    body.push_str(&legend(first.columns.len(), &station.names));
+    body.push_str(
+        "<p>The cell that is asked about has a violet frame. \
+         What a command gives is framed green, what it takes is struck out.</p>\n",
+    );
+    body.push_str("<div class=\"step\"><h2>At the start</h2>\n");
+    body.push_str(&first.grid(q, station, &station.record, None));
+    body.push_str("</div>\n");
+    let mut before = &station.record;
+    for (at, step) in steps.iter().enumerate() {
+        let own = Part::of(q, station, &steps[at..=at]);
+        let part = shared.as_ref().unwrap_or(&own);
+        body.push_str(&told(at + 1, step, station));
+        body.push_str(&part.grid(q, station, &step.after, Some(before)));
+        body.push_str("</div>\n");
+        before = &step.after;
+    }
+    whole(&question(q, station), &body)
+}
+
+/// A step in words, with its block left open.
+fn told(number: usize, step: &Step, station: &Station) -> String {
+    let effects = effects(&step.changes, &station.names).into_iter();
+    let effects = effects.map(|effect| format!("<li>{}</li>\n", escape(&effect)));
+    format!(
+        "<div class=\"step\"><h2>{number}. {}<code>{}</code></h2>\n<p>Allowed, since {}. Then:</p>\n<ul>\n{}</ul>\n",
+        escape(&step.words),
+        numbers(step.command),
+        escape(&step.allowed),
+        effects.collect::<String>()
+    )
+}
+
+/// The rows and columns that are drawn.
+struct Part {
+    rows: Vec<u64>,
+    columns: Vec<Name>,
+}
+
+impl Part {
+    /// Those that some steps change or name, and those of the question.
+    fn of(q: &Question, station: &Station, steps: &[Step]) -> Part {
+        let record = &station.record;
+        let mut rows = BTreeSet::from([q.login]);
+        let mut columns = BTreeSet::from([q.over]);
+        for step in steps {
+            rows.insert(step.command.i);
+            rows.extend(step.changes.moved.iter().map(|moved| moved.login));
+            columns.extend(step.changes.moved.iter().map(|moved| moved.over));
+        }
+        let all = Part::whole(record);
+        if all.is_small() {
+            rows.extend(all.rows);
+            columns.extend(all.columns);
+        }
+        Part {
+            rows: rows.into_iter().collect(),
+            columns: columns.into_iter().collect(),
+        }
+    }
+
+    /// All that exists.
+    fn whole(record: &Record) -> Part {
+        Part {
+            rows: record.existing_logins(),
+            columns: record.existing(),
+        }
+    }
+
+    fn is_small(&self) -> bool {
+        self.rows.len() <= MOST_DRAWN && self.columns.len() <= MOST_DRAWN
+    }
+
+    fn grid(
+        &self,
+        q: &Question,
+        station: &Station,
+        after: &Record,
+        before: Option<&Record>,
+    ) -> String {
+        let grid = Grid {
+            record: after,
+            names: &station.names,
+            rows: self.rows.clone(),
+            columns: self.columns.clone(),
+            trusted: q.trust,
+            before,
+            asked: Some((q.login, q.column)),
+        };
+        grid.html()
+    }
+}

@@ -1,0 +1,142 @@
+//! The answer to a safety question, with each command of a leak explained.
+
+use crate::changes::{Changes, changes, told, told_name};
+use crate::input::Station;
+use crate::library::{Command, Refusal, command, safety};
+use crate::names::Names;
+use crate::record::{Name, Record};
+use crate::sentence::sentence;
+use crate::why::{allowed, impossible};
+
+/// The question.
+#[derive(Clone, Copy)]
+pub struct Question {
+    pub trust: u64,
+    pub login: u64,
+    pub over: Name,
+    pub column: u64,
+    pub right: u64,
+}
+
+/// A command of a leak: in words, what allows it, what it changes, and the record after it.
+pub struct Step {
+    pub command: Command,
+    pub words: String,
+    pub allowed: String,
+    pub changes: Changes,
+    pub after: Record,
+}
+
+/// The commands that get there, each explained; none where it is safe.
+pub fn answer(station: &Station, q: &Question) -> Result<Option<Vec<Step>>, Refusal> {
+    let Station { record, names, .. } = station;
+    let Some(list) = safety(&record.bytes, q.trust, q.login, q.column, q.right)? else {
+        return Ok(None);
+    };
+    let mut before = record.clone();
+    let mut steps = Vec::new();
+    for c in list {
+        let mut after = before.clone();
+        command(&mut after.bytes, c).expect("each command of a leak is accepted");
+        steps.push(Step {
+            command: c,
+            words: sentence(c, &before, names),
+            allowed: allowed(c, &before, names),
+            changes: changes(&before, &after),
+            after: after.clone(),
+        });
+        before = after;
+    }
+    Ok(Some(steps))
+}
+
+/// The question in words.
+pub fn question(q: &Question, station: &Station) -> String {
+    let Station { record, names, .. } = station;
+    let trusted = members(q.trust);
+    let trust = match trusted.as_slice() {
+        [] => String::from("nobody is trusted"),
+        all if all.len() as u64 == record.logins() => {
+            String::from("every login is trusted to begin nothing")
+        }
+        [one] => format!("{} is trusted to begin nothing", names.login(*one)),
+        some => format!("{} are trusted to begin nothing", names.logins(some)),
+    };
+    format!(
+        "Can {} ever come to hold {} over {}, if {trust}?",
+        names.login(q.login),
+        names.right(q.right),
+        names.name(q.over)
+    )
+}
+
+/// The logins of a mask.
+pub fn members(mask: u64) -> Vec<u64> {
+    (0..64).filter(|s| mask >> s & 1 == 1).collect()
+}
+
+/// What a reader of the answer has to know of the question: absent names, a right that is impossible, who is trusted.
+pub fn notes(q: &Question, station: &Station) -> Vec<String> {
+    let Station { record, names, .. } = station;
+    let mut notes = Vec::new();
+    let asked = [Name::Login(q.login), q.over];
+    let asked = if asked[0] == asked[1] {
+        &asked[..1]
+    } else {
+        &asked[..]
+    };
+    for name in asked.iter().filter(|name| !record.exists(**name)) {
+        notes.push(format!(
+            "{} does not exist in the record",
+            names.name(*name)
+        ));
+    }
+    notes.extend(impossible(q.login, q.over, q.right, names));
+    let trusted = members(q.trust).into_iter();
+    let (there, absent): (Vec<u64>, Vec<u64>) =
+        trusted.partition(|s| record.exists(Name::Login(*s)));
+    if there == record.existing_logins() {
+        notes.push(String::from(
+            "every login that exists is trusted, so nobody is left to begin a command",
+        ));
+    }
+    if there.is_empty() {
+        notes.push(String::from(
+            "no login that exists is trusted, so everybody may begin commands",
+        ));
+    }
+    if !absent.is_empty() {
+        let verb = if absent.len() == 1 {
+            "does not exist, and stays"
+        } else {
+            "do not exist, and stay"
+        };
+        notes.push(format!(
+            "{} {verb} trusted if created",
+            names.logins(&absent)
+        ));
+    }
+    notes
+}
+
+/// What a command changes, as parts of a sentence. What goes with a destroyed name is left out.
+pub fn effects(changes: &Changes, names: &Names) -> Vec<String> {
+    let mut effects = Vec::new();
+    for (list, made) in [(&changes.gone, false), (&changes.made, true)] {
+        effects.extend(list.iter().map(|name| told_name(*name, made, names)));
+    }
+    let gone = |name: Name| changes.gone.contains(&name);
+    for moved in &changes.moved {
+        if !gone(Name::Login(moved.login)) && !gone(moved.over) {
+            effects.push(format!(
+                "{} {}",
+                names.login(moved.login),
+                told(moved, names)
+            ));
+        }
+    }
+    if effects.is_empty() {
+        effects.push(String::from("nothing changes"));
+    }
+    effects
+}

@@ -1,0 +1,109 @@
+//! The matrix as a table of text, in blocks of columns that fit the width.
+
+use crate::names::Names;
+use crate::record::{Name, Record, column_of, rights_in};
+
+/// The longest label of a row or a column; what is longer is cut.
+const LONGEST: usize = 16;
+
+/// The table of the names that exist, each line with its end.
+pub fn table(record: &Record, names: &Names, width: usize) -> String {
+    let logins = record.existing_logins();
+    let labels = logins.iter().map(|s| cut(&names.label(Name::Login(*s))));
+    let labels: Vec<String> = labels.collect();
+    let first = labels.iter().map(|label| count(label)).max().unwrap_or(0);
+    let columns: Vec<Column> = record
+        .existing()
+        .into_iter()
+        .map(|name| Column::new(record, names, name, &logins))
+        .collect();
+    let mut text = String::new();
+    let mut rest = columns.as_slice();
+    while !rest.is_empty() {
+        let (block, after) = rest.split_at(fitting(rest, width.saturating_sub(first)));
+        if !text.is_empty() {
+            text.push('\n');
+        }
+        text.push_str(&line(&" ".repeat(first), block, |column| &column.head));
+        for (row, label) in labels.iter().enumerate() {
+            if block.iter().any(|column| column.cells[row] != ".") {
+                let label = format!("{label:first$}");
+                text.push_str(&line(&label, block, |column| &column.cells[row]));
+            }
+        }
+        rest = after;
+    }
+    text
+}
+
+/// A column's head, its cells and their width.
+struct Column {
+    head: String,
+    cells: Vec<String>,
+    width: usize,
+}
+
+impl Column {
+    fn new(record: &Record, names: &Names, name: Name, logins: &[u64]) -> Column {
+        let head = match names.of_names.get(&name) {
+            Some(given) => cut(given),
+            None => column_of(name).to_string(),
+        };
+        let cells = logins
+            .iter()
+            .map(|s| short(record.cell(*s, column_of(name))));
+        let cells: Vec<String> = cells.collect();
+        let widest = cells.iter().map(|cell| count(cell)).max().unwrap_or(1);
+        Column {
+            width: widest.max(count(&head)),
+            head,
+            cells,
+        }
+    }
+}
+
+/// How many columns fit, at least one.
+fn fitting(columns: &[Column], width: usize) -> usize {
+    let mut used = 0;
+    let fit = columns.iter().take_while(|column| {
+        used += 2 + column.width;
+        used <= width
+    });
+    fit.count().max(1)
+}
+
+/// One line: a label and a text of each column.
+fn line<'a>(label: &str, block: &'a [Column], text: impl Fn(&'a Column) -> &'a String) -> String {
+    let mut line = String::from(label);
+    for column in block {
+        line.push_str(&format!("  {:width$}", text(column), width = column.width));
+    }
+    format!("{}\n", line.trim_end())
+}
+
+/// A cell: o for own, c for control, the number of each basic right, with * for the star; a dot where it is empty.
+fn short(cell: u16) -> String {
+    if cell == 0 {
+        return String::from(".");
+    }
+    let short = |code: u64| match code {
+        0 => String::from("o"),
+        1 => String::from("c"),
+        code if code % 2 == 0 => ((code - 2) / 2).to_string(),
+        code => format!("{}*", (code - 3) / 2),
+    };
+    rights_in(cell).into_iter().map(short).collect()
+}
+
+/// A label that is not too long.
+fn cut(label: &str) -> String {
+    if count(label) <= LONGEST {
+        return String::from(label);
+    }
+    let start: String = label.chars().take(LONGEST - 1).collect();
+    format!("{start}…")
+}
+
+fn count(text: &str) -> usize {
+    text.chars().count()
+}
