@@ -1,7 +1,7 @@
 //! What differs between two records: names made and gone, and bits set and cleared.
 
 use crate::library::{basic, held};
-use crate::names::Names;
+use crate::names::{Names, listed};
 use crate::record::{Name, Record};
 
 /// A bit that is set in one of two records.
@@ -106,17 +106,45 @@ fn is_held(record: &Record, login: u64, over: Name, right: u64) -> bool {
     has(record, over) && held(&record.bytes, login, column, right) == Ok(true)
 }
 
-/// A move as a part of a sentence, without the login.
-pub fn told(moved: &Moved, names: &Names) -> String {
-    let (right, over) = (names.right(moved.right), names.name(moved.over));
-    match (moved.gained, moved.still_held) {
-        (true, _) => format!("gains {right} over {over}"),
-        (false, false) => format!("loses {right} over {over}"),
-        (false, true) => {
-            let star = names.right(basic((moved.right - 2) / 2, true));
-            format!("loses {right} over {over}, but still holds it by {star}")
+/// Moves as parts of a sentence, without the login: what one right does over several names is one part.
+pub fn told(moved: &[Moved], names: &Names) -> Vec<String> {
+    let mut parts: Vec<Vec<Moved>> = Vec::new();
+    for m in moved {
+        let alike = |part: &&mut Vec<Moved>| {
+            Moved {
+                over: m.over,
+                ..part[0]
+            } == *m
+        };
+        match parts.iter_mut().find(alike) {
+            Some(part) => part.push(*m),
+            None => parts.push(vec![*m]),
         }
     }
+    parts.iter().map(|part| told_part(part, names)).collect()
+}
+
+/// Moves that differ in the name alone.
+fn told_part(part: &[Moved], names: &Names) -> String {
+    let Moved {
+        login,
+        right,
+        gained,
+        still_held,
+        ..
+    } = part[0];
+    let over = listed(part.iter().map(|m| match m.over {
+        Name::Login(s) if s == login => String::from("itself"),
+        other => names.name(other),
+    }));
+    let verb = if gained { "gains" } else { "loses" };
+    let rest = if still_held {
+        let star = names.right(basic((right - 2) / 2, true));
+        format!(", but still holds it by {star}")
+    } else {
+        String::new()
+    };
+    format!("{verb} {} over {over}{rest}", names.right(right))
 }
 
 /// Whether a name is made or gone, as a sentence.

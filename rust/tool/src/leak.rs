@@ -53,14 +53,17 @@ pub fn answer(station: &Station, q: &Question) -> Result<Option<Vec<Step>>, Refu
 /// The question in words.
 pub fn question(q: &Question, station: &Station) -> String {
     let Station { record, names, .. } = station;
-    let trusted = members(q.trust);
-    let trust = match trusted.as_slice() {
-        [] => String::from("nobody is trusted"),
-        all if all.len() as u64 == record.logins() => {
-            String::from("every login is trusted to begin nothing")
+    let logins = 0..record.logins();
+    let (trusted, others): (Vec<u64>, Vec<u64>) = logins.partition(|s| q.trust >> s & 1 == 1);
+    let trust = match (trusted.as_slice(), others.as_slice()) {
+        ([], _) => String::from("nobody is trusted"),
+        (_, []) => String::from("every login is trusted to begin nothing"),
+        ([one], _) => format!("{} is trusted to begin nothing", names.login(*one)),
+        (many, few) if many.len() > 8 && few.len() <= 8 => {
+            let few = names.logins(few);
+            format!("every login but {few} is trusted to begin nothing")
         }
-        [one] => format!("{} is trusted to begin nothing", names.login(*one)),
-        some => format!("{} are trusted to begin nothing", names.logins(some)),
+        (some, _) => format!("{} are trusted to begin nothing", names.logins(some)),
     };
     format!(
         "Can {} ever come to hold {} over {}, if {trust}?",
@@ -125,14 +128,13 @@ pub fn effects(changes: &Changes, names: &Names) -> Vec<String> {
     for (list, made) in [(&changes.gone, false), (&changes.made, true)] {
         effects.extend(list.iter().map(|name| told_name(*name, made, names)));
     }
-    let gone = |name: Name| changes.gone.contains(&name);
-    for moved in &changes.moved {
-        if !gone(Name::Login(moved.login)) && !gone(moved.over) {
-            effects.push(format!(
-                "{} {}",
-                names.login(moved.login),
-                told(moved, names)
-            ));
+    let stays = |name: Name| !changes.gone.contains(&name);
+    for login in (0..64).filter(|s| stays(Name::Login(*s))) {
+        for gained in [false, true] {
+            let mut moved = changes.of_login(login, gained);
+            moved.retain(|m| stays(m.over));
+            let parts = told(&moved, names).into_iter();
+            effects.extend(parts.map(|part| format!("{} {part}", names.login(login))));
         }
     }
     if effects.is_empty() {

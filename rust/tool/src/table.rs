@@ -49,9 +49,16 @@ impl Column {
             Some(given) => cut(given),
             None => column_of(name).to_string(),
         };
+        let text = |cell: u16| {
+            if cell == 0 {
+                String::from(".")
+            } else {
+                short(cell)
+            }
+        };
         let cells = logins
             .iter()
-            .map(|s| short(record.cell(*s, column_of(name))));
+            .map(|s| text(record.cell(*s, column_of(name))));
         let cells: Vec<String> = cells.collect();
         let widest = cells.iter().map(|cell| count(cell)).max().unwrap_or(1);
         Column {
@@ -81,11 +88,8 @@ fn line<'a>(label: &str, block: &'a [Column], text: impl Fn(&'a Column) -> &'a S
     format!("{}\n", line.trim_end())
 }
 
-/// A cell: o for own, c for control, the number of each basic right, with * for the star; a dot where it is empty.
-fn short(cell: u16) -> String {
-    if cell == 0 {
-        return String::from(".");
-    }
+/// A cell: o for own, c for control, the number of each basic right, with * for the star; nothing where it is empty.
+pub fn short(cell: u16) -> String {
     let short = |code: u64| match code {
         0 => String::from("o"),
         1 => String::from("c"),

@@ -101,8 +101,8 @@ fn of_login(login: u64, changes: &Changes, names: &Names) -> String {
         ""
     };
     let mut text = format!("{}{state}:\n", names.name(name));
-    for moved in lost.iter().chain(&gained) {
-        text.push_str(&format!("  {}\n", told(moved, names)));
+    for part in told(&lost, names).into_iter().chain(told(&gained, names)) {
+        text.push_str(&format!("  {part}\n"));
     }
     text
 }

@@ -46,10 +46,11 @@ fn text(station: &Station) -> String {
     let rights = names
         .of_rights
         .iter()
-        .map(|(k, name)| format!(", {k} is {name}"));
+        .map(|(k, name)| format!(";\n{k} is {name}"));
     format!(
         "{file}: {}.\n\n{}\n\
-         Rows are logins; columns are logins 0 to {last}{logs}. What does not exist is left out.\n\
+         Rows are logins; columns are logins 0 to {last}{logs}.\n\
+         What does not exist is left out, and rows that have nothing in a block.\n\
          o is own, c control, 0 to 6 the basic rights, * with the star{}.\n\n\
          Who owns whom:\n{}",
         sizes(record),

@@ -3,6 +3,7 @@
 use crate::html::escape;
 use crate::names::Names;
 use crate::record::{Name, Record, column_of, rights_in};
+use crate::table::short;
 
 /// The most columns with each right in words; grids of more have short cells, with the words as each cell's title.
 const MOST_WORDY: usize = 14;
@@ -94,18 +95,28 @@ impl Grid<'_> {
             .before
             .map_or(cell, |before| before.cell(login, column));
         let mut classes = vec![first.trim()];
-        if name == Name::Login(login) {
+        if name == Name::Login(login) && !self.is_small() {
             classes.push("self");
         }
         if before != cell {
-            classes.push("changed");
+            classes.push(if cell & !before == 0 {
+                "taken"
+            } else {
+                "given"
+            });
         }
         if self.asked == Some((login, column)) {
             classes.push("asked");
         }
         let content = if self.is_small() {
-            classes.push(strongest(cell | before));
-            short(cell)
+            classes.push(strongest(cell));
+            let lost = short(before & !cell);
+            let lost = if lost.is_empty() {
+                lost
+            } else {
+                format!("<s>{lost}</s>")
+            };
+            format!("{}{lost}", short(cell))
         } else {
             self.chips(before, cell)
         };
@@ -171,48 +182,29 @@ fn strongest(cell: u16) -> &'static str {
     }
 }
 
-/// A short cell: o, c, and the number of basic rights, with a star if one is starred.
-fn short(cell: u16) -> String {
-    let own = if cell & 1 != 0 { "o" } else { "" };
-    let control = if cell & 2 != 0 { "c" } else { "" };
-    let basics = (0..7).filter(|k| cell >> (2 + 2 * k) & 3 != 0).count();
-    let basics = if basics == 0 {
-        String::new()
-    } else {
-        basics.to_string()
-    };
-    let star = if cell & 0b1010_1010_1010_1000 != 0 {
-        "*"
-    } else {
-        ""
-    };
-    format!("{own}{control}{basics}{star}")
-}
-
 /// What the colours and letters mean.
 pub fn legend(columns: usize, names: &Names) -> String {
     let chip = |class: &str, word: &str| format!("<span class=\"x {class}\">{word}</span>");
-    let rights = names
-        .of_rights
-        .iter()
-        .map(|(k, name)| format!("r{k} is {}", escape(name)));
-    let rights: Vec<String> = rights.collect();
+    let rights = names.of_rights.iter();
+    let rights: Vec<String> = rights
+        .map(|(k, name)| format!("r{k} is called {}", escape(name)))
+        .collect();
     let rights = match rights.is_empty() {
         true => String::new(),
         false => format!(" Here {}.", rights.join(", ")),
     };
     let short = if columns > MOST_WORDY {
-        " In a cell o is own, c control, and the number counts the basic rights; \
-         it has the colour of the first of these that it has. Rest the pointer on a cell for its rights in words."
+        "<p class=\"legend\">In a cell o is own, c control, 0 to 6 are the basic rights r0 to r6, and * is the star. \
+         A cell has the colour of the strongest right in it. Rest the pointer on it for its rights in words.</p>\n"
     } else {
         ""
     };
     format!(
-        "<p class=\"legend\">Each row is a login and says what it has over each column. \
-         {}{}{}{}may be handed on.{rights}{short}</p>\n",
+        "<p class=\"legend\">A row says what a login has over each column: {}{}{}{}\
+         Who has a right with the star may transfer it to others.{rights}</p>\n{short}",
         chip("own", "own"),
         chip("control", "control"),
         chip("plain", "a basic right"),
-        chip("star", "with the star*"),
+        chip("star", "one with the star*"),
     )
 }

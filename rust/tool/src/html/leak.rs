@@ -30,11 +30,12 @@ pub fn page(q: &Question, station: &Station, leak: Option<&[Step]>) -> String {
         escape(&station.file)
     ));
     let steps = leak.unwrap_or(&[]);
-    let shared = Part::of(q, station, steps);
-    let shared = Some(shared).filter(Part::is_small);
-    let whole_station = Part::whole(&station.record);
-    let first = shared.as_ref().unwrap_or(&whole_station);
-    body.push_str(&legend(first.columns.len(), &station.names));
+    let changed = Part::of(q, station, steps, true);
+    let shared = Some(&changed).filter(|part| part.is_small());
+    let named = Part::of(q, station, steps, false);
+    let first = shared.unwrap_or(&named);
+    let widest = shared.unwrap_or(&changed).columns.len();
+    body.push_str(&legend(widest, &station.names));
     body.push_str(
         "<p>The cell that is asked about has a violet frame. \
          What a command gives is framed green, what it takes is struck out.</p>\n",
@@ -44,8 +45,8 @@ pub fn page(q: &Question, station: &Station, leak: Option<&[Step]>) -> String {
     body.push_str("</div>\n");
     let mut before = &station.record;
     for (at, step) in steps.iter().enumerate() {
-        let own = Part::of(q, station, &steps[at..=at]);
-        let part = shared.as_ref().unwrap_or(&own);
+        let own = Part::of(q, station, &steps[at..=at], true);
+        let part = shared.unwrap_or(&own);
         body.push_str(&told(at + 1, step, station));
         body.push_str(&part.grid(q, station, &step.after, Some(before)));
         body.push_str("</div>\n");
@@ -74,15 +75,25 @@ struct Part {
 }
 
 impl Part {
-    /// Those that some steps change or name, and those of the question.
-    fn of(q: &Question, station: &Station, steps: &[Step]) -> Part {
+    /// Those of the question and of the commands of some steps, and where wanted those that the steps change. A small station is
+    /// drawn whole.
+    fn of(q: &Question, station: &Station, steps: &[Step], changed: bool) -> Part {
         let record = &station.record;
         let mut rows = BTreeSet::from([q.login]);
         let mut columns = BTreeSet::from([q.over]);
-        for step in steps {
-            rows.insert(step.command.i);
-            rows.extend(step.changes.moved.iter().map(|moved| moved.login));
-            columns.extend(step.changes.moved.iter().map(|moved| moved.over));
+        for Step {
+            command: c,
+            changes,
+            ..
+        } in steps
+        {
+            let made_or_gone = changes.made.iter().chain(&changes.gone).copied();
+            rows.extend([c.i, c.s]);
+            columns.extend(made_or_gone.chain([record.name(c.o)]));
+            if changed {
+                rows.extend(changes.moved.iter().map(|moved| moved.login));
+                columns.extend(changes.moved.iter().map(|moved| moved.over));
+            }
         }
         let all = Part::whole(record);
         if all.is_small() {

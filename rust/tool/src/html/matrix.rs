@@ -24,7 +24,8 @@ pub fn page(station: &Station) -> String {
     };
     let body = format!(
         "<p>{}. What does not exist is left out.</p>\n<h2>Who may do what</h2>\n{}{}\
-         <h2>Who owns whom</h2>\n<p>Each login stands below its owner; the logs that it owns stand beside it.</p>\n\
+         <h2>Who owns whom</h2>\n<p>Each login stands below its owner; the logs that it owns stand beside it, \
+         those with other owners too in a broken frame.</p>\n\
          <div class=\"wide\">{}</div>\n<h2>In words</h2>\n{}",
         escape(&sizes(record)),
         legend(grid.columns.len(), names),

@@ -103,12 +103,15 @@ impl Drawing<'_> {
         let characters: usize = label.chars().map(wide).sum();
         let width = characters * CHARACTER / 10 + 16;
         let [fill, ink] = colours;
-        let title = match title {
-            "" => String::new(),
-            title => format!("<title>{}</title>", escape(title)),
+        let (title, dashes) = match title {
+            "" => (String::new(), ""),
+            title => (
+                format!("<title>{}</title>", escape(title)),
+                " stroke-dasharray=\"4 3\"",
+            ),
         };
         self.boxes.push_str(&format!(
-            "<g>{title}<rect x=\"{x}\" y=\"{y}\" width=\"{width}\" height=\"{HEIGHT}\" rx=\"5\" fill=\"{fill}\" stroke=\"#8c99a8\"/>\
+            "<g>{title}<rect x=\"{x}\" y=\"{y}\" width=\"{width}\" height=\"{HEIGHT}\" rx=\"5\" fill=\"{fill}\" stroke=\"#8c99a8\"{dashes}/>\
              <text x=\"{}\" y=\"{}\" fill=\"{ink}\">{}</text></g>\n",
             x + 8,
             y + 16,
