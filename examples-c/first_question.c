@@ -1,7 +1,9 @@
 /*
  * A first question: can subject 1 of station A come to hold basic right 0 over log 3? It is asked with everybody trusted, with
  * subjects 0 and 2 trusted, and with a trust mask that names a subject beyond the record.
- * Build: gcc -std=c99 -Wall -Wextra -Iinclude examples-c/first_question.c target/staticlib/libbunvespo.a -o first_question
+ * Build here: gcc -std=c99 -Wall -Wextra -Iinclude examples-c/first_question.c target/staticlib/libbunvespo.a -o first_question
+ * After ./install PREFIX, with PREFIX/lib/pkgconfig in PKG_CONFIG_PATH:
+ *             gcc -std=c99 -Wall -Wextra $(pkg-config --cflags bunvespo) first_question.c $(pkg-config --libs bunvespo) -o first_question
  */
 #include <inttypes.h>
 #include <stdio.h>
@@ -31,7 +33,7 @@ static void ask(uint64_t trust)
     uint8_t out[BUNVESPO_BUFFER_SIZE(3)];
     bunvespo_answer answer = bunvespo_safety(station_a, sizeof station_a, trust, 1, 3, BUNVESPO_PLAIN(0), out, sizeof out);
     if (answer.refusal != BUNVESPO_ANSWERED) {
-        printf("trust %" PRIu64 ": refused %" PRIu64 "\n", trust, answer.refusal);
+        printf("trust %" PRIu64 ": refused %" PRIu64 ": %s\n", trust, answer.refusal, bunvespo_refusal_words(answer.refusal));
     } else if (answer.value == 0) {
         printf("trust %" PRIu64 ": safe\n", trust);
     } else {

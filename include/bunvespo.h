@@ -1,32 +1,43 @@
 /*
  * Bunvespo: the rights record of a log station (Graham-Denning), its thirteen commands and its safety question.
- * The five calls of the proved library, for C and C++. Link with target/staticlib/libbunvespo.a, which
- * `rt staticlib bunvespo` proves and writes; it is built for x86-64 and needs nothing but memset of the C library.
+ * The five calls of the proved library, for C99 and C++11. `./install PREFIX` puts this header, the archive and a file for pkg-config
+ * below a prefix; without it, link with target/staticlib/libbunvespo.a, which `rt staticlib bunvespo` proves and writes. The archive
+ * is built for x86-64 and needs nothing but memset of the C library.
  *
- * THE RECORD. All numbers in it are big-endian.
- *   byte 0        version, 1
- *   bytes 1 to 4  L, the count of bytes after byte 4: L = 2 + 2 n (n + p)
- *   byte 5        n, the number of subject names, 1 to 64
- *   byte 6        p, the number of plain names, 0 to 192
- *   from byte 7   n rows of n + p cells of 16 bits. Row s is subject s. Column c below n is subject c, column c from n on is
- *                 plain object (log) c. Subject 0 is the universal subject U.
- * A subject exists if its own cell (row s, column s) has control. A plain object exists if some row owns it. A record is
- * valid when rows and columns of absent names are all zero; no plain column has control; U exists, with no owner and no
- * other controller; every other existing subject has exactly one owner and at most one controller besides itself; and no
- * subject is met again by following owners upward.
+ * THE RECORD. A matrix of cells, 16 bits each, high byte first like every number in a record.
+ *   byte 0        version: 1
+ *   bytes 1 to 4  L: how many bytes come after these four, 2 + 2 n (n + p)
+ *   byte 5        n: how many subject names there are, 1 to 64
+ *   byte 6        p: how many plain names there are, 0 to 192
+ *   from byte 7   the cells, n rows with n + p columns, row after row. A row belongs to the subject of its number. So does a column
+ *                 below n; every other column is a plain object (a log). Subject 0, called U, is there from the start.
+ * Names come and go. Subject s exists while the cell in row s, column s has control, and a plain object while at least one subject
+ * owns it. Five conditions make a record valid:
+ *   - nothing is set in the row or the column of a name that does not exist;
+ *   - nobody has control over a plain object;
+ *   - U exists, nobody owns it, and it alone controls it;
+ *   - each further subject that exists has one owner, no more and no fewer, and besides itself one controller or none;
+ *   - from owner to owner one never comes back to the same subject, and so always ends at U.
  *
  * A LIST OF COMMANDS.
- *   byte 0        version, 1
- *   bytes 1 to 4  L, the count of bytes after byte 4: a multiple of 6, at most 60,000
- *   from byte 5   a record of six bytes for each command: 05, code, i, s, o, k
+ *   byte 0        version: 1
+ *   bytes 1 to 4  L: how many bytes come after these four, six for each command, 60,000 at most
+ *   from byte 5   for each command 05, code, i, s, o, k
  *
  * SLICES. Each pointer is followed by its length in bytes. A call reads, and where the pointer isn't const may write, these
- * bytes and no others, and keeps no pointer after it returns. It has no state of its own, so calls on different bytes may
- * run at the same time. A record or a buffer that a call may write must not overlap its other slice.
+ * bytes and no others, and keeps no pointer after it returns. A record or a buffer that a call may write must not overlap its
+ * other slice.
  * NULL with length 0 is an empty slice, for each of them: the compiled code looks at a slice's length before it reads or
  * writes a byte, and never at the pointer itself. So an empty record, NULL or not, gives 0 for validity and else refusal 1;
  * an empty list on a valid record refusal 16; an empty buffer on a valid record refusal 15 (7 stands before it). NULL with
  * another length is not allowed. tests/c_interface/null_and_empty.c tests this.
+ *
+ * THREADS. The library has no variables and takes no locks: all that a call touches is the bytes lent to it. So threads may call
+ * it at the same time, under the rule that C has for all bytes: none may be written by one thread while another reads or writes it.
+ *   - valid, held and safety only read a record, and run only reads a list: any number of threads may ask of one record, and share
+ *     one list, at once.
+ *   - command and run write their record, and safety its buffer. While a thread is in such a call, no other may use that record or
+ *     that buffer in any call, not even to ask. A lock, or a copy of the record for each thread, is the caller's to provide.
  */
 #ifndef BUNVESPO_H
 #define BUNVESPO_H
@@ -39,66 +50,104 @@ extern "C" {
 #endif
 
 /*
- * REFUSALS. Tests run in number order, and the answer is the number of the first condition that holds. The calls that give
- * each number stand in brackets. "Every call" leaves out bunvespo_valid, which never refuses.
+ * THE VERSION of this header and its archive, as numbers for #if. It has nothing to do with the version byte of a record.
+ *   #if BUNVESPO_LIBRARY_VERSION >= 2000      0.2.0 or later
  */
-enum {
-    BUNVESPO_ANSWERED = 0,            /* not refused */
-    BUNVESPO_RECORD_SHORT = 1,        /* record under 7 bytes [every call] */
-    BUNVESPO_VERSION = 2,             /* version not 1 [every call] */
-    BUNVESPO_COUNTS = 3,              /* n or p outside its range [every call] */
-    BUNVESPO_RECORD_LENGTH = 4,       /* L or true length wrong [every call] */
-    BUNVESPO_NOT_VALID = 5,           /* matrix not valid [every call] */
-    BUNVESPO_CODE = 6,                /* code not 1 to 13 [command, run] */
-    BUNVESPO_BOUNDS = 7,              /* i or s >= n, o >= n + p, k > 6, right > 15, unused field not 0, trust bit >= n
-                                         [held, command, run, safety] */
-    BUNVESPO_INITIATOR_ABSENT = 8,    /* initiator absent [command, run] */
-    BUNVESPO_KIND = 9,                /* o of the wrong kind (3, 6 subject; 7, 10, 11 plain) [command, run] */
-    BUNVESPO_NAME_ABSENT = 10,        /* s or o absent where needed [command, run] */
-    BUNVESPO_NAME_EXISTS = 11,        /* name to create exists [command, run] */
-    BUNVESPO_RIGHT_LACKING = 12,      /* i lacks the right needed [command, run] */
-    BUNVESPO_WALK_MEETS = 13,         /* walk meets o: code 3, the owner walk from s [command, run] */
-    BUNVESPO_OTHER_CONTROLLER = 14,   /* o has another controller: code 6 [command, run] */
-    BUNVESPO_BUFFER_SHORT = 15,       /* buffer under 5 + 6 (n + 2) bytes [safety] */
-    BUNVESPO_LIST_FORM = 16           /* list under 5 bytes, version, L, or a length byte wrong; L over 60,000 or no multiple
-                                         of 6 [run] */
-};
+#define BUNVESPO_VERSION_MAJOR 0
+#define BUNVESPO_VERSION_MINOR 2
+#define BUNVESPO_VERSION_PATCH 0
+#define BUNVESPO_LIBRARY_VERSION (BUNVESPO_VERSION_MAJOR * 1000000 + BUNVESPO_VERSION_MINOR * 1000 + BUNVESPO_VERSION_PATCH)
 
 /*
- * RIGHTS, by code: the bit number in the cell, bit 0 lowest. A right is held if its bit is set, or, for a plain basic right,
- * if the starred bit is. The star is the copy flag: who has r* over o may transfer r and r* over it.
- */
-#define BUNVESPO_OWN 0u
-#define BUNVESPO_CONTROL 1u
-#define BUNVESPO_PLAIN(k) (2u + 2u * (k))   /* basic right k, 0 to 6: codes 2, 4, .. 14 */
-#define BUNVESPO_STARRED(k) (3u + 2u * (k)) /* basic right k with the star: codes 3, 5, .. 15 */
-
-/*
- * COMMANDS, by code. Fields: initiator i, subject s, column o, basic right k (0 to 6). A field that a command doesn't use
- * is 0. The initiator, and all names not being created, must exist.
- *                             uses     allowed if                                       change
+ * REFUSALS. The answer is the lowest number whose condition holds; only bunvespo_run tests 16 before its first command. The words
+ * of each condition are those of bunvespo_refusal_words. Here stand the calls that give the number, and what the words leave out.
+ * bunvespo_valid never refuses. Like the codes below these are enumerators, for programs and not for #if.
  */
 enum {
-    BUNVESPO_TRANSFER = 1,          /* i s o k  i has r* over o                                  s gains r over o */
-    BUNVESPO_TRANSFER_STARRED = 2,  /* i s o k  i has r* over o                                  s gains r* over o */
-    BUNVESPO_TRANSFER_OWN = 3,      /* i s o    i owns subject o; the walk from s doesn't meet o s gains own, i loses it */
-    BUNVESPO_GRANT = 4,             /* i s o k  i owns o                                         s gains r over o */
-    BUNVESPO_GRANT_STARRED = 5,     /* i s o k  i owns o                                         s gains r* over o */
-    BUNVESPO_GRANT_CONTROL = 6,     /* i s o    i owns subject o; none but o controls o          s gains control */
-    BUNVESPO_GRANT_OWN = 7,         /* i s o    i owns plain o                                   s gains own too */
-    BUNVESPO_DELETE = 8,            /* i s o k  i owns o or controls s                           s loses the bit of r over o */
-    BUNVESPO_DELETE_STARRED = 9,    /* i s o k  i owns o or controls s                           s loses the bit of r* over o */
-    BUNVESPO_CREATE_OBJECT = 10,    /* i o      plain o absent                                   i owns o */
-    BUNVESPO_DESTROY_OBJECT = 11,   /* i o      i owns plain o                                   column cleared */
-    BUNVESPO_CREATE_SUBJECT = 12,   /* i s      s absent                                         i owns s, s controls itself */
-    BUNVESPO_DESTROY_SUBJECT = 13   /* i s      i owns s                       i gains own over all that s owns; row and
-                                                                               column s cleared */
+    BUNVESPO_ANSWERED = 0,                  /* not refused */
+    BUNVESPO_REFUSED_RECORD_SHORT = 1,      /* held, command, run, safety */
+    BUNVESPO_REFUSED_VERSION = 2,           /* held, command, run, safety */
+    BUNVESPO_REFUSED_COUNTS = 3,            /* held, command, run, safety */
+    BUNVESPO_REFUSED_RECORD_LENGTH = 4,     /* held, command, run, safety */
+    BUNVESPO_REFUSED_NOT_VALID = 5,         /* held, command, run, safety: one of the five conditions above fails */
+    BUNVESPO_REFUSED_CODE = 6,              /* command, run: codes are 1 to 13 */
+    BUNVESPO_REFUSED_BOUNDS = 7,            /* held, command, run, safety: subjects and trust bits are below n, columns below n + p,
+                                               k is at most 6, a right at most 15 */
+    BUNVESPO_REFUSED_INITIATOR_ABSENT = 8,  /* command, run */
+    BUNVESPO_REFUSED_KIND = 9,              /* command, run: codes 3 and 6 take a subject, 7, 10 and 11 a plain object */
+    BUNVESPO_REFUSED_NAME_ABSENT = 10,      /* command, run */
+    BUNVESPO_REFUSED_NAME_EXISTS = 11,      /* command, run: codes 10 and 12 */
+    BUNVESPO_REFUSED_RIGHT_LACKING = 12,    /* command, run */
+    BUNVESPO_REFUSED_WALK_MEETS = 13,       /* command, run: code 3 */
+    BUNVESPO_REFUSED_OTHER_CONTROLLER = 14, /* command, run: code 6 */
+    BUNVESPO_REFUSED_BUFFER_SHORT = 15,     /* safety */
+    BUNVESPO_REFUSED_LIST_FORM = 16         /* run: fewer than 5 bytes, a version other than 1, a command that does not begin with 05, or
+                                               an L above 60,000, not divisible by six, or not the number of bytes after it */
 };
 
-/* The limits of a record, and the bytes of buffer that a safety question on a record of n subject names asks for. */
-#define BUNVESPO_MOST_SUBJECTS 64u
-#define BUNVESPO_MOST_PLAIN 192u
-#define BUNVESPO_BUFFER_SIZE(n) (5u + 6u * ((n) + 2u))
+/* A refusal in words, without a full stop. Any number has some: 0 and those above 16 are told so. The text is never freed. */
+static inline const char *bunvespo_refusal_words(uint64_t refusal)
+{
+    switch (refusal) {
+    case BUNVESPO_ANSWERED: return "not refused";
+    case BUNVESPO_REFUSED_RECORD_SHORT: return "the record has fewer than 7 bytes";
+    case BUNVESPO_REFUSED_VERSION: return "the record's version is not 1";
+    case BUNVESPO_REFUSED_COUNTS: return "the record's n is not 1 to 64, or its p is above 192";
+    case BUNVESPO_REFUSED_RECORD_LENGTH: return "the record's L or its length does not fit its n and p";
+    case BUNVESPO_REFUSED_NOT_VALID: return "the record's matrix is not valid";
+    case BUNVESPO_REFUSED_CODE: return "no command has this code";
+    case BUNVESPO_REFUSED_BOUNDS:
+        return "a name or trust bit is beyond the record, k or the right is out of range, or an unused field is not 0";
+    case BUNVESPO_REFUSED_INITIATOR_ABSENT: return "the initiator does not exist";
+    case BUNVESPO_REFUSED_KIND: return "o is not of the kind that the command takes";
+    case BUNVESPO_REFUSED_NAME_ABSENT: return "s or o does not exist";
+    case BUNVESPO_REFUSED_NAME_EXISTS: return "the name to be created exists already";
+    case BUNVESPO_REFUSED_RIGHT_LACKING: return "the initiator lacks the right that the command asks for";
+    case BUNVESPO_REFUSED_WALK_MEETS: return "the owner walk from s meets o";
+    case BUNVESPO_REFUSED_OTHER_CONTROLLER: return "somebody else controls o already";
+    case BUNVESPO_REFUSED_BUFFER_SHORT: return "the buffer has fewer than 5 + 6 (n + 2) bytes";
+    case BUNVESPO_REFUSED_LIST_FORM: return "the list is not of the right form";
+    default: return "no refusal has this number";
+    }
+}
+
+/*
+ * RIGHTS, by code, which is the number of the right's bit in a cell (0 is the lowest bit). The star is a copy flag: with r* over o
+ * one may transfer r and r* over it. To hold a right is to have its bit, or to have r* where r is asked for.
+ * A k that is out of range, negative too, gives BUNVESPO_NO_RIGHT, which every call refuses by 7. The macros evaluate k twice.
+ */
+#define BUNVESPO_OWN UINT64_C(0)
+#define BUNVESPO_CONTROL UINT64_C(1)
+#define BUNVESPO_NO_RIGHT UINT64_MAX
+#define BUNVESPO_PLAIN(k) ((uint64_t)(k) > 6 ? BUNVESPO_NO_RIGHT : 2 + 2 * (uint64_t)(k))   /* basic right k: 2, 4, .. 14 */
+#define BUNVESPO_STARRED(k) ((uint64_t)(k) > 6 ? BUNVESPO_NO_RIGHT : 3 + 2 * (uint64_t)(k)) /* with the star: 3, 5, .. 15 */
+
+/*
+ * COMMANDS, by code, with the fields that each uses; fields left out are 0. i is the initiator, s a subject, o a column, k the
+ * number of a basic right r. Whoever is named must exist, but for the name that codes 10 and 12 make.
+ */
+enum {
+    BUNVESPO_TRANSFER = 1,          /* i s o k  i, with r* over o, gives s r over o */
+    BUNVESPO_TRANSFER_STARRED = 2,  /* i s o k  i, with r* over o, gives s r* over o */
+    BUNVESPO_TRANSFER_OWN = 3,      /* i s o    i, the owner of subject o, makes s the owner; o may not be s or above s */
+    BUNVESPO_GRANT = 4,             /* i s o k  i, an owner of o, gives s r over o */
+    BUNVESPO_GRANT_STARRED = 5,     /* i s o k  i, an owner of o, gives s r* over o */
+    BUNVESPO_GRANT_CONTROL = 6,     /* i s o    i, the owner of subject o, gives s control of it if o alone has that */
+    BUNVESPO_GRANT_OWN = 7,         /* i s o    i, an owner of plain object o, makes s one more owner */
+    BUNVESPO_DELETE = 8,            /* i s o k  i, an owner of o or in control of s, takes r over o from s; r* stays */
+    BUNVESPO_DELETE_STARRED = 9,    /* i s o k  i, an owner of o or in control of s, takes r* over o from s; r stays */
+    BUNVESPO_CREATE_OBJECT = 10,    /* i o      i makes plain object o and owns it */
+    BUNVESPO_DESTROY_OBJECT = 11,   /* i o      i, an owner of plain object o, destroys it: its column becomes zero */
+    BUNVESPO_CREATE_SUBJECT = 12,   /* i s      i makes subject s and owns it; s has control of itself */
+    BUNVESPO_DESTROY_SUBJECT = 13   /* i s      i, the owner of subject s, destroys it: i owns what s owned, and row and column s
+                                                become zero */
+};
+
+/* The limits of a record, and the bytes of buffer that a safety question asks for on a record of n subject names. With more than
+   64 it is the size for 64, which is enough for every record. */
+#define BUNVESPO_MOST_SUBJECTS 64
+#define BUNVESPO_MOST_PLAIN 192
+#define BUNVESPO_BUFFER_SIZE(n) (5 + 6 * (2 + ((size_t)(n) > BUNVESPO_MOST_SUBJECTS ? (size_t)BUNVESPO_MOST_SUBJECTS : (size_t)(n))))
 
 /* An answer, by value. refusal: 0 where the call is answered, else the number above. value: as said at each call. */
 typedef struct {
@@ -106,7 +155,7 @@ typedef struct {
     uint64_t value;
 } bunvespo_answer;
 
-/* Whether a record is valid: 1, or 0 exactly where 1 to 5 would turn it down. Never a refusal. */
+/* Whether a record is valid: 1, or 0 where the other calls would refuse it by a number from 1 to 5. */
 uint64_t bunvespo_valid(const uint8_t *record, size_t record_len);
 
 /*
@@ -130,8 +179,8 @@ bunvespo_answer bunvespo_command(uint8_t *record, size_t record_len, uint64_t co
 bunvespo_answer bunvespo_run(uint8_t *record, size_t record_len, const uint8_t *list, size_t list_len);
 
 /*
- * The safety question: can subject s ever come to hold a right over column o, if subjects of the trust mask (bit s set:
- * subject s is trusted, existing or not) begin no command? Refusals: 1 to 5, 7, 15.
+ * The safety question: can subject s ever come to hold a right over column o, if the trusted subjects begin no command? Bit j of
+ * trust says that subject j is trusted, whether or not it exists now. Refusals: 1 to 5, 7, 15.
  * value: 0 safe; N + 1 leaks by N commands, at most n + 2, so that 1 means held already; 0 with a refusal.
  * On "leaks" the N commands stand as a list at the start of out, 5 + 6 N bytes: each is begun by an untrusted subject and
  * accepted in turn, and after them the right is held. Later bytes of out, and all of it on "safe" or a refusal, are

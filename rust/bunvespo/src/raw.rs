@@ -1,10 +1,16 @@
 //! The five exports of the archive, as `include/bunvespo.h` declares them. A slice is a pointer and then its length.
+//!
+//! # Safety
+//! Each pointer and length are those of bytes that may be read, or written where the pointer is `*mut`, and that overlap no other
+//! slice of the call that is written. With length 0 any pointer will do, null too.
 
 /// A refusal, 0 where the call is answered, and a value.
 #[repr(C)]
 #[derive(Clone, Copy, Debug, PartialEq, Eq)]
 pub struct Answer {
+    /// 0, or the number of a [`Refusal`](crate::Refusal).
     pub refusal: u64,
+    /// What each call says that it is.
     pub value: u64,
 }
 

@@ -1,9 +1,12 @@
 //! The examples of the scope paper on its stations A and B, asked through the safe calls.
 
 use bunvespo::{
-    CONTROL, Command, OWN, Outcome, Refusal, Safety, buffer_size, command, commands, encode, held,
-    plain, run, safety, starred, valid,
+    Basic, Command, CommandRefused, Refusal, Right, RunRefused, Safety, buffer_size, command,
+    commands, encode, held, run, safety, valid,
 };
+
+const R0: Right = Right::Plain(Basic::R0);
+const R0_STARRED: Right = Right::Starred(Basic::R0);
 
 const A: [u8; 31] = [
     1, 0, 0, 0, 0x1A, 3, 1, 0, 2, 0, 1, 0, 0, 0, 0, 0, 0, 0, 2, 0, 1, 0, 0, 0, 0, 0, 0, 0, 2, 0, 1,
@@ -17,25 +20,21 @@ fn with(mut record: [u8; 31], place: usize, value: u8) -> [u8; 31] {
     record
 }
 
-/// The refusal of one command, and the record unchanged by it.
+/// The refusal of one command and its links, and the record unchanged by it.
 fn refused(record: &[u8], c: Command) -> (Refusal, u64) {
     let mut copy = record.to_vec();
-    let answer = command(&mut copy, c);
+    let CommandRefused { refusal, links } = command(&mut copy, c).unwrap_err();
     assert_eq!(copy, record, "a refused command changes no byte");
-    answer.unwrap_err()
+    (refusal, links)
 }
 
 /// The answer to a question on A with a buffer of the right size, and its commands.
-fn asked(record: &[u8], trust: u64, s: u64, o: u64, right: u64) -> (Safety, Vec<Command>) {
+fn asked(record: &[u8], trust: u64, s: u64, o: u64, right: Right) -> (Safety, Vec<Command>) {
     let mut out = [0xEE; buffer_size(3)];
     let answer = safety(record, trust, s, o, right, &mut out).unwrap();
-    let count = match answer {
-        Safety::Safe => 0,
-        Safety::Leaks(count) => count as usize,
-    };
-    let written = match answer {
-        Safety::Safe => 0,
-        Safety::Leaks(_) => 5 + 6 * count,
+    let (count, written) = match answer {
+        Safety::Safe => (0, 0),
+        Safety::Leaks(count) => (count, 5 + 6 * count as usize),
     };
     assert!(out[written..].iter().all(|&byte| byte == 0xEE));
     (answer, commands(&out, count).collect())
@@ -54,25 +53,33 @@ fn validity() {
 fn records_turned_down() {
     let longer = [&A[..], &[0]].concat();
     let short = [1, 0, 0, 0, 4, 1];
-    assert_eq!(held(&short, 0, 0, OWN), Err(Refusal::RecordShort));
-    assert_eq!(held(&with(A, 0, 2), 0, 0, OWN), Err(Refusal::Version));
-    assert_eq!(held(&with(A, 5, 0), 0, 0, OWN), Err(Refusal::Counts));
-    assert_eq!(held(&longer, 0, 0, OWN), Err(Refusal::RecordLength));
-    assert_eq!(held(&with(A, 8, 0), 0, 0, OWN), Err(Refusal::NotValid));
+    assert_eq!(held(&short, 0, 0, Right::Own), Err(Refusal::RecordShort));
+    assert_eq!(
+        held(&with(A, 0, 2), 0, 0, Right::Own),
+        Err(Refusal::Version)
+    );
+    assert_eq!(held(&with(A, 5, 0), 0, 0, Right::Own), Err(Refusal::Counts));
+    assert_eq!(held(&longer, 0, 0, Right::Own), Err(Refusal::RecordLength));
+    assert_eq!(
+        held(&with(A, 8, 0), 0, 0, Right::Own),
+        Err(Refusal::NotValid)
+    );
 }
 
 #[test]
 fn rights_held() {
-    assert_eq!(held(&A, 0, 1, OWN), Ok(true));
-    assert_eq!(held(&A, 0, 2, OWN), Ok(false));
-    assert_eq!(held(&A, 2, 2, CONTROL), Ok(true));
-    assert_eq!(held(&A, 2, 3, plain(0)), Ok(false));
+    assert_eq!(held(&A, 0, 1, Right::Own), Ok(true));
+    assert_eq!(held(&A, 0, 2, Right::Own), Ok(false));
+    assert_eq!(held(&A, 2, 2, Right::Control), Ok(true));
+    assert_eq!(held(&A, 2, 3, R0), Ok(false));
     let mut copy = A;
-    assert_eq!(command(&mut copy, Command::new(5, 2, 0, 3, 6)), Ok(0));
-    assert_eq!(held(&copy, 0, 3, plain(6)), Ok(true));
-    assert_eq!(held(&copy, 0, 3, starred(6)), Ok(true));
-    assert_eq!(held(&A, 3, 0, OWN), Err(Refusal::Bounds));
-    assert_eq!(held(&A, 256, 0, OWN), Err(Refusal::Bounds));
+    let grant = Command::grant_starred(2, 0, 3, Basic::R6);
+    assert_eq!(command(&mut copy, grant), Ok(0));
+    assert_eq!(held(&copy, 0, 3, Right::Plain(Basic::R6)), Ok(true));
+    assert_eq!(held(&copy, 0, 3, Right::Starred(Basic::R6)), Ok(true));
+    assert_eq!(held(&A, 3, 0, Right::Own), Err(Refusal::Bounds));
+    assert_eq!(held(&A, 256, 0, Right::Own), Err(Refusal::Bounds));
+    assert_eq!(held(&A, 0, u64::MAX, Right::Own), Err(Refusal::Bounds));
 }
 
 #[test]
@@ -105,55 +112,37 @@ fn commands_turned_down() {
 #[test]
 fn ownership_transferred_to_its_owner() {
     let mut copy = A;
-    assert_eq!(command(&mut copy, Command::new(3, 1, 1, 2, 0)), Ok(1));
+    assert_eq!(command(&mut copy, Command::transfer_own(1, 1, 2)), Ok(1));
     assert_eq!(copy, A);
 }
 
 #[test]
 fn lists_run() {
-    let list = encode(&[
-        Command::new(13, 1, 2, 0, 0),
-        Command::new(4, 1, 1, 3, 0),
-        Command::new(13, 1, 2, 0, 0),
-    ])
-    .unwrap();
+    let destroy = Command::destroy_subject(1, 2);
+    let list = encode(&[destroy, Command::grant(1, 1, 3, Basic::R0), destroy]).unwrap();
     let mut copy = A;
-    let outcome = run(&mut copy, &list);
-    let refusal = Some(Refusal::NameAbsent);
-    assert_eq!(
-        outcome,
-        Outcome {
-            accepted: 2,
-            refusal
-        }
-    );
-    assert_eq!(held(&copy, 1, 3, plain(0)), Ok(true));
-    let refusal = Some(Refusal::ListForm);
+    let (refusal, accepted) = (Refusal::NameAbsent, 2);
+    assert_eq!(run(&mut copy, &list), Err(RunRefused { refusal, accepted }));
+    assert_eq!(held(&copy, 1, 3, R0), Ok(true));
+    let (refusal, accepted) = (Refusal::ListForm, 0);
     for wrong in [&[][..], &[1, 0, 0, 0, 1, 5][..]] {
-        let outcome = run(&mut copy, wrong);
-        assert_eq!(
-            outcome,
-            Outcome {
-                accepted: 0,
-                refusal
-            }
-        );
+        let answer = run(&mut copy, wrong);
+        assert_eq!(answer, Err(RunRefused { refusal, accepted }));
     }
-    let nothing = run(&mut copy, &[1, 0, 0, 0, 0]);
-    assert_eq!((nothing.accepted, nothing.refusal), (0, None));
+    assert_eq!(run(&mut copy, &[1, 0, 0, 0, 0]), Ok(0));
 }
 
 #[test]
 fn questions_answered() {
-    assert_eq!(asked(&A, 7, 1, 3, plain(0)).0, Safety::Safe);
-    assert_eq!(asked(&A, 1, 1, 1, OWN).0, Safety::Safe);
-    assert_eq!(asked(&A, 7, 2, 3, OWN).0, Safety::Leaks(0));
-    assert_eq!(asked(&B, 1, 1, 2, starred(0)).0, Safety::Safe);
+    assert_eq!(asked(&A, 7, 1, 3, R0).0, Safety::Safe);
+    assert_eq!(asked(&A, 1, 1, 1, Right::Own).0, Safety::Safe);
+    assert_eq!(asked(&A, 7, 2, 3, Right::Own).0, Safety::Leaks(0));
+    assert_eq!(asked(&B, 1, 1, 2, R0_STARRED).0, Safety::Safe);
     for (record, trust, s, o, right) in [
-        (&A[..], 5, 1, 3, plain(0)),
-        (&A[..], 6, 0, 2, OWN),
-        (&A[..], 6, 2, 1, OWN),
-        (&B[..], 0, 1, 2, starred(0)),
+        (&A[..], 5, 1, 3, R0),
+        (&A[..], 6, 0, 2, Right::Own),
+        (&A[..], 6, 2, 1, Right::Own),
+        (&B[..], 0, 1, 2, R0_STARRED),
     ] {
         let (answer, list) = asked(record, trust, s, o, right);
         assert_eq!(answer, Safety::Leaks(list.len() as u64));
@@ -169,20 +158,8 @@ fn questions_answered() {
 #[test]
 fn questions_turned_down() {
     let short = &mut [0; 34];
-    let refusal = safety(&A, 7, 1, 3, 2, short);
+    let refusal = safety(&A, 7, 1, 3, R0, short);
     assert_eq!(refusal, Err(Refusal::BufferShort));
-    assert_eq!(safety(&A, 8, 1, 3, 2, &mut []), Err(Refusal::Bounds));
-    assert_eq!(safety(&A, 7, 1, 3, 2, &mut [0; 35]), Ok(Safety::Safe));
-}
-
-#[test]
-fn refusals_and_their_numbers() {
-    for (place, refusal) in Refusal::ALL.into_iter().enumerate() {
-        assert_eq!(usize::from(refusal.number()), place + 1);
-        assert_eq!(Refusal::from_number(place as u64 + 1), Some(refusal));
-    }
-    assert_eq!(Refusal::from_number(0), None);
-    assert_eq!(Refusal::from_number(17), None);
-    let said = Refusal::Version.to_string();
-    assert_eq!(said, "refused 2: version not 1");
+    assert_eq!(safety(&A, 8, 1, 3, R0, &mut []), Err(Refusal::Bounds));
+    assert_eq!(safety(&A, 7, 1, 3, R0, &mut [0; 35]), Ok(Safety::Safe));
 }

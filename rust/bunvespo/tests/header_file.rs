@@ -1,0 +1,85 @@
+//! The C header and this crate say the same: version, refusals and their words, codes of commands and rights, limits.
+
+use bunvespo::{MOST_PLAIN, MOST_SUBJECTS, Refusal, buffer_size, code};
+
+const HEADER: &str = include_str!("../../../include/bunvespo.h");
+
+/// The words of each refusal, one a line after its number, which the header's own test prints.
+const WORDS: &str = include_str!("../../../tests/c_interface/refusal_words");
+
+/// The rest of the header's line that begins with a text, up to a comma, a blank or the end.
+fn after(start: &str) -> &'static str {
+    let line = HEADER.lines().find_map(|l| l.trim().strip_prefix(start));
+    let rest = line.unwrap_or_else(|| panic!("the header has no line that begins with {start}"));
+    rest.split([',', ' ']).next().unwrap()
+}
+
+/// The number of an enumerator of the header.
+fn enumerator(name: &str) -> u64 {
+    after(&format!("BUNVESPO_{name} = ")).parse().unwrap()
+}
+
+/// A name of Rust as C writes it: RecordShort is RECORD_SHORT.
+fn in_capitals(name: &str) -> String {
+    let mut text = String::new();
+    for letter in name.chars() {
+        if letter.is_uppercase() && !text.is_empty() {
+            text.push('_');
+        }
+        text.push(letter.to_ascii_uppercase());
+    }
+    text
+}
+
+#[test]
+fn version() {
+    let number = |part: &str| after(&format!("#define BUNVESPO_VERSION_{part} "));
+    let numbers = [number("MAJOR"), number("MINOR"), number("PATCH")];
+    assert_eq!(numbers.join("."), env!("CARGO_PKG_VERSION"));
+}
+
+#[test]
+fn refusals() {
+    for refusal in Refusal::ALL {
+        let name = format!("REFUSED_{}", in_capitals(&format!("{refusal:?}")));
+        assert_eq!(enumerator(&name), u64::from(refusal.number()));
+    }
+    assert_eq!(HEADER.matches("    BUNVESPO_REFUSED_").count(), 16);
+}
+
+#[test]
+fn words_of_refusals() {
+    let lines = Refusal::ALL.map(|r| format!("{} {}\n", r.number(), r.words()));
+    assert_eq!(lines.concat(), WORDS);
+}
+
+#[test]
+fn codes() {
+    let codes = [
+        ("TRANSFER", code::TRANSFER),
+        ("TRANSFER_STARRED", code::TRANSFER_STARRED),
+        ("TRANSFER_OWN", code::TRANSFER_OWN),
+        ("GRANT", code::GRANT),
+        ("GRANT_STARRED", code::GRANT_STARRED),
+        ("GRANT_CONTROL", code::GRANT_CONTROL),
+        ("GRANT_OWN", code::GRANT_OWN),
+        ("DELETE", code::DELETE),
+        ("DELETE_STARRED", code::DELETE_STARRED),
+        ("CREATE_OBJECT", code::CREATE_OBJECT),
+        ("DESTROY_OBJECT", code::DESTROY_OBJECT),
+        ("CREATE_SUBJECT", code::CREATE_SUBJECT),
+        ("DESTROY_SUBJECT", code::DESTROY_SUBJECT),
+    ];
+    for (place, (name, code)) in codes.into_iter().enumerate() {
+        assert_eq!((enumerator(name), code), (code, place as u64 + 1));
+    }
+}
+
+#[test]
+fn limits() {
+    let number = |name: &str| after(&format!("#define BUNVESPO_MOST_{name} "));
+    assert_eq!(number("SUBJECTS"), MOST_SUBJECTS.to_string());
+    assert_eq!(number("PLAIN"), MOST_PLAIN.to_string());
+    assert_eq!(buffer_size(MOST_SUBJECTS), 401);
+    assert_eq!(buffer_size(u8::MAX), 5 + 6 * 257);
+}

@@ -1,0 +1,79 @@
+/*
+ * Prints each refusal's number and words, for tests/c_interface/run to compare with the file refusal_words, and tests the rest of what
+ * the header has besides the calls: words of other numbers, codes of rights, sizes of buffers, the version. It is built together with
+ * other_unit.c, which includes the header too, as C and as C++.
+ */
+#include <inttypes.h>
+#include <stdio.h>
+#include <string.h>
+
+#include "bunvespo.h"
+#include "other_unit.h"
+
+#ifdef BUNVESPO_VERSION
+#error "BUNVESPO_VERSION was a refusal once, and must mean nothing else now"
+#endif
+#if BUNVESPO_LIBRARY_VERSION < 2000
+#error "the version can't be tested by #if"
+#endif
+
+static int failures = 0;
+
+/* Counts and prints a test that fails. */
+static void expect(const char *what, int right)
+{
+    if (!right) {
+        fprintf(stderr, "refusals: %s\n", what);
+        failures++;
+    }
+}
+
+/* Whether a number has these words, and the same in the other unit. */
+static int has_words(uint64_t number, const char *words)
+{
+    return strcmp(bunvespo_refusal_words(number), words) == 0 && strcmp(words_elsewhere(number), words) == 0;
+}
+
+/* The words of all refusals, and of numbers that are none. */
+static void test_words(void)
+{
+    for (uint64_t number = 1; number <= 16; number++) {
+        printf("%" PRIu64 " %s\n", number, bunvespo_refusal_words(number));
+        expect("words differ in the other unit", has_words(number, bunvespo_refusal_words(number)));
+    }
+    expect("the words of 0", has_words(BUNVESPO_ANSWERED, "not refused"));
+    const uint64_t unknown[] = {17, 255, 256, UINT64_C(0x100000001), UINT64_MAX};
+    for (size_t j = 0; j < sizeof unknown / sizeof unknown[0]; j++) {
+        expect("the words of an unknown number", has_words(unknown[j], "no refusal has this number"));
+    }
+}
+
+/* The codes of rights; a k out of range is no right, whatever its type. */
+static void test_rights(void)
+{
+    const uint64_t starred_constant = BUNVESPO_STARRED(6);
+    expect("own and control", BUNVESPO_OWN == 0 && BUNVESPO_CONTROL == 1);
+    expect("the last right", BUNVESPO_PLAIN(6) == 14 && starred_constant == 15);
+    for (int k = 0; k <= 6; k++) {
+        expect("a basic right", BUNVESPO_PLAIN(k) == (uint64_t)(2 + 2 * k) && BUNVESPO_STARRED(k) == (uint64_t)(3 + 2 * k));
+    }
+    int negative = -1;
+    unsigned wide = 0x7FFFFFFFu;
+    expect("k = 7", BUNVESPO_PLAIN(7) == BUNVESPO_NO_RIGHT && BUNVESPO_STARRED(7) == BUNVESPO_NO_RIGHT);
+    expect("k = -1", BUNVESPO_PLAIN(negative) == BUNVESPO_NO_RIGHT && BUNVESPO_STARRED(negative) == BUNVESPO_NO_RIGHT);
+    expect("2 + 2 k beyond 32 bits", BUNVESPO_PLAIN(wide) == BUNVESPO_NO_RIGHT);
+    expect("2 + 2 k beyond 64 bits", BUNVESPO_PLAIN(UINT64_MAX) == BUNVESPO_NO_RIGHT);
+    expect("no right is refused", held_elsewhere(BUNVESPO_NO_RIGHT).refusal == BUNVESPO_REFUSED_BOUNDS);
+    expect("U has control of itself", held_elsewhere(BUNVESPO_CONTROL).value == 1);
+}
+
+int main(void)
+{
+    static uint8_t out[BUNVESPO_BUFFER_SIZE(BUNVESPO_MOST_SUBJECTS)];
+    test_words();
+    test_rights();
+    expect("the buffer for 64 subjects", sizeof out == 401);
+    expect("the buffer for 1 subject", BUNVESPO_BUFFER_SIZE(1) == 23);
+    expect("a buffer's size never wraps", BUNVESPO_BUFFER_SIZE(SIZE_MAX) == sizeof out);
+    return failures != 0;
+}
