@@ -1,6 +1,6 @@
 //! What differs between two records: names made and gone, and bits set and cleared.
 
-use crate::library::{basic, held};
+use crate::library::{MOST_SUBJECTS, Right, held};
 use crate::names::{Names, listed};
 use crate::record::{Name, Record};
 
@@ -9,7 +9,7 @@ use crate::record::{Name, Record};
 pub struct Moved {
     pub login: u64,
     pub over: Name,
-    pub right: u64,
+    pub right: Right,
     /// Set in the new record; otherwise in the old one.
     pub gained: bool,
     /// Held in the new record, though the bit is cleared: the starred right is there.
@@ -29,6 +29,9 @@ impl Changes {
     pub fn is_empty(&self) -> bool {
         self.made.is_empty() && self.gone.is_empty() && self.moved.is_empty()
     }
+
+    /// The logins that a record may have, to go over what differs login by login.
+    pub const LOGINS: std::ops::Range<u64> = 0..MOST_SUBJECTS as u64;
 
     /// The moves of one login.
     pub fn of_login(&self, login: u64, gained: bool) -> Vec<Moved> {
@@ -87,9 +90,9 @@ fn cell(record: &Record, login: u64, over: Name) -> u16 {
 
 fn push_moves(moved: &mut Vec<Moved>, new: &Record, at: (u64, Name), before: u16, after: u16) {
     let (login, over) = at;
-    for right in 0..16 {
-        if (before ^ after) >> right & 1 == 1 {
-            let gained = after >> right & 1 == 1;
+    for right in Right::ALL {
+        if right.in_cell(before ^ after) {
+            let gained = right.in_cell(after);
             moved.push(Moved {
                 login,
                 over,
@@ -101,7 +104,7 @@ fn push_moves(moved: &mut Vec<Moved>, new: &Record, at: (u64, Name), before: u16
     }
 }
 
-fn is_held(record: &Record, login: u64, over: Name, right: u64) -> bool {
+fn is_held(record: &Record, login: u64, over: Name, right: Right) -> bool {
     let (Name::Login(column) | Name::Log(column)) = over;
     has(record, over) && held(&record.bytes, login, column, right) == Ok(true)
 }
@@ -138,11 +141,11 @@ fn told_part(part: &[Moved], names: &Names) -> String {
         other => names.name(other),
     }));
     let verb = if gained { "gains" } else { "loses" };
-    let rest = if still_held {
-        let star = names.right(basic((right - 2) / 2, true));
-        format!(", but still holds it by {star}")
-    } else {
-        String::new()
+    let rest = match right {
+        Right::Plain(k) if still_held => {
+            format!(", but still holds it by {}", names.right(Right::Starred(k)))
+        }
+        _ => String::new(),
     };
     format!("{verb} {} over {over}{rest}", names.right(right))
 }

@@ -1,6 +1,8 @@
 //! The commands that `run` is given: text of one command a line, or the bytes of a list.
 
-use crate::library::{Command, MOST_COMMANDS, Refusal, command, commands_of, list_of, run_list};
+use crate::library::{
+    Command, CommandRefused, EncodeError, MOST_COMMANDS, Refusal, command, commands, encode, run,
+};
 use crate::names::Names;
 use crate::record::Record;
 use crate::sentence;
@@ -17,8 +19,8 @@ pub struct Commands {
 pub enum Ran {
     /// All were accepted.
     Whole,
-    /// So many were accepted, and the next was refused, with the links of its owner walk.
-    Refused(usize, Refusal, u64),
+    /// So many were accepted, and the next was refused.
+    Refused(usize, CommandRefused),
     /// The list is of the wrong form (16), and nothing was run.
     NoList,
 }
@@ -39,7 +41,7 @@ pub fn read(bytes: Vec<u8>, record: &Record, names: &Names) -> Result<Commands, 
         }),
         None => Ok(Commands {
             place: "command",
-            numbered: (1..).zip(commands_of(&bytes)).collect(),
+            numbered: (1..).zip(commands(&bytes, MOST_COMMANDS as u64)).collect(),
             list: Some(bytes),
         }),
     }
@@ -63,43 +65,48 @@ impl Commands {
     /// Runs them on a record, which keeps what is accepted. A text of more commands than a list has is run in pieces.
     pub fn run(&self, record: &mut Record) -> Ran {
         if let Some(list) = &self.list {
-            return match run_list(&mut record.bytes, list) {
-                (_, None) => Ran::Whole,
-                (_, Some(Refusal::ListForm)) => Ran::NoList,
-                (accepted, Some(refusal)) => self.refused(accepted as usize, refusal, record),
+            return match run(&mut record.bytes, list) {
+                Ok(_) => Ran::Whole,
+                Err(refused) if refused.refusal == Refusal::ListForm => Ran::NoList,
+                Err(refused) => self.refused(refused.accepted as usize, record),
             };
         }
         let commands: Vec<Command> = self.numbered.iter().map(|(_, c)| *c).collect();
         let mut done = 0;
         while done < commands.len() {
-            let rest = &commands[done..];
-            let fitting = rest
-                .iter()
-                .take(MOST_COMMANDS)
-                .take_while(|c| list_of(&[**c]).is_some());
-            // A number above 255 stands in no list, so such a command is run by itself.
-            let (accepted, refusal) = match list_of(&rest[..fitting.count()]) {
-                Some(list) if list.len() > 5 => run_list(&mut record.bytes, &list),
-                _ => match command(&mut record.bytes, rest[0]) {
-                    Ok(()) => (1, None),
-                    Err((refusal, _)) => (0, Some(refusal)),
-                },
-            };
-            done += accepted as usize;
-            if let Some(refusal) = refusal {
-                return self.refused(done, refusal, record);
+            let (list, count) = piece(&commands[done..]);
+            if let Err(refused) = run(&mut record.bytes, &list) {
+                return self.refused(done + refused.accepted as usize, record);
+            }
+            done += count;
+            if count == 0 {
+                return self.refused(done, record);
             }
         }
         Ran::Whole
     }
 
-    /// The refused command, asked once more by itself for its links.
-    fn refused(&self, accepted: usize, refusal: Refusal, record: &Record) -> Ran {
+    /// Asks for the command that ended a run once more by itself, which tells the links of its owner walk and changes nothing.
+    fn refused(&self, accepted: usize, record: &Record) -> Ran {
         let mut copy = record.bytes.clone();
-        let links = match command(&mut copy, self.numbered[accepted].1) {
-            Err((again, links)) if again == refusal => links,
-            _ => 0,
-        };
-        Ran::Refused(accepted, refusal, links)
+        match command(&mut copy, self.numbered[accepted].1) {
+            Err(refused) => Ran::Refused(accepted, refused),
+            Ok(_) => unreachable!("the library refused this command on this record before"),
+        }
     }
+}
+
+/// The longest beginning that one list takes, and its number of commands: it ends before a command with a number above 255, which
+/// stands in no list and is refused by itself.
+fn piece(commands: &[Command]) -> (Vec<u8>, usize) {
+    let most = &commands[..commands.len().min(MOST_COMMANDS)];
+    let count = match encode(most) {
+        Err(EncodeError::Field { place }) => place,
+        _ => most.len(),
+    };
+    let list = encode(&most[..count]);
+    (
+        list.expect("the fields before fit and are few enough"),
+        count,
+    )
 }

@@ -1,8 +1,8 @@
 //! Why a record is refused: the first of the refusals 1 to 5 that holds, and for 5 each place where the matrix is not valid. The
 //! verdict is the library's; a test compares the two on damaged records.
 
-use crate::library::{CONTROL, MOST_BYTES, Refusal};
-use crate::names::{Names, listed};
+use crate::library::{Header, MOST_RECORD, Refusal, Right};
+use crate::names::{Names, counted, listed};
 use crate::record::{Name, Record, rights_in};
 
 /// One reason: the refusal, the names it is about, and a sentence.
@@ -21,58 +21,68 @@ pub fn reasons(bytes: &[u8], refusal: Option<Refusal>, names: &Names) -> Vec<Fau
 
 /// The reasons for which bytes are no valid record, found without the library.
 fn faults(bytes: &[u8], names: &Names) -> Vec<Fault> {
-    match form_fault(bytes) {
-        Some((refusal, sentence)) => vec![Fault {
-            refusal,
-            at: Vec::new(),
-            sentence,
-        }],
-        None => matrix_faults(&Record::shaped(bytes), names),
-    }
+    let (refusal, sentence) = match (form_fault(bytes), Record::shaped(bytes)) {
+        (None, Ok(record)) => return matrix_faults(&record, names),
+        (Some(fault), _) => fault,
+        (None, Err(refusal)) => (refusal.number(), String::from(refusal.words())),
+    };
+    vec![Fault {
+        refusal,
+        at: Vec::new(),
+        sentence,
+    }]
 }
 
 /// Which of the refusals 1 to 4 holds first.
 fn form_fault(bytes: &[u8]) -> Option<(u8, String)> {
-    let length = bytes.len();
-    let &[version, l0, l1, l2, l3, n, p, ..] = bytes else {
-        let sentence = format!("it has {length} of the 7 bytes that a record begins with");
+    let has = bytes.len();
+    let Ok(header) = Header::read(bytes) else {
+        let sentence = format!("it has {has} of the 7 bytes that a record begins with");
         return Some((1, sentence));
     };
+    let Header {
+        version,
+        length,
+        n,
+        p,
+    } = header;
+    let should = header.expected_length();
+    let with = format!(
+        "{} and {}",
+        counted(u64::from(n), "login"),
+        counted(u64::from(p), "log")
+    );
     if version != 1 {
-        return Some((2, format!("its version, byte 0, is {version} and not 1")));
-    }
-    if !(1..=64).contains(&n) {
-        return Some((
+        Some((2, format!("its version, byte 0, is {version} and not 1")))
+    } else if !(1..=64).contains(&n) {
+        Some((
             3,
             format!("byte 5 says {n} logins, and a record has 1 to 64"),
-        ));
-    }
-    if p > 192 {
-        return Some((
+        ))
+    } else if p > 192 {
+        Some((
             3,
             format!("byte 6 says {p} logs, and a record has 0 to 192"),
-        ));
+        ))
+    } else if has > MOST_RECORD {
+        Some((
+            4,
+            format!("it has more than {MOST_RECORD} bytes, which no record has"),
+        ))
+    } else if length as usize + 5 != should {
+        let right = should - 5;
+        Some((
+            4,
+            format!("bytes 1 to 4 say {length} more bytes, and with {with} there are {right}"),
+        ))
+    } else if has != should {
+        Some((
+            4,
+            format!("it has {has} bytes, and with {with} a record has {should}"),
+        ))
+    } else {
+        None
     }
-    let said = u64::from(u32::from_be_bytes([l0, l1, l2, l3]));
-    let right = 2 + 2 * u64::from(n) * (u64::from(n) + u64::from(p));
-    let with = format!("{n} logins and {p} logs");
-    if length > MOST_BYTES {
-        let sentence = format!("it has more than {MOST_BYTES} bytes, which no record has");
-        return Some((4, sentence));
-    }
-    if said != right {
-        let sentence =
-            format!("its length, bytes 1 to 4, is {said}, and with {with} it is {right}");
-        return Some((4, sentence));
-    }
-    if length as u64 != 5 + right {
-        let sentence = format!(
-            "it has {length} bytes, and with {with} it has {}",
-            5 + right
-        );
-        return Some((4, sentence));
-    }
-    None
 }
 
 /// Each place where the matrix is not valid.
@@ -132,7 +142,7 @@ fn control_of_log(record: &Record, names: &Names, name: Name) -> Option<Fault> {
     let Name::Log(column) = name else {
         return None;
     };
-    let s = (0..record.logins()).find(|s| record.bit(*s, column, CONTROL))?;
+    let s = (0..record.logins()).find(|s| record.bit(*s, column, Right::Control))?;
     let sentence = format!(
         "{} has control over {}, and a log has no controller",
         names.login(s),

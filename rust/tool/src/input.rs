@@ -5,7 +5,7 @@ use std::fs::{self, File};
 use std::io::{self, ErrorKind, Read};
 
 use crate::faults::reasons;
-use crate::library::MOST_BYTES;
+use crate::library::MOST_RECORD;
 use crate::names::Names;
 use crate::names_file;
 use crate::no_answer::{Answered, NoAnswer, no_answer, shown};
@@ -62,7 +62,7 @@ pub fn read_from(from: impl Read, most: usize) -> io::Result<Vec<u8>> {
 /// A record's bytes. Of a longer file one byte more than the longest record has is read, which the library refuses as it would
 /// refuse the whole.
 pub fn record_bytes(path: &OsStr) -> Answered<Vec<u8>> {
-    read(path, MOST_BYTES)
+    read(path, MOST_RECORD)
 }
 
 /// The record of a file, with its names.

@@ -2,6 +2,7 @@
 
 use std::fmt::Write;
 
+use crate::library::Right;
 use crate::names::Names;
 use crate::record::{Name, column_of};
 
@@ -49,9 +50,9 @@ pub fn name(name: Name, names: &Names) -> String {
 }
 
 /// A right: its code and how it is printed.
-pub fn right(code: u64, names: &Names) -> String {
+pub fn right(right: Right, names: &Names) -> String {
     object(&[
-        ("code", code.to_string()),
-        ("name", text(&names.right_label(code))),
+        ("code", right.code().to_string()),
+        ("name", text(&names.right_label(right))),
     ])
 }

@@ -2,7 +2,7 @@
 
 use crate::changes::{Changes, changes, told, told_name};
 use crate::input::Station;
-use crate::library::{Command, Refusal, command, safety};
+use crate::library::{Command, Refusal, Right, command, witness};
 use crate::names::Names;
 use crate::record::{Name, Record};
 use crate::sentence::sentence;
@@ -15,7 +15,7 @@ pub struct Question {
     pub login: u64,
     pub over: Name,
     pub column: u64,
-    pub right: u64,
+    pub right: Right,
 }
 
 /// A command of a leak: in words, what allows it, what it changes, and the record after it.
@@ -30,7 +30,7 @@ pub struct Step {
 /// The commands that get there, each explained; none where it is safe.
 pub fn answer(station: &Station, q: &Question) -> Result<Option<Vec<Step>>, Refusal> {
     let Station { record, names, .. } = station;
-    let Some(list) = safety(&record.bytes, q.trust, q.login, q.column, q.right)? else {
+    let Some(list) = witness(&record.bytes, q.trust, q.login, q.column, q.right)? else {
         return Ok(None);
     };
     let mut before = record.clone();
@@ -75,7 +75,7 @@ pub fn question(q: &Question, station: &Station) -> String {
 
 /// The logins of a mask.
 pub fn members(mask: u64) -> Vec<u64> {
-    (0..64).filter(|s| mask >> s & 1 == 1).collect()
+    Changes::LOGINS.filter(|s| mask >> s & 1 == 1).collect()
 }
 
 /// What a reader of the answer has to know of the question: absent names, a right that is impossible, who is trusted.
@@ -129,7 +129,7 @@ pub fn effects(changes: &Changes, names: &Names) -> Vec<String> {
         effects.extend(list.iter().map(|name| told_name(*name, made, names)));
     }
     let stays = |name: Name| !changes.gone.contains(&name);
-    for login in (0..64).filter(|s| stays(Name::Login(*s))) {
+    for login in Changes::LOGINS.filter(|s| stays(Name::Login(*s))) {
         for gained in [false, true] {
             let mut moved = changes.of_login(login, gained);
             moved.retain(|m| stays(m.over));

@@ -2,14 +2,14 @@
 
 use std::collections::BTreeMap;
 
-use crate::library::{CONTROL, OWN};
+use crate::library::{Basic, Right};
 use crate::record::Name;
 
 /// The names of a station. What has none is printed by its number.
 #[derive(Default)]
 pub struct Names {
     pub of_names: BTreeMap<Name, String>,
-    pub of_rights: BTreeMap<u64, String>,
+    pub of_rights: BTreeMap<Basic, String>,
 }
 
 impl Names {
@@ -26,9 +26,9 @@ impl Names {
         self.name(Name::Login(s))
     }
 
-    /// A right in a sentence, by its code.
-    pub fn right(&self, code: u64) -> String {
-        quoted(&self.right_label(code))
+    /// A right in a sentence.
+    pub fn right(&self, right: Right) -> String {
+        quoted(&self.right_label(right))
     }
 
     /// A login or log where it stands alone.
@@ -40,18 +40,15 @@ impl Names {
     }
 
     /// A right where it stands alone.
-    pub fn right_label(&self, code: u64) -> String {
-        match code {
-            OWN => String::from("own"),
-            CONTROL => String::from("control"),
-            _ => {
-                let k = (code - 2) / 2;
-                let star = if code % 2 == 1 { "*" } else { "" };
-                match self.of_rights.get(&k) {
-                    Some(given) => format!("{given}{star}"),
-                    None => format!("r{k}{star}"),
-                }
-            }
+    pub fn right_label(&self, right: Right) -> String {
+        let (k, star) = match right {
+            Right::Own | Right::Control => return right.to_string(),
+            Right::Plain(k) => (k, ""),
+            Right::Starred(k) => (k, "*"),
+        };
+        match self.of_rights.get(&k) {
+            Some(given) => format!("{given}{star}"),
+            None => right.to_string(),
         }
     }
 
@@ -61,8 +58,8 @@ impl Names {
     }
 
     /// Some rights in a sentence.
-    pub fn rights(&self, codes: &[u64]) -> String {
-        listed(codes.iter().map(|code| self.right(*code)))
+    pub fn rights(&self, rights: &[Right]) -> String {
+        listed(rights.iter().map(|right| self.right(*right)))
     }
 }
 

@@ -3,6 +3,7 @@
 
 use std::collections::BTreeMap;
 
+use crate::library::Basic;
 use crate::names::Names;
 use crate::record::Record;
 
@@ -33,10 +34,11 @@ fn add(names: &mut Names, line: &str, record: &Record) -> Result<(), String> {
     match kind {
         "login" => login_fits(number, record)?,
         "log" => log_fits(number, record)?,
-        "right" if number > 6 => return Err(format!("right {number}: basic rights are 0 to 6")),
         "right" => {
+            let wrong = || format!("right {number}: basic rights are 0 to 6");
+            let k = Basic::from_number(number).ok_or_else(wrong)?;
             right_name_fits(name)?;
-            return insert(&mut names.of_rights, number, name);
+            return insert(&mut names.of_rights, k, name);
         }
         _ => return Err(String::from(form)),
     }

@@ -1,11 +1,12 @@
 //! A record's bytes, read to be printed and explained. Whether a record may be read at all is the library's answer.
 
-use crate::library::{CONTROL, OWN, Refusal, refusal};
+use crate::library::{Header, Refusal, Right, check};
 
 /// A record of the right form, which is valid unless it was made by `shaped`.
 #[derive(Clone, PartialEq, Eq)]
 pub struct Record {
     pub bytes: Vec<u8>,
+    header: Header,
 }
 
 /// A name: a login by its number, or a log by its column.
@@ -18,46 +19,31 @@ pub enum Name {
 impl Record {
     /// The record of bytes that the library does not refuse.
     pub fn open(bytes: &[u8]) -> Result<Record, Refusal> {
-        match refusal(bytes) {
-            None => Ok(Record::shaped(bytes)),
-            Some(refusal) => Err(refusal),
-        }
+        check(bytes)?;
+        Record::shaped(bytes)
     }
 
     /// Bytes that the library does not refuse, or refuses for their matrix alone (5).
-    pub fn shaped(bytes: &[u8]) -> Record {
-        Record {
+    pub fn shaped(bytes: &[u8]) -> Result<Record, Refusal> {
+        Ok(Record {
             bytes: bytes.to_vec(),
-        }
-    }
-
-    /// A station in which U alone exists, as bytes. They are no record where the numbers are out of range.
-    pub fn new_station(logins: u8, logs: u8) -> Vec<u8> {
-        let (n, p) = (u32::from(logins), u32::from(logs));
-        let count = 2 + 2 * n * (n + p);
-        let mut bytes = vec![1];
-        bytes.extend(count.to_be_bytes());
-        bytes.extend([logins, logs]);
-        bytes.resize(5 + count as usize, 0);
-        if let Some(cell) = bytes.get_mut(8) {
-            *cell = 1 << CONTROL;
-        }
-        bytes
+            header: Header::read(bytes)?,
+        })
     }
 
     /// The number of login names.
     pub fn logins(&self) -> u64 {
-        u64::from(self.bytes[5])
+        u64::from(self.header.n)
     }
 
     /// The number of log names.
     pub fn logs(&self) -> u64 {
-        u64::from(self.bytes[6])
+        u64::from(self.header.p)
     }
 
     /// The number of columns: logins first, then logs.
     pub fn columns(&self) -> u64 {
-        self.logins() + self.logs()
+        u64::from(self.header.columns())
     }
 
     /// The name of a column.
@@ -71,22 +57,18 @@ impl Record {
 
     /// The sixteen bits of a cell; none for a name beyond the record.
     pub fn cell(&self, login: u64, column: u64) -> u16 {
-        if login >= self.logins() || column >= self.columns() {
-            return 0;
-        }
-        let at = 7 + 2 * (login * self.columns() + column) as usize;
-        u16::from_be_bytes([self.bytes[at], self.bytes[at + 1]])
+        self.header.cell(&self.bytes, login, column).unwrap_or(0)
     }
 
     /// Whether the bit of a right is set.
-    pub fn bit(&self, login: u64, column: u64, right: u64) -> bool {
-        self.cell(login, column) >> right & 1 == 1
+    pub fn bit(&self, login: u64, column: u64, right: Right) -> bool {
+        right.in_cell(self.cell(login, column))
     }
 
     /// Whether a name exists: a login that controls itself, a log that somebody owns.
     pub fn exists(&self, name: Name) -> bool {
         match name {
-            Name::Login(s) => self.bit(s, s, CONTROL),
+            Name::Login(s) => self.bit(s, s, Right::Control),
             Name::Log(c) => c >= self.logins() && !self.owners(c).is_empty(),
         }
     }
@@ -106,19 +88,25 @@ impl Record {
     /// The logins that own a column.
     pub fn owners(&self, column: u64) -> Vec<u64> {
         let logins = 0..self.logins();
-        logins.filter(|s| self.bit(*s, column, OWN)).collect()
+        logins
+            .filter(|s| self.bit(*s, column, Right::Own))
+            .collect()
     }
 
     /// The logins that control another login.
     pub fn other_controllers(&self, login: u64) -> Vec<u64> {
         let others = (0..self.logins()).filter(|s| *s != login);
-        others.filter(|s| self.bit(*s, login, CONTROL)).collect()
+        others
+            .filter(|s| self.bit(*s, login, Right::Control))
+            .collect()
     }
 
     /// The columns that a login owns.
     pub fn owned(&self, login: u64) -> Vec<u64> {
         let columns = 0..self.columns();
-        columns.filter(|c| self.bit(login, *c, OWN)).collect()
+        columns
+            .filter(|c| self.bit(login, *c, Right::Own))
+            .collect()
     }
 
     /// The owners met from a login upward, itself first, up to U or the first that is met again.
@@ -141,7 +129,8 @@ pub fn column_of(name: Name) -> u64 {
     }
 }
 
-/// The rights whose bits are set in a cell, by code.
-pub fn rights_in(cell: u16) -> Vec<u64> {
-    (0..16).filter(|right| cell >> right & 1 == 1).collect()
+/// The rights whose bits are set in a cell.
+pub fn rights_in(cell: u16) -> Vec<Right> {
+    let all = Right::ALL.into_iter();
+    all.filter(|right| right.in_cell(cell)).collect()
 }

@@ -10,7 +10,7 @@ use std::thread::sleep;
 use std::time::Duration;
 
 use crate::input::{called, read_from, trouble};
-use crate::library::MOST_BYTES;
+use crate::library::MOST_RECORD;
 use crate::no_answer::{Answered, NoAnswer, no_answer};
 
 /// How often another run's lock is tried, and the pause between.
@@ -62,7 +62,7 @@ impl Locked {
 
     /// The record's bytes, and one more than the longest has at most.
     pub fn read(&self) -> Answered<Vec<u8>> {
-        read_from(&self.file, MOST_BYTES).map_err(|error| trouble(&self.given, "read", &error))
+        read_from(&self.file, MOST_RECORD).map_err(|error| trouble(&self.given, "read", &error))
     }
 
     /// Replaces the file. Its permissions and its owner stay.

@@ -1,37 +1,45 @@
 //! A command as a sentence, such as `login 1 grants r0 over log 3 to login 2`, and back.
 
-use crate::library::{CONTROL, Command, OWN, basic};
+use crate::library::{Basic, Command, Right, code};
 use crate::names::Names;
 use crate::record::Record;
 use crate::spoken;
 
-/// A command in words. Numbers that are no command, or have no word, are left as they are.
+/// A command in words. Numbers that are no command are left as they are.
 pub fn sentence(c: Command, record: &Record, names: &Names) -> String {
-    let unused = match c.code {
-        1 | 2 | 4 | 5 | 8 | 9 if c.k <= 6 => [0, 0],
-        3 | 6 | 7 => [c.k, 0],
-        10 | 11 => [c.s, c.k],
-        12 | 13 => [c.o, c.k],
-        _ => return format!("the command {}", numbers(c)),
-    };
-    if unused != [0, 0] {
-        return format!("the command {}", numbers(c));
-    }
     let (i, s) = (names.login(c.i), names.login(c.s));
     let o = names.name(record.name(c.o));
-    let right = |starred| names.right(basic(c.k, starred));
-    match c.code {
-        1 | 2 => format!("{i} transfers {} over {o} to {s}", right(c.code == 2)),
-        3 => format!("{i} transfers own over {o} to {s}"),
-        4 | 5 => format!("{i} grants {} over {o} to {s}", right(c.code == 5)),
-        6 => format!("{i} grants control over {o} to {s}"),
-        7 => format!("{i} grants own over {o} to {s}"),
-        8 | 9 => format!("{i} deletes {} over {o} from {s}", right(c.code == 9)),
-        10 => format!("{i} creates {o}"),
-        11 => format!("{i} destroys {o}"),
-        12 => format!("{i} creates {s}"),
-        _ => format!("{i} destroys {s}"),
+    match act(c) {
+        Some((verb @ "deletes", right)) => {
+            format!("{i} {verb} {} over {o} from {s}", names.right(right))
+        }
+        Some((verb, right)) => format!("{i} {verb} {} over {o} to {s}", names.right(right)),
+        None => match (c.code, c.s, c.o, c.k) {
+            (code::CREATE_OBJECT, 0, _, 0) => format!("{i} creates {o}"),
+            (code::DESTROY_OBJECT, 0, _, 0) => format!("{i} destroys {o}"),
+            (code::CREATE_SUBJECT, _, 0, 0) => format!("{i} creates {s}"),
+            (code::DESTROY_SUBJECT, _, 0, 0) => format!("{i} destroys {s}"),
+            _ => format!("the command {}", numbers(c)),
+        },
     }
+}
+
+/// The verb and the right of a command that moves one; none for others, and where k is no basic right or not 0 as it should be.
+fn act(c: Command) -> Option<(&'static str, Right)> {
+    let k = Basic::from_number(c.k)?;
+    let (verb, right) = match c.code {
+        code::TRANSFER => ("transfers", Right::Plain(k)),
+        code::TRANSFER_STARRED => ("transfers", Right::Starred(k)),
+        code::GRANT => ("grants", Right::Plain(k)),
+        code::GRANT_STARRED => ("grants", Right::Starred(k)),
+        code::DELETE => ("deletes", Right::Plain(k)),
+        code::DELETE_STARRED => ("deletes", Right::Starred(k)),
+        code::TRANSFER_OWN if c.k == 0 => ("transfers", Right::Own),
+        code::GRANT_CONTROL if c.k == 0 => ("grants", Right::Control),
+        code::GRANT_OWN if c.k == 0 => ("grants", Right::Own),
+        _ => return None,
+    };
+    Some((verb, right))
 }
 
 /// The five numbers of a command.
@@ -64,10 +72,10 @@ pub fn parse(line: &str, record: &Record, names: &Names) -> Result<Command, Stri
         "creates" | "destroys" => {
             let column = spoken::column(&name(&mut rest)?, record, names)?;
             match (verb == "creates", column < record.logins()) {
-                (true, false) => Command::new(10, i, 0, column, 0),
-                (false, false) => Command::new(11, i, 0, column, 0),
-                (true, true) => Command::new(12, i, column, 0, 0),
-                (false, true) => Command::new(13, i, column, 0, 0),
+                (true, false) => Command::create_object(i, column),
+                (false, false) => Command::destroy_object(i, column),
+                (true, true) => Command::create_subject(i, column),
+                (false, true) => Command::destroy_subject(i, column),
             }
         }
         _ => {
@@ -95,22 +103,18 @@ fn over(
     let o = spoken::column(&name(rest)?, record, names)?;
     expect(rest, if verb == "deletes" { "from" } else { "to" })?;
     let s = spoken::login(&name(rest)?, names)?;
-    let code = match (verb, right) {
-        ("transfers", OWN) => 3,
-        ("grants", OWN) => 7,
-        ("grants", CONTROL) => 6,
-        (_, OWN | CONTROL) => {
-            return Err(format!(
-                "there is no command that {verb} {}",
-                names.right(right)
-            ));
-        }
-        ("transfers", _) => 1 + right % 2,
-        ("grants", _) => 4 + right % 2,
-        (_, _) => 8 + right % 2,
-    };
-    let k = if right < 2 { 0 } else { (right - 2) / 2 };
-    Ok(Command::new(code, i, s, o, k))
+    match (verb, right) {
+        ("transfers", Right::Own) => Ok(Command::transfer_own(i, s, o)),
+        ("transfers", Right::Plain(k)) => Ok(Command::transfer(i, s, o, k)),
+        ("transfers", Right::Starred(k)) => Ok(Command::transfer_starred(i, s, o, k)),
+        ("grants", Right::Own) => Ok(Command::grant_own(i, s, o)),
+        ("grants", Right::Control) => Ok(Command::grant_control(i, s, o)),
+        ("grants", Right::Plain(k)) => Ok(Command::grant(i, s, o, k)),
+        ("grants", Right::Starred(k)) => Ok(Command::grant_starred(i, s, o, k)),
+        ("deletes", Right::Plain(k)) => Ok(Command::delete(i, s, o, k)),
+        ("deletes", Right::Starred(k)) => Ok(Command::delete_starred(i, s, o, k)),
+        _ => Err(format!("there is no command that {verb} {right}")),
+    }
 }
 
 /// The words of a line. Words in quotes are one.

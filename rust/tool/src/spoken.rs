@@ -1,6 +1,6 @@
 //! Words of the command line and of command texts: logins, columns, rights and trusted logins, by name or by number.
 
-use crate::library::{CONTROL, OWN, basic};
+use crate::library::{Right, trust_mask};
 use crate::names::Names;
 use crate::record::{Name, Record, column_of};
 
@@ -66,24 +66,22 @@ pub fn column(word: &str, record: &Record, names: &Names) -> Result<u64, String>
         .ok_or_else(|| format!("'{word}' is neither the number nor the name of a login or log"))
 }
 
-/// The code of a right: own, control, r0 to r6 or a name, with the star or without, or the code itself.
-pub fn right(word: &str, names: &Names) -> Result<u64, String> {
+/// A right: own, control, r0 to r6 or a name, with the star or without, or a code.
+pub fn right(word: &str, names: &Names) -> Result<Right, String> {
     if let Some(code) = number(word)? {
-        return Ok(code);
+        let wrong = || format!("{code} is no right's code, which are 0 to 15");
+        return Right::from_code(code).ok_or_else(wrong);
     }
-    let (plain, starred) = match word.strip_suffix('*') {
-        Some(plain) => (plain, true),
-        None => (word, false),
-    };
+    if let Ok(right) = word.parse() {
+        return Ok(right);
+    }
+    let plain = word.strip_suffix('*').unwrap_or(word);
     let given = names.of_rights.iter().find(|(_, name)| *name == plain);
-    let by_number = plain.strip_prefix('r').filter(|k| k.len() == 1);
-    let by_number = by_number.and_then(|k| k.parse().ok()).filter(|k| *k <= 6);
-    match (plain, given.map(|(k, _)| *k).or(by_number)) {
-        ("own", _) if !starred => Ok(OWN),
-        ("control", _) if !starred => Ok(CONTROL),
-        (_, Some(k)) => Ok(basic(k, starred)),
-        _ => Err(format!(
-            "'{word}' is no right: own, control, r0 to r6, with the star 'r0*' to 'r6*', a name for one of these, or a code 0 to 15"
+    match given {
+        Some((k, _)) if plain == word => Ok(Right::Plain(*k)),
+        Some((k, _)) => Ok(Right::Starred(*k)),
+        None => Err(format!(
+            "'{word}' is no right, which is own, control, r0 to r6, 'r0*' to 'r6*', a name for one of these, or a code 0 to 15"
         )),
     }
 }
@@ -95,17 +93,13 @@ pub fn trusted(word: &str, record: &Record, names: &Names) -> Result<u64, String
         "all" => return Ok(u64::MAX >> (64 - record.logins())),
         _ => {}
     }
-    let mut mask = 0;
+    let mut logins = Vec::new();
     for part in word.split(',') {
-        let s = login(part.trim(), names).map_err(|why| {
-            format!("{why}; the trusted logins stand with commas between, or are none or all")
-        })?;
-        if s >= 64 {
-            return Err(format!(
-                "login {s} can't be trusted: no record has more than 64 logins"
-            ));
-        }
-        mask |= 1 << s;
+        let s = login(part.trim(), names);
+        logins.push(s.map_err(|why| {
+            format!("{why}; trusted logins stand with commas between, or are none or all")
+        })?);
     }
-    Ok(mask)
+    let most = logins.iter().max().copied().unwrap_or(0);
+    trust_mask(logins).map_err(|_| format!("login {most} is in no record, so it can't be trusted"))
 }

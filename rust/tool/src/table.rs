@@ -1,5 +1,6 @@
 //! The matrix as a table of text, in blocks of columns that fit the width.
 
+use crate::library::Right;
 use crate::names::Names;
 use crate::record::{Name, Record, column_of, rights_in};
 
@@ -90,11 +91,11 @@ fn line<'a>(label: &str, block: &'a [Column], text: impl Fn(&'a Column) -> &'a S
 
 /// A cell: o for own, c for control, the number of each basic right, with * for the star; nothing where it is empty.
 pub fn short(cell: u16) -> String {
-    let short = |code: u64| match code {
-        0 => String::from("o"),
-        1 => String::from("c"),
-        code if code % 2 == 0 => ((code - 2) / 2).to_string(),
-        code => format!("{}*", (code - 3) / 2),
+    let short = |right: Right| match right {
+        Right::Own => String::from("o"),
+        Right::Control => String::from("c"),
+        Right::Plain(k) => k.number().to_string(),
+        Right::Starred(k) => format!("{}*", k.number()),
     };
     rights_in(cell).into_iter().map(short).collect()
 }

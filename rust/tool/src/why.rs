@@ -1,48 +1,59 @@
 //! Why a command is accepted or refused, in words. Whether it is, and by which number, is the library's answer.
 
-use crate::library::{CONTROL, Command, OWN, Refusal, basic, held};
+use crate::library::{Basic, Command, CommandRefused, Refusal, Right, code, held};
 use crate::names::{Names, counted};
 use crate::record::{Name, Record};
+
+/// The starred right that a transfer needs.
+fn needed(c: Command, names: &Names) -> String {
+    let k = Basic::from_number(c.k);
+    k.map_or(format!("r{}*", c.k), |k| names.right(Right::Starred(k)))
+}
 
 /// What allows an accepted command, in the record before it.
 pub fn allowed(c: Command, record: &Record, names: &Names) -> String {
     let (i, s) = (names.login(c.i), names.login(c.s));
     let o = names.name(record.name(c.o));
+    let owns = held(&record.bytes, c.i, c.o, Right::Own) == Ok(true);
     match c.code {
-        1 | 2 => format!("{i} has {} over {o}", names.right(basic(c.k, true))),
-        3 => format!("{i} owns {o}, which is not {s} nor above it"),
-        6 => format!("{i} owns {o}, and nobody else controls it"),
-        8 | 9 if held(&record.bytes, c.i, c.o, OWN) != Ok(true) => format!("{i} controls {s}"),
-        10 => format!("{o} does not exist yet"),
-        12 => format!("{s} does not exist yet"),
-        13 => format!("{i} owns {s}"),
+        code::TRANSFER | code::TRANSFER_STARRED => {
+            format!("{i} has {} over {o}", needed(c, names))
+        }
+        code::TRANSFER_OWN => format!("{i} owns {o}, which is not {s} nor above it"),
+        code::GRANT_CONTROL => format!("{i} owns {o}, and nobody else controls it"),
+        code::DELETE | code::DELETE_STARRED if !owns => format!("{i} controls {s}"),
+        code::CREATE_OBJECT => format!("{o} does not exist yet"),
+        code::CREATE_SUBJECT => format!("{s} does not exist yet"),
+        code::DESTROY_SUBJECT => format!("{i} owns {s}"),
         _ => format!("{i} owns {o}"),
     }
 }
 
-/// Why the library refused a command, with the links of the owner walk.
-pub fn refused(c: Command, refusal: Refusal, links: u64, record: &Record, names: &Names) -> String {
+/// Why the library refused a command.
+pub fn refused(c: Command, why: CommandRefused, record: &Record, names: &Names) -> String {
     let (i, s) = (names.login(c.i), names.login(c.s));
     let o = names.name(record.name(c.o));
-    match refusal {
+    match why.refusal {
         Refusal::Code => format!("{} is no code, which are 1 to 13", c.code),
         Refusal::Bounds => beyond(c, record),
         Refusal::InitiatorAbsent => format!("{i} does not exist, so it can begin nothing"),
-        Refusal::Kind if matches!(c.code, 3 | 6) => format!("{o} is a log, and this is for logins"),
+        Refusal::Kind if matches!(c.code, code::TRANSFER_OWN | code::GRANT_CONTROL) => {
+            format!("{o} is a log, and this is for logins")
+        }
         Refusal::Kind => format!("{o} is a login, and this is for logs"),
         Refusal::NameAbsent => absent(c, record, names),
-        Refusal::NameExists if c.code == 10 => format!("{o} exists already"),
+        Refusal::NameExists if c.code == code::CREATE_OBJECT => format!("{o} exists already"),
         Refusal::NameExists => format!("{s} exists already"),
         Refusal::RightLacking => lacking(c, record, names),
         Refusal::WalkMeets if c.s == c.o => format!("nobody can own itself, and {s} is {o}"),
         Refusal::WalkMeets => {
-            format!("{o} is above {s}, by {}", counted(links, "owner link"))
+            format!("{o} is above {s}, by {}", counted(why.links, "owner link"))
         }
         Refusal::OtherController => {
             let others = names.logins(&record.other_controllers(c.o));
             format!("{o} has another controller: {others}")
         }
-        other => String::from(other.condition()),
+        other => String::from(other.words()),
     }
 }
 
@@ -96,21 +107,25 @@ fn lacking(c: Command, record: &Record, names: &Names) -> String {
     let (i, s) = (names.login(c.i), names.login(c.s));
     let o = names.name(record.name(c.o));
     match c.code {
-        1 | 2 => format!("{i} has no {} over {o}", names.right(basic(c.k, true))),
-        8 | 9 => format!("{i} neither owns {o} nor controls {s}"),
-        13 => format!("{i} does not own {s}"),
+        code::TRANSFER | code::TRANSFER_STARRED => {
+            format!("{i} has no {} over {o}", needed(c, names))
+        }
+        code::DELETE | code::DELETE_STARRED => format!("{i} neither owns {o} nor controls {s}"),
+        code::DESTROY_SUBJECT => format!("{i} does not own {s}"),
         _ => format!("{i} does not own {o}"),
     }
 }
 
 /// Why nobody can ever hold a right over a column; none where somebody can.
-pub fn impossible(login: u64, over: Name, right: u64, names: &Names) -> Option<String> {
+pub fn impossible(login: u64, over: Name, right: Right, names: &Names) -> Option<String> {
     let who = names.login(0);
     match (right, over) {
-        (OWN, Name::Login(0)) => Some(format!("nobody can ever own {who}, which is U")),
-        (OWN, Name::Login(o)) if o == login => Some(String::from("nobody can ever own itself")),
-        (CONTROL, Name::Log(_)) => Some(String::from("nobody can ever control a log")),
-        (CONTROL, Name::Login(0)) if login != 0 => Some(format!(
+        (Right::Own, Name::Login(0)) => Some(format!("nobody can ever own {who}, which is U")),
+        (Right::Own, Name::Login(o)) if o == login => {
+            Some(String::from("nobody can ever own itself"))
+        }
+        (Right::Control, Name::Log(_)) => Some(String::from("nobody can ever control a log")),
+        (Right::Control, Name::Login(0)) if login != 0 => Some(format!(
             "nobody but itself can ever control {who}, which is U"
         )),
         _ => None,

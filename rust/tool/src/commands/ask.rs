@@ -18,7 +18,7 @@ pub fn ask(given: &Given) -> Answered<Answer> {
     let q = asked(given, &station)?;
     let leak = answer(&station, &q).map_err(|refusal| {
         let logins: Vec<u64> = members(q.trust).into_iter().chain([q.login]).collect();
-        beyond(refusal, &station, &logins, q.column, q.right)
+        beyond(refusal, &station, &logins, q.column)
     })?;
     let leak = leak.as_deref();
     let safe = leak.is_none();

@@ -4,7 +4,7 @@ use crate::answer::Answer;
 use crate::faults::{Fault, reasons};
 use crate::input::{called, names_of, record_bytes};
 use crate::json;
-use crate::library::{Refusal, refusal, valid};
+use crate::library::{self, Refusal};
 use crate::names::{Names, counted};
 use crate::no_answer::Answered;
 use crate::record::{Name, Record};
@@ -16,20 +16,23 @@ const MOST_REASONS: usize = 20;
 pub fn check(given: &Given) -> Answered<Answer> {
     let path = &given.words[0];
     let bytes = record_bytes(path)?;
-    let refusal = refusal(&bytes);
-    let names = match refusal {
-        None | Some(Refusal::NotValid) => {
-            names_of(path, given.names.as_ref(), &Record::shaped(&bytes))?
-        }
-        Some(_) => Names::default(),
+    let refusal = library::check(&bytes).err();
+    let record = Record::shaped(&bytes).ok();
+    let record = record.filter(|_| matches!(refusal, None | Some(Refusal::NotValid)));
+    let names = match &record {
+        Some(record) => names_of(path, given.names.as_ref(), record)?,
+        None => Names::default(),
     };
     let faults = reasons(&bytes, refusal, &names);
-    let text = match (given.json, refusal) {
-        (true, _) => in_json(refusal, &faults, &names),
-        (false, None) => valid_text(&called(path), &Record::shaped(&bytes)),
-        (false, Some(refusal)) => text(&called(path), refusal, &faults),
+    let text = match (given.json, refusal, record) {
+        (true, _, _) => in_json(refusal, &faults, &names),
+        (false, Some(refusal), _) => text(&called(path), refusal, &faults),
+        (false, None, record) => {
+            let sizes = record.map_or(String::new(), |record| sizes(&record));
+            format!("{} is valid: {sizes}.\n", called(path))
+        }
     };
-    Ok(Answer::new(text, valid(&bytes)))
+    Ok(Answer::new(text, library::valid(&bytes)))
 }
 
 /// How many names there are and exist.
@@ -44,10 +47,6 @@ pub fn sizes(record: &Record) -> String {
     ];
     let told = names.map(|(all, noun, exist)| format!("{}, {exist} existing", counted(all, noun)));
     told.join("; ")
-}
-
-fn valid_text(file: &str, record: &Record) -> String {
-    format!("{file} is valid: {}.\n", sizes(record))
 }
 
 fn text(file: &str, refusal: Refusal, faults: &[Fault]) -> String {

@@ -80,7 +80,7 @@ pub fn text(changes: &Changes, names: &Names) -> String {
             text.push_str(&format!("{}.\n", told_name(*name, made, names)));
         }
     }
-    for login in 0..64 {
+    for login in Changes::LOGINS {
         text.push_str(&of_login(login, changes, names));
     }
     text

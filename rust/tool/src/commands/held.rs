@@ -4,7 +4,7 @@ use crate::answer::Answer;
 use crate::input::{Station, station};
 use crate::json;
 use crate::library::{self, Refusal};
-use crate::no_answer::{Answered, NoAnswer, no_answer};
+use crate::no_answer::{Answered, NoAnswer};
 use crate::record::Name;
 use crate::spoken;
 use crate::words::Given;
@@ -16,7 +16,7 @@ pub fn held(given: &Given) -> Answered<Answer> {
     let column = spoken::column(given.text(2)?, record, names)?;
     let right = spoken::right(given.text(3)?, names)?;
     let held = library::held(&record.bytes, login, column, right)
-        .map_err(|refusal| beyond(refusal, &station, &[login], column, right))?;
+        .map_err(|refusal| beyond(refusal, &station, &[login], column))?;
     let (who, over) = (Name::Login(login), record.name(column));
     if given.json {
         let answer = json::object(&[
@@ -46,7 +46,7 @@ pub fn who(given: &Given) -> Answered<Answer> {
     let mut holders = Vec::new();
     for login in 0..record.logins() {
         let held = library::held(&record.bytes, login, column, right);
-        if held.map_err(|refusal| beyond(refusal, &station, &[], column, right))? {
+        if held.map_err(|refusal| beyond(refusal, &station, &[], column))? {
             holders.push(login);
         }
     }
@@ -79,29 +79,21 @@ pub fn absent(station: &Station, names: &[Name]) -> String {
 }
 
 /// Which number of a question is beyond the record: the refusal 7 in words.
-pub fn beyond(
-    refusal: Refusal,
-    station: &Station,
-    logins: &[u64],
-    column: u64,
-    right: u64,
-) -> NoAnswer {
+pub fn beyond(refusal: Refusal, station: &Station, logins: &[u64], column: u64) -> NoAnswer {
     let record = &station.record;
     let (n, columns) = (record.logins(), record.columns());
-    let why = if refusal != Refusal::Bounds {
-        String::from(refusal.condition())
-    } else if let Some(s) = logins.iter().find(|s| **s >= n) {
-        format!(
+    let why = match logins.iter().find(|s| **s >= n) {
+        Some(s) => format!(
             "login {s} is beyond the record, which has logins 0 to {}",
             n - 1
-        )
-    } else if column >= columns {
-        format!(
-            "column {column} is beyond the record, which has columns 0 to {}",
-            columns - 1
-        )
-    } else {
-        format!("{right} is no right's code, which are 0 to 15")
+        ),
+        None if column >= columns => {
+            format!(
+                "column {column} is beyond the record, which has columns 0 to {}",
+                columns - 1
+            )
+        }
+        None => String::from(refusal.words()),
     };
-    no_answer::<()>(format!("{why} (refusal {})", refusal.number())).unwrap_err()
+    NoAnswer(format!("{why} (refusal {})", refusal.number()))
 }

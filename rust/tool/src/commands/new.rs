@@ -4,24 +4,21 @@ use std::fs::{self, OpenOptions};
 use std::io::{ErrorKind, Write};
 
 use crate::answer::Answer;
-use crate::faults::reasons;
 use crate::input::trouble;
-use crate::library::refusal;
-use crate::names::{Names, counted};
-use crate::no_answer::{Answered, no_answer, shown};
-use crate::record::Record;
+use crate::library::{MOST_PLAIN, MOST_SUBJECTS, new_record};
+use crate::names::counted;
+use crate::no_answer::{Answered, NoAnswer, no_answer, shown};
+use crate::spoken::number;
 use crate::words::Given;
 
 pub fn new(given: &Given) -> Answered<Answer> {
-    let logins = size(given, 1, "LOGINS", "1 to 64")?;
-    let logs = size(given, 2, "LOGS", "0 to 192")?;
-    let bytes = Record::new_station(logins, logs);
-    let refusal = refusal(&bytes);
-    if refusal.is_some() {
-        let reason = reasons(&bytes, refusal, &Names::default());
-        let reason = reason.first().map_or("", |fault| &fault.sentence);
-        return no_answer(format!("there is no such station: {reason}"));
-    }
+    let (logins, logs) = (size(given, 1)?, size(given, 2)?);
+    let bytes = new_record(logins, logs).map_err(|refusal| {
+        let number = refusal.number();
+        NoAnswer(format!(
+            "a station has 1 to {MOST_SUBJECTS} logins and 0 to {MOST_PLAIN} logs, and not {logins} and {logs} (refusal {number})"
+        ))
+    })?;
     if given.words[0] == "-" {
         return Ok(Answer {
             out: bytes,
@@ -32,20 +29,18 @@ pub fn new(given: &Given) -> Answered<Answer> {
     let text = format!(
         "{} is a station of {} and {}, in which login 0 (U) alone exists.\n",
         shown(&given.words[0]),
-        counted(u64::from(logins), "login"),
-        counted(u64::from(logs), "log")
+        counted(logins, "login"),
+        counted(logs, "log")
     );
     Ok(Answer::new(text, true))
 }
 
-/// A number of names, as a byte.
-fn size(given: &Given, at: usize, word: &str, range: &str) -> Answered<u8> {
+/// A number of names.
+fn size(given: &Given, at: usize) -> Answered<u64> {
     let text = given.text(at)?;
-    match text.parse() {
-        Ok(number) if text.bytes().all(|b| b.is_ascii_digit()) => Ok(number),
-        _ => no_answer(format!(
-            "{word} is a number from {range}, and '{text}' is none"
-        )),
+    match number(text)? {
+        Some(number) => Ok(number),
+        None => no_answer(format!("LOGINS and LOGS are numbers, and '{text}' is none")),
     }
 }
 

@@ -82,15 +82,15 @@ fn text(station: &Station, after: &Record, commands: &Commands, ran: &Ran) -> St
     let names = &station.names;
     let all = commands.numbered.len() as u64;
     let mut text = match ran {
-        Ran::Refused(accepted, refusal, links) => {
+        Ran::Refused(accepted, refused) => {
             let (at, c) = commands.numbered[*accepted];
-            let why = why::refused(c, *refusal, *links, after, names);
+            let why = why::refused(c, *refused, after, names);
             format!(
                 "{accepted} of {} accepted; {} {at} is refused (refusal {}), and the run ends there:\n  \
                  {}   [{}]\n  refused: {why}\n",
                 counted(all, "command"),
                 commands.place,
-                refusal.number(),
+                refused.number(),
                 sentence(c, after, names),
                 numbers(c)
             )

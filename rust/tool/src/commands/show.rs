@@ -46,7 +46,7 @@ fn text(station: &Station) -> String {
     let rights = names
         .of_rights
         .iter()
-        .map(|(k, name)| format!(";\n{k} is {name}"));
+        .map(|(k, name)| format!(";\n{} is {name}", k.number()));
     format!(
         "{file}: {}.\n\n{}\n\
          Rows are logins; columns are logins 0 to {last}{logs}.\n\

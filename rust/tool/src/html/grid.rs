@@ -1,6 +1,7 @@
 //! The matrix as a coloured grid, whole or a part of it, and where a record before is given with the cells that change.
 
 use crate::html::escape;
+use crate::library::Right;
 use crate::names::Names;
 use crate::record::{Name, Record, column_of, rights_in};
 use crate::table::short;
@@ -131,14 +132,14 @@ impl Grid<'_> {
 
     /// Each right as a word; those lost are struck out.
     fn chips(&self, before: u16, cell: u16) -> String {
-        let chip = |code: u64| {
-            let change = match (before >> code & 1, cell >> code & 1) {
-                (0, _) => " gained",
-                (_, 0) => " lost",
+        let chip = |right: Right| {
+            let change = match (right.in_cell(before), right.in_cell(cell)) {
+                (false, _) => " gained",
+                (_, false) => " lost",
                 _ => "",
             };
-            let label = escape(&self.names.right_label(code));
-            format!("<span class=\"x {}{change}\">{label}</span>", kind(code))
+            let label = escape(&self.names.right_label(right));
+            format!("<span class=\"x {}{change}\">{label}</span>", kind(right))
         };
         rights_in(before | cell).into_iter().map(chip).collect()
     }
@@ -162,24 +163,23 @@ impl Grid<'_> {
 }
 
 /// The class of a right's colour.
-pub fn kind(code: u64) -> &'static str {
-    match code {
-        0 => "own",
-        1 => "control",
-        code if code % 2 == 0 => "plain",
-        _ => "star",
+fn kind(right: Right) -> &'static str {
+    match right {
+        Right::Own => "own",
+        Right::Control => "control",
+        Right::Plain(_) => "plain",
+        Right::Starred(_) => "star",
     }
 }
 
-/// The class of a short cell: that of its strongest right.
+/// The class of a short cell: that of the first of own, control, a starred and a plain right that is in it.
 fn strongest(cell: u16) -> &'static str {
-    match cell {
-        0 => "",
-        cell if cell & 1 != 0 => "k-own",
-        cell if cell & 2 != 0 => "k-control",
-        cell if cell & 0b1010_1010_1010_1000 != 0 => "k-star",
-        _ => "k-plain",
-    }
+    let kinds: Vec<&str> = rights_in(cell).into_iter().map(kind).collect();
+    let order = ["own", "control", "star", "plain"];
+    order
+        .into_iter()
+        .find(|kind| kinds.contains(kind))
+        .unwrap_or("")
 }
 
 /// What the colours and letters mean.
@@ -187,7 +187,7 @@ pub fn legend(columns: usize, names: &Names) -> String {
     let chip = |class: &str, word: &str| format!("<span class=\"x {class}\">{word}</span>");
     let rights = names.of_rights.iter();
     let rights: Vec<String> = rights
-        .map(|(k, name)| format!("r{k} is called {}", escape(name)))
+        .map(|(k, name)| format!("r{} is called {}", k.number(), escape(name)))
         .collect();
     let rights = match rights.is_empty() {
         true => String::new(),
