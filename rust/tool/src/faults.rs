@@ -20,7 +20,7 @@ pub fn reasons(bytes: &[u8], refusal: Option<Refusal>, names: &Names) -> Vec<Fau
 }
 
 /// The reasons for which bytes are no valid record, found without the library.
-fn faults(bytes: &[u8], names: &Names) -> Vec<Fault> {
+pub fn faults(bytes: &[u8], names: &Names) -> Vec<Fault> {
     let (refusal, sentence) = match (form_fault(bytes), Record::shaped(bytes)) {
         (None, Ok(record)) => return matrix_faults(&record, names),
         (Some(fault), _) => fault,

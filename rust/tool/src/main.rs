@@ -5,7 +5,6 @@ mod changes;
 mod command_text;
 mod commands;
 mod faults;
-mod help;
 mod html;
 mod input;
 mod json;
@@ -19,6 +18,8 @@ mod replace;
 mod sentence;
 mod spoken;
 mod table;
+#[cfg(test)]
+mod tests;
 mod tree;
 mod why;
 mod words;
@@ -31,6 +32,9 @@ use std::process::ExitCode;
 use answer::{Answer, Exit};
 use no_answer::{Answered, NoAnswer};
 use words::{Given, Request};
+
+/// What `bunvespo help` prints.
+const HELP: &str = include_str!("help.txt");
 
 fn main() -> ExitCode {
     panic::set_hook(Box::new(|defect| {
@@ -59,7 +63,7 @@ fn complain(why: &str) {
 
 fn answer() -> Answered<Answer> {
     match words::parse(env::args_os().skip(1))? {
-        Request::Help => Ok(Answer::new(String::from(help::HELP), true)),
+        Request::Help => Ok(Answer::new(String::from(HELP), true)),
         Request::Do(given) => run(&given),
     }
 }
