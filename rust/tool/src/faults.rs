@@ -88,6 +88,10 @@ fn form_fault(bytes: &[u8]) -> Option<(u8, String)> {
 /// Each place where the matrix is not valid.
 fn matrix_faults(record: &Record, names: &Names) -> Vec<Fault> {
     let mut faults = Vec::new();
+    if !record.exists(Name::Login(0)) {
+        let sentence = format!("{} is U, and does not exist", names.login(0));
+        faults.push(fault([Name::Login(0)], sentence));
+    }
     for column in 0..record.columns() {
         let name = record.name(column);
         faults.extend(absent_fault(record, names, name));
@@ -97,10 +101,6 @@ fn matrix_faults(record: &Record, names: &Names) -> Vec<Fault> {
         faults.extend(owner_fault(record, names, s));
         faults.extend(controller_fault(record, names, s));
         faults.extend(cycle_fault(record, names, s));
-    }
-    if !record.exists(Name::Login(0)) {
-        let sentence = format!("{} is U, and does not exist", names.login(0));
-        faults.push(fault([Name::Login(0)], sentence));
     }
     faults
 }
@@ -130,7 +130,17 @@ fn absent_fault(record: &Record, names: &Names, name: Name) -> Option<Fault> {
         .chain(in_row)
         .find(|(s, c)| record.cell(*s, *c) != 0)?;
     let rights = names.rights(&rights_in(record.cell(s, c)));
-    let (holder, over) = (names.login(s), names.name(record.name(c)));
+    let it = |other: Name| {
+        if other == name {
+            String::from("it")
+        } else {
+            names.name(other)
+        }
+    };
+    let (holder, over) = match (it(Name::Login(s)), it(record.name(c))) {
+        (holder, over) if holder == over => (holder, String::from("itself")),
+        pair => pair,
+    };
     let sentence = format!(
         "{} {why}, but {holder} has {rights} over {over}",
         names.name(name)

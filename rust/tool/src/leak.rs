@@ -5,7 +5,7 @@ use crate::input::Station;
 use crate::library::{Command, Refusal, Right, command, witness};
 use crate::names::Names;
 use crate::record::{Name, Record};
-use crate::sentence::sentence;
+use crate::sentence::{numbers, sentence};
 use crate::why::{allowed, impossible};
 
 /// The question.
@@ -40,7 +40,7 @@ pub fn answer(station: &Station, q: &Question) -> Result<Option<Vec<Step>>, Refu
         command(&mut after.bytes, c).expect("each command of a leak is accepted");
         steps.push(Step {
             command: c,
-            words: sentence(c, &before, names),
+            words: sentence(c, &before, names).unwrap_or_else(|| numbers(c)),
             allowed: allowed(c, &before, names),
             changes: changes(&before, &after),
             after: after.clone(),

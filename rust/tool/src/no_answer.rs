@@ -41,5 +41,8 @@ pub fn one_line(text: &str) -> String {
 
 /// A file's name, to be printed.
 pub fn shown(path: impl AsRef<OsStr>) -> String {
-    one_line(&path.as_ref().to_string_lossy())
+    match path.as_ref().to_string_lossy() {
+        empty if empty.is_empty() => String::from("''"),
+        path => one_line(&path),
+    }
 }

@@ -5,23 +5,28 @@ use crate::names::Names;
 use crate::record::Record;
 use crate::spoken;
 
-/// A command in words. Numbers that are no command are left as they are.
-pub fn sentence(c: Command, record: &Record, names: &Names) -> String {
+/// A command in words; none where its numbers are no command's.
+pub fn sentence(c: Command, record: &Record, names: &Names) -> Option<String> {
     let (i, s) = (names.login(c.i), names.login(c.s));
     let o = names.name(record.name(c.o));
-    match act(c) {
-        Some((verb @ "deletes", right)) => {
-            format!("{i} {verb} {} over {o} from {s}", names.right(right))
-        }
-        Some((verb, right)) => format!("{i} {verb} {} over {o} to {s}", names.right(right)),
-        None => match (c.code, c.s, c.o, c.k) {
-            (code::CREATE_OBJECT, 0, _, 0) => format!("{i} creates {o}"),
-            (code::DESTROY_OBJECT, 0, _, 0) => format!("{i} destroys {o}"),
-            (code::CREATE_SUBJECT, _, 0, 0) => format!("{i} creates {s}"),
-            (code::DESTROY_SUBJECT, _, 0, 0) => format!("{i} destroys {s}"),
-            _ => format!("the command {}", numbers(c)),
-        },
+    if let Some((verb, right)) = act(c) {
+        let to = if verb == "deletes" { "from" } else { "to" };
+        let right = names.right(right);
+        return Some(format!("{i} {verb} {right} over {o} {to} {s}"));
     }
+    match (c.code, c.s, c.o, c.k) {
+        (code::CREATE_OBJECT, 0, _, 0) => Some(format!("{i} creates {o}")),
+        (code::DESTROY_OBJECT, 0, _, 0) => Some(format!("{i} destroys {o}")),
+        (code::CREATE_SUBJECT, _, 0, 0) => Some(format!("{i} creates {s}")),
+        (code::DESTROY_SUBJECT, _, 0, 0) => Some(format!("{i} destroys {s}")),
+        _ => None,
+    }
+}
+
+/// A command in words, where it has some, and in numbers.
+pub fn in_full(c: Command, record: &Record, names: &Names) -> String {
+    let words = sentence(c, record, names).map(|words| format!("{words}   "));
+    format!("{}[{}]", words.unwrap_or_default(), numbers(c))
 }
 
 /// The verb and the right of a command that moves one; none for others, and where k is no basic right or not 0 as it should be.

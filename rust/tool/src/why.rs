@@ -45,7 +45,7 @@ pub fn refused(c: Command, why: CommandRefused, record: &Record, names: &Names) 
         Refusal::NameExists if c.code == code::CREATE_OBJECT => format!("{o} exists already"),
         Refusal::NameExists => format!("{s} exists already"),
         Refusal::RightLacking => lacking(c, record, names),
-        Refusal::WalkMeets if c.s == c.o => format!("nobody can own itself, and {s} is {o}"),
+        Refusal::WalkMeets if c.s == c.o => String::from("nobody can own itself"),
         Refusal::WalkMeets => {
             format!("{o} is above {s}, by {}", counted(why.links, "owner link"))
         }

@@ -11,7 +11,7 @@ use crate::names::counted;
 use crate::no_answer::{Answered, NoAnswer, no_answer};
 use crate::record::Record;
 use crate::replace::Locked;
-use crate::sentence::{numbers, sentence};
+use crate::sentence::in_full;
 use crate::why;
 use crate::words::Given;
 
@@ -86,13 +86,11 @@ fn text(station: &Station, after: &Record, commands: &Commands, ran: &Ran) -> St
             let (at, c) = commands.numbered[*accepted];
             let why = why::refused(c, *refused, after, names);
             format!(
-                "{accepted} of {} accepted; {} {at} is refused (refusal {}), and the run ends there:\n  \
-                 {}   [{}]\n  refused: {why}\n",
-                counted(all, "command"),
+                "{accepted} of {all} commands accepted; {} {at} is refused (refusal {}), and the run ends there:\n  \
+                 {}\n  refused: {why}\n",
                 commands.place,
                 refused.number(),
-                sentence(c, after, names),
-                numbers(c)
+                in_full(c, after, names)
             )
         }
         _ => format!("{} accepted.\n", counted(all, "command")),

@@ -73,7 +73,7 @@ fn sentences_are_read_as_the_commands_they_tell() {
             _ => names_for_all(&record),
         };
         let c = any_command(&mut numbers, record.logins(), record.columns());
-        let told = sentence(c, &record, &names);
+        let told = sentence(c, &record, &names).expect("each of these commands has words");
         let kind_fits = match c.code {
             10 | 11 => c.o >= record.logins(),
             _ => true,
