@@ -1,5 +1,4 @@
--- "A program reads standard input, at most 65,536 bytes (more prints `refused 4`): a record, then as the last 11 bytes the mask (high
--- byte first), s, o, right. Under 11 bytes prints `refused 1`."
+-- The program's input (Manual 9.2): a record, and the question in the last 11 bytes. Over 65,536 bytes are refused by 4, under 11 by 1.
 use Prim.Native.Nat.{ℕ, _+_, _-_, _≤_, _<_}
 use native.Mathlib.Omega.{arith}
 use mathlib.Core.Path.{_≡_, refl}

@@ -1,29 +1,24 @@
 -- After the answer "leaks" the list stands at the buffer's start, of the right form and within the buffer.
-use Prim.Native.Nat.{ℕ, zero, suc, _≤_}
+use Prim.Native.Nat.{ℕ, _≤_}
 use native.Mathlib.Omega.{arith}
-use mathlib.Core.Path.{_≡_, refl, sym, _∙_, ap}
+use mathlib.Core.Path.{_≡_, sym, _∙_}
 use mathlib.Core.Logic.{_⊎_, inl, inr, ⊎-elim}
 use mathlib.Core.Bool.{true, false}
 use mathlib.Core.List.{List}
 use lib.Dec.{leb, eqb}
 use lib.ListN.{length, take, length-take}
 use borrow.Author.Tests.{leb-true, leb-false, eqb-true, eqb-false}
-use Rattle.matrix.specs.CommandList.{wellFormed, commandsFrom, commandsIn}
+use Rattle.matrix.specs.CommandList.{wellFormed, commandsIn}
 use Rattle.question.specs.declared.Safety.{Safety}
 use Rattle.question.specs.declared.Safety.the-variants.{Safe, Leaks, Refused}
 use Rattle.question.specs.Asked.{Written, Decided, Answers, safetyRefusal, listRoom}
 use Rattle.laws.specs.Tests.{way}
-use Rattle.lists.specs.Formed.{formed}
+use Rattle.lists.specs.Formed.{formed, length-commands}
 use Rattle.asking.specs.Input.{AnswersInput}
 
 pub record Stands (out : List ℕ) (commands : ℕ) : Type 0 where
   pub right : wellFormed (take (listRoom commands) out) ≡ true
   pub within : listRoom commands ≤ length out
-
-number-of : (l : List ℕ) (j m : ℕ) → length (commandsFrom l j m) ≡ m
-unfolding commandsFrom
-number-of l j zero = refl
-number-of l j (suc m) = ap suc (number-of l (suc j) m)
 
 refused-no : {k commands : ℕ} → Leaks commands ≡ Refused k → ⊥
 refused-no h = let z : _≡_ {A = ℕ} 0 1 = cc in omega arith
@@ -36,7 +31,7 @@ module _ {b : List ℕ} {mask s o right : ℕ} {out out′ : List ℕ} where
   written-stands commands w =
       let l : List ℕ = take (listRoom commands) out′ in
       let f = formed l (w .formed) in
-      let e : commandsIn l ≡ commands = sym (number-of l 0 (commandsIn l)) ∙ w .number in
+      let e : commandsIn l ≡ commands = sym (length-commands l 0 (commandsIn l)) ∙ w .number in
       record { right = w .formed; within = omega (arith, f .size, f .whole, e, length-take (listRoom commands) out′) }
 
   decided-stands : (commands : ℕ) → Decided b mask s o right out out′ (Leaks commands) → Stands out′ commands

@@ -1,4 +1,4 @@
--- Laws of the pairs: the pair of an answer that is known, and room for the number of commands in it.
+-- Laws of the numbers: those of an answer that is known, and room for the number of commands among them.
 use Prim.Native.Nat.{ℕ, _+_, _≤_}
 use native.Mathlib.Omega.{arith}
 use mathlib.Core.Path.{_≡_, sym, _∙_, ap}
@@ -15,15 +15,16 @@ use Rattle.laws.specs.Tests.{way}
 use Rattle.question.specs.declared.Safety.{Safety}
 use Rattle.question.specs.declared.Safety.the-variants.{Safe, Leaks, Refused}
 use Rattle.question.specs.Asked.{listRoom, safetyRefusal, Decided, Answers}
-use Rattle.bunvespo.specs.Pairs.{safetyPair, AnswersPair}
+use Rattle.question.specs.Numbers.{safetyNumbers}
+use Rattle.bunvespo.specs.Numbers.{AnswersNumbers}
 
 -- r is the answer a, and it is known to be q
-pub pair-of : {A B : Type 0} (f : A → B) {r a q : A} → r ≡ a → r ≡ q → f q ≡ f a
-pair-of f e h = ap f (sym h ∙ e)
+pub numbers-of : {A B : Type 0} (f : A → B) {r a q : A} → r ≡ a → r ≡ q → f q ≡ f a
+numbers-of f e h = ap f (sym h ∙ e)
 
 module _ {b : List ℕ} {mask s o right : ℕ} {out out′ : List ℕ} {r : Safety} (h : Answers b mask s o right out out′ r) where
-  pub answers-pair : {q : Safety} → r ≡ q → AnswersPair b mask s o right out out′ (safetyPair q)
-  answers-pair e = record { answer = r; answers = h; is = ap safetyPair (sym e) }
+  pub answers-numbers : {q : Safety} → r ≡ q → AnswersNumbers b mask s o right out out′ (safetyNumbers q)
+  answers-numbers e = record { answer = r; answers = h; is = ap safetyNumbers (sym e) }
 
   abbrev isLeak : Safety → Bool
   isLeak Safe = false

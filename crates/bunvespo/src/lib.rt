@@ -2,18 +2,13 @@
 
 use matrix::Answer;
 use matrix::Holding;
+use matrix::Numbers;
 use question::Safety;
 ghost use mathlib.Core.Path.{_≡_};
 ghost use Rattle.matrix.specs.Calls.{validAnswer, heldAnswer, commandAnswer, commandBytes, runAnswer, runBytes};
 ghost use Rattle.station.specs.Given.{fieldsOf};
-ghost use Rattle.bunvespo.specs.Pairs.{truth, heldPair, commandPair, runPair, AnswersPair};
-
-// A refusal, 0 where the call is answered, and a value.
-#[repr(C)]
-pub struct Pair {
-    pub refusal: u64,
-    pub value: u64,
-}
+ghost use Rattle.matrix.specs.Numbers.{truth, heldNumbers, commandNumbers, runNumbers};
+ghost use Rattle.bunvespo.specs.Numbers.{AnswersNumbers};
 
 // Whether a record is valid: 1 or 0.
 #[no_mangle]
@@ -25,20 +20,20 @@ pub extern "C" fn bunvespo_valid(b: &[u8]) -> u64
 
 // Whether a right is held: the value is 1 or 0.
 #[no_mangle]
-pub extern "C" fn bunvespo_held(b: &[u8], s: u64, o: u64, right: u64) -> Pair
-    ensures { λ r. ⌜ r ≡ heldPair (heldAnswer (now (b .entry)) s o right) ⌝ }
+pub extern "C" fn bunvespo_held(b: &[u8], s: u64, o: u64, right: u64) -> Numbers
+    ensures { λ r. ⌜ r ≡ heldNumbers (heldAnswer (now (b .entry)) s o right) ⌝ }
 {
     let answer = station::held(b, s, o, right);
     match answer {
-        Holding::Yes => Pair {
+        Holding::Yes => Numbers {
             refusal: 0,
             value: 1,
         },
-        Holding::No => Pair {
+        Holding::No => Numbers {
             refusal: 0,
             value: 0,
         },
-        Holding::Refused(k) => Pair {
+        Holding::Refused(k) => Numbers {
             refusal: k as u64,
             value: 0,
         },
@@ -47,17 +42,24 @@ pub extern "C" fn bunvespo_held(b: &[u8], s: u64, o: u64, right: u64) -> Pair
 
 // One command: the value is the number of owner links that the walk followed.
 #[no_mangle]
-pub extern "C" fn bunvespo_command(b: &mut [u8], code: u64, i: u64, s: u64, o: u64, k: u64) -> Pair
-    ensures pair { λ r. ⌜ r ≡ commandPair (commandAnswer (now (b .entry)) (fieldsOf code i s o k)) ⌝ }
+pub extern "C" fn bunvespo_command(
+    b: &mut [u8],
+    code: u64,
+    i: u64,
+    s: u64,
+    o: u64,
+    k: u64,
+) -> Numbers
+    ensures numbers { λ r. ⌜ r ≡ commandNumbers (commandAnswer (now (b .entry)) (fieldsOf code i s o k)) ⌝ }
     ensures bytes { λ r. ⌜ now (b .exit) ≡ commandBytes (now (b .entry)) (fieldsOf code i s o k) ⌝ }
 {
     let answer = station::command(b, code, i, s, o, k);
     match answer {
-        Answer::Accepted(links) => Pair {
+        Answer::Accepted(links) => Numbers {
             refusal: 0,
             value: links as u64,
         },
-        Answer::Refused(number, links) => Pair {
+        Answer::Refused(number, links) => Numbers {
             refusal: number as u64,
             value: links as u64,
         },
@@ -66,12 +68,12 @@ pub extern "C" fn bunvespo_command(b: &mut [u8], code: u64, i: u64, s: u64, o: u
 
 // A list of commands: the value is the number accepted.
 #[no_mangle]
-pub extern "C" fn bunvespo_run(b: &mut [u8], l: &[u8]) -> Pair
-    ensures pair { λ r. ⌜ r ≡ runPair (runAnswer (now (b .entry)) (now (l .entry))) ⌝ }
+pub extern "C" fn bunvespo_run(b: &mut [u8], l: &[u8]) -> Numbers
+    ensures numbers { λ r. ⌜ r ≡ runNumbers (runAnswer (now (b .entry)) (now (l .entry))) ⌝ }
     ensures bytes { λ r. ⌜ now (b .exit) ≡ runBytes (now (b .entry)) (now (l .entry)) ⌝ }
 {
     let outcome = station::run(b, l);
-    Pair {
+    Numbers {
         refusal: outcome.refusal as u64,
         value: outcome.accepted as u64,
     }
@@ -86,20 +88,20 @@ pub extern "C" fn bunvespo_safety(
     o: u64,
     right: u64,
     out: &mut [u8],
-) -> Pair
-    ensures { λ r. ⌜ AnswersPair (now (b .entry)) trust s o right (now (out .entry)) (now (out .exit)) r ⌝ }
+) -> Numbers
+    ensures { λ r. ⌜ AnswersNumbers (now (b .entry)) trust s o right (now (out .entry)) (now (out .exit)) r ⌝ }
 {
     let answer = station::safety(b, trust, s, o, right, out);
     match answer {
-        Safety::Safe => Pair {
+        Safety::Safe => Numbers {
             refusal: 0,
             value: 0,
         },
-        Safety::Leaks(commands) => Pair {
+        Safety::Leaks(commands) => Numbers {
             refusal: 0,
             value: commands as u64 + 1,
         },
-        Safety::Refused(k) => Pair {
+        Safety::Refused(k) => Numbers {
             refusal: k as u64,
             value: 0,
         },

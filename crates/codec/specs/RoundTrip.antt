@@ -16,7 +16,7 @@ use Rattle.matrix.specs.Rights.{codeOf, rightOf}
 use Rattle.matrix.specs.State.{State, has}
 use Rattle.matrix.specs.Bytes.{bytesOfNumber, bit, joined}
 use Rattle.matrix.specs.Shape.{Shape, shapeOf, columns, cellPlace, countOf, bitsOf}
-use Rattle.matrix.specs.Reading.{cellAt, cellOf, rowOf, bitAt, stateOf, bytesOf}
+use Rattle.matrix.specs.Reading.{cellAt, content, contentOf, cellOf, rowOf, header, bitAt, stateOf, bytesOf}
 use Rattle.matrix.specs.Shaped.{Shaped, Octets, Within}
 use Rattle.laws.specs.Tests.{same-test, and-left, and-right}
 use Rattle.codec.specs.ShapeRight.{ShapeRight}
@@ -112,7 +112,7 @@ module _ (b : List ℕ) (s : Shaped b) (o : Octets b) where
       rest : (a i m v : ℕ) → a + v * (i * m) - a ≤ i * (m * v)
       rest a i m v = omega arith
 
-  header-read : shapeOf b .version ∷ bytesOfNumber 4 (countOf (shapeOf b)) ++ (shapeOf b .n ∷ shapeOf b .p ∷ []) ≡ take (shapeOf b .first) b
+  header-read : header (shapeOf b) ≡ take (shapeOf b .first) b
   unfolding shapeOf
   header-read =
       ap (λ (v : ℕ). getD b 0 0 ∷ bytesOfNumber 4 v ++ (getD b 5 0 ∷ getD b 6 0 ∷ [])) (sym (s .count))
@@ -130,28 +130,28 @@ module _ (b : List ℕ) (s : Shaped b) (o : Octets b) where
           ∙ ap (λ (x : List ℕ). x ++ (getD b 5 0 ∷ getD b 6 0 ∷ []))
           (take-add 1 4 b ∙ ap (λ (x : List ℕ). x ++ take 4 (drop 1 b)) (take-suc b 0 0 (long 1 (omega arith))))
 
-  pub read-write : bytesOf (shapeOf b) (stateOf b) ≡ b
+  pub read-write : bytesOf (contentOf b) ≡ b
   unfolding bytesOf
   read-write = ap₂ {C = List ℕ} (λ x y. x ++ y) header-read rows-read ∙ take-append-drop (shapeOf b .first) b
 
 -- ---- a state that is written, and read again
 
-pub write-read : (f : Shape) (S : State) → ShapeRight f → Within f S → stateOf (bytesOf f S) ≡ S
+pub write-read : (f : Shape) (S : State) → ShapeRight f → Within f S → stateOf (bytesOf (content f S)) ≡ S
 write-read f S g i =
-    same-state (stateOf (bytesOf f S)) S (top ∙ sym (i .top))
-    (λ y w x. same-test (has (stateOf (bytesOf f S)) y w x) (has S y w x) (read y w x) (written y w x))
+    same-state (stateOf (bytesOf (content f S))) S (top ∙ sym (i .top))
+    (λ y w x. same-test (has (stateOf (bytesOf (content f S))) y w x) (has S y w x) (read y w x) (written y w x))
   where
-    shape : shapeOf (bytesOf f S) ≡ f
+    shape : shapeOf (bytesOf (content f S)) ≡ f
     shape = shape-write f S g
 
-    top : stateOf (bytesOf f S) .top ≡ f .n
-    top = within-read (bytesOf f S) .top ∙ ap (λ (e : Shape). e .n) shape
+    top : stateOf (bytesOf (content f S)) .top ≡ f .n
+    top = within-read (bytesOf (content f S)) .top ∙ ap (λ (e : Shape). e .n) shape
 
     -- within the names and rights of the shape the bit is read as it is in the state
     inside : (y : Right) (w : ℕ) (x : Name) → w < f .n → named (f .n) (f .p) x ≡ true → codeOf y < bitsOf f
-        → has (stateOf (bytesOf f S)) y w x ≡ has S y w x
+        → has (stateOf (bytesOf (content f S))) y w x ≡ has S y w x
     inside y w x row column room =
-        bit-named (bytesOf f S) y w x (rw shape row) (rw shape column) (rw shape room) ∙ ap (bit (codeOf y)) (cell-write f S w c g row below)
+        bit-named (bytesOf (content f S)) y w x (rw shape row) (rw shape column) (rw shape room) ∙ ap (bit (codeOf y)) (cell-write f S w c g row below)
         ∙ bit-fromBits (bitsOf f) (λ j. has S (rightOf j) w (nameOf (f .n) c)) (codeOf y) room
         ∙ ap (λ (z : Right). has S z w (nameOf (f .n) c)) (rightOf-codeOf y) ∙ ap (has S y w) name
       where
@@ -164,10 +164,10 @@ write-read f S g i =
         below : c < columns f
         below = named-below (f .n) (f .p) x column
 
-    read : (y : Right) (w : ℕ) (x : Name) → has (stateOf (bytesOf f S)) y w x ≡ true → has S y w x ≡ true
+    read : (y : Right) (w : ℕ) (x : Name) → has (stateOf (bytesOf (content f S))) y w x ≡ true → has S y w x ≡ true
     read y w x h =
-        let n = within-read (bytesOf f S) in
+        let n = within-read (bytesOf (content f S)) in
         sym (inside y w x (rw shape at (n .row y w x h)) (rw shape at (n .column y w x h)) (rw shape at (n .right y w x h))) ∙ h
 
-    written : (y : Right) (w : ℕ) (x : Name) → has S y w x ≡ true → has (stateOf (bytesOf f S)) y w x ≡ true
+    written : (y : Right) (w : ℕ) (x : Name) → has S y w x ≡ true → has (stateOf (bytesOf (content f S))) y w x ≡ true
     written y w x h = inside y w x (i .row y w x h) (i .column y w x h) (i .right y w x h) ∙ h

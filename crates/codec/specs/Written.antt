@@ -13,18 +13,14 @@ use Rattle.matrix.specs.Names.{nameOf}
 use Rattle.matrix.specs.State.{State, has}
 use Rattle.matrix.specs.Bytes.{numberAt, bytesOfNumber, joined}
 use Rattle.matrix.specs.Shape.{Shape, shapeOf, columns, countOf, bitsOf, mostSubjects, mostPlain, sizeOf, cellPlace}
-use Rattle.matrix.specs.Reading.{cellAt, cellOf, rowOf, bytesOf}
+use Rattle.matrix.specs.Reading.{cellAt, content, cellOf, rowOf, header, bytesOf}
 use Rattle.matrix.specs.Shaped.{Shaped, Octets}
 use Rattle.codec.specs.ShapeRight.{ShapeRight}
 use Rattle.codec.specs.Bits.{fromBits-below}
 use Rattle.codec.specs.Numbers.{numberAt-agree, numberAt-bytes, length-bytesOfNumber, octets-bytesOfNumber, pow-bytes}
 use Rattle.codec.specs.Blocks.{length-joined, getD-joined, octets-nil, octets-cons, octets-append, octets-joined}
 
--- the bytes before the rows
-abbrev header : Shape → List ℕ
-header f = f .version ∷ bytesOfNumber 4 (countOf f) ++ (f .n ∷ f .p ∷ [])
-
-length-header : (f : Shape) → ShapeRight f → length (header f) ≡ f .first
+pub length-header : (f : Shape) → ShapeRight f → length (header f) ≡ f .first
 length-header f g =
     length-append (f .version ∷ bytesOfNumber 4 (countOf f)) (f .n ∷ f .p ∷ [])
     ∙ ap (λ (k : ℕ). suc k + 2) (length-bytesOfNumber 4 (countOf f)) ∙ sym (g .first)
@@ -34,7 +30,7 @@ module _ (f : Shape) (S : State) where
   length-row r =
       length-joined (columns f) (f .width) (λ c. bytesOfNumber (f .width) (cellOf f S r c)) (λ c l. length-bytesOfNumber (f .width) (cellOf f S r c))
 
-  pub length-write : ShapeRight f → length (bytesOf f S) ≡ sizeOf f
+  pub length-write : ShapeRight f → length (bytesOf (content f S)) ≡ sizeOf f
   unfolding bytesOf
   length-write g =
       length-append (header f) (joined (f .n) (rowOf f S))
@@ -45,19 +41,19 @@ module _ (f : Shape) (S : State) where
       regroup a n k w = omega arith
 
   -- the header as it is read
-  version-write : getD (bytesOf f S) 0 0 ≡ f .version
+  version-write : getD (bytesOf (content f S)) 0 0 ≡ f .version
   unfolding bytesOf
   version-write = refl
 
-  n-write : getD (bytesOf f S) 5 0 ≡ f .n
+  n-write : getD (bytesOf (content f S)) 5 0 ≡ f .n
   unfolding bytesOf bytesOfNumber
   n-write = refl
 
-  p-write : getD (bytesOf f S) 6 0 ≡ f .p
+  p-write : getD (bytesOf (content f S)) 6 0 ≡ f .p
   unfolding bytesOf bytesOfNumber
   p-write = refl
 
-  pub shape-write : ShapeRight f → shapeOf (bytesOf f S) ≡ f
+  pub shape-write : ShapeRight f → shapeOf (bytesOf (content f S)) ≡ f
   unfolding shapeOf
   shape-write g =
       rw (version-write, n-write, p-write)
@@ -76,7 +72,7 @@ module _ (f : Shape) (S : State) where
       most : (a x : ℕ) → a ≤ 16 → x ≤ 4 * (mostSubjects * (mostSubjects + mostPlain)) → a + x - 5 < 256 ^ 4
       most a x h l = omega arith
 
-  pub count-write : ShapeRight f → numberAt (bytesOf f S) 1 4 ≡ countOf f
+  pub count-write : ShapeRight f → numberAt (bytesOf (content f S)) 1 4 ≡ countOf f
   unfolding bytesOf
   count-write g =
       ap (λ (x : List ℕ). numberAt (f .version ∷ x) 1 4) (append-assoc (bytesOfNumber 4 (countOf f)) (f .n ∷ f .p ∷ []) (joined (f .n) (rowOf f S)))
@@ -84,10 +80,10 @@ module _ (f : Shape) (S : State) where
 
   -- a byte of a cell
   getD-write : (r c j : ℕ) → ShapeRight f → r < f .n → c < columns f → j < f .width
-      → getD (bytesOf f S) (cellPlace f r c + j) 0 ≡ getD (bytesOfNumber (f .width) (cellOf f S r c)) j 0
+      → getD (bytesOf (content f S)) (cellPlace f r c + j) 0 ≡ getD (bytesOfNumber (f .width) (cellOf f S r c)) j 0
   unfolding bytesOf
   getD-write r c j g h l k =
-      ap (λ (i : ℕ). getD (bytesOf f S) i 0) place
+      ap (λ (i : ℕ). getD (bytesOf (content f S)) i 0) place
       ∙ getD-append-add (header f) (joined (f .n) (rowOf f S)) (r * (columns f * f .width) + (c * f .width + j)) 0
       ∙ getD-joined (f .n) (columns f * f .width) (rowOf f S) (λ a b. length-row a) r (c * f .width + j) h (digits-lt l k)
       ∙ getD-joined (columns f) (f .width) (λ d. bytesOfNumber (f .width) (cellOf f S r d)) (λ d b. length-bytesOfNumber (f .width) (cellOf f S r d)) c j l k
@@ -99,7 +95,7 @@ module _ (f : Shape) (S : State) where
       place = regroup (f .first) (f .width) r (columns f) c j (length (header f)) (length-header f g)
 
   -- a cell as it is read
-  pub cell-write : (r c : ℕ) → ShapeRight f → r < f .n → c < columns f → cellAt (bytesOf f S) r c ≡ cellOf f S r c
+  pub cell-write : (r c : ℕ) → ShapeRight f → r < f .n → c < columns f → cellAt (bytesOf (content f S)) r c ≡ cellOf f S r c
   unfolding cellAt
   cell-write r c g h l = rw (shape-write g) number
     where
@@ -109,16 +105,16 @@ module _ (f : Shape) (S : State) where
       below : v < 256 ^ f .width
       below = rw (pow-bytes (f .width)) (fromBits-below (bitsOf f) (λ j. has S (rightOf j) r (nameOf (f .n) c)))
 
-      number : numberAt (bytesOf f S) (cellPlace f r c) (f .width) ≡ v
+      number : numberAt (bytesOf (content f S)) (cellPlace f r c) (f .width) ≡ v
       number =
-          numberAt-agree (bytesOf f S) (bytesOfNumber (f .width) v) (cellPlace f r c) 0 (f .width)
+          numberAt-agree (bytesOf (content f S)) (bytesOfNumber (f .width) v) (cellPlace f r c) 0 (f .width)
           (λ j k. getD-write r c j g h l k ∙ ap (λ (i : ℕ). getD (bytesOfNumber (f .width) v) i 0) (sym (zero-add j)))
           ∙ whole
         where
           whole : numberAt (bytesOfNumber (f .width) v) 0 (f .width) ≡ v
           whole = subst (λ (x : List ℕ). numberAt x 0 (f .width) ≡ v) (append-nil (bytesOfNumber (f .width) v)) (numberAt-bytes [] (f .width) v [] below)
 
-  pub shaped-write : ShapeRight f → Shaped (bytesOf f S)
+  pub shaped-write : ShapeRight f → Shaped (bytesOf (content f S))
   shaped-write g =
       record {
         version = rw (shape-write g) (g .version);
@@ -129,7 +125,7 @@ module _ (f : Shape) (S : State) where
         size = rw (shape-write g) (length-write g);
       }
 
-  pub octets-write : ShapeRight f → Octets (bytesOf f S)
+  pub octets-write : ShapeRight f → Octets (bytesOf (content f S))
   unfolding bytesOf
   octets-write g =
       octets-append (header f) (joined (f .n) (rowOf f S))

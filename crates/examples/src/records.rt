@@ -1,4 +1,4 @@
-// The records that are asked of: each a record of the paper, told by its length, with one byte replaced.
+// The records that are asked of: each a record of the manual, told by its length, with one byte replaced.
 use crate::lines::report;
 use crate::lines::say;
 use libc::STDOUT_FILENO;

@@ -82,7 +82,7 @@ fn further() {
     // code 3 with s = o, and with s = i
     row(13, 31, 0, 1, 3, 0, 1, 1, 0, 0);
     row(0, 31, 0, 1, 3, 1, 1, 2, 0, 0);
-    // subject 1 has r and r* of basic right 1 over log 3: deleting r leaves r*, so r is still held until r* is deleted too
+    // subject 1 has r and r* of basic right 1 over log 3: without the bit of r it holds r by r*, until r* is deleted too
     row(0, 31, 22, 0x30, 8, 2, 1, 3, 1, 4);
     row(0, 31, 22, 0x20, 9, 2, 1, 3, 1, 4);
 }

@@ -34,18 +34,18 @@ given-range basics names S c =
     first-number InRange (test 6 (known (c .code)) ∷ test 7 (names && fit) ∷ test number (eqb number 0) ∷ []) (omega arith)
     (omega arith, (omega arith, (λ e. decoded-range S (decode c), tt)))
 
--- "a command 6 to 14", or 0: accepted
+-- the refusal of a command is 6 to 14, or 0: accepted
 pub refusal-range : (basics : ℕ) (names : Bool) (S : State) (c : Raw) → (refusal basics names S c ≡ 0) ⊎ ((6 ≤ refusal basics names S c) × (refusal basics names S c ≤ 14))
 refusal-range basics names S c =
     let number = refusal basics names S c in
     ⊎-elim (λ e. inl (eqb-true number 0 e)) (λ e. inr (given-range basics names S c (eqb-false number 0 e))) (way (eqb number 0))
 
--- "Accepted code 3 and refusal 13 report the links followed; every other answer reports 0": other refusals ..
+-- Links are answered with accepted code 3 and with refusal 13 alone (Manual 5.5), not with other refusals ..
 pub links-only : (basics : ℕ) (names : Bool) (S : State) (c : Raw) → refusal basics names S c ≢ 0 → refusal basics names S c ≢ 13 → links basics names S c ≡ 0
 unfolding links
 links-only basics names S c h g = rw (ne-eqb (refusal basics names S c) 0 h, ne-eqb (refusal basics names S c) 13 g) refl
 
--- .. and other codes
+-- .. nor with other codes
 pub links-only-three : (basics : ℕ) (names : Bool) (S : State) (c : Raw) → c .code ≢ 3 → links basics names S c ≡ 0
 unfolding links
 links-only-three basics names S c h = either (eqb (refusal basics names S c) 0 || eqb (refusal basics names S c) 13) none

@@ -3,8 +3,7 @@ use Prim.Native.Nat.{ℕ}
 use mathlib.Core.List.{List, [], _∷_}
 use Rattle.matrix.specs.declared.Fields.{Fields}
 
--- "A (31 bytes): 01 0000001A 03 01, rows 0002 0001 0000 0000, 0000 0002 0001 0000, 0000 0000 0002 0001." The last byte is a
--- parameter: the rows below give it as 01 and as 00.
+-- Station A (Manual 10.1). The last byte is a parameter: the rows of Manual 10.2 give it as 01 and as 00.
 abbrev stationA : ℕ → List ℕ
 stationA last =
     0x01 ∷ 0x00 ∷ 0x00 ∷ 0x00 ∷ 0x1A ∷ 0x03 ∷ 0x01 ∷
@@ -15,11 +14,11 @@ stationA last =
 unfoldable pub A : List ℕ
 A = stationA 0x01
 
--- "With last byte 00"
+-- A with last byte 00
 unfoldable pub A-ends-00 : List ℕ
 A-ends-00 = stationA 0x00
 
--- "B: n = 2, p = 1, rows 0002 0000 0000 and zeros."
+-- station B (Manual 10.1)
 unfoldable pub B : List ℕ
 B =
     0x01 ∷ 0x00 ∷ 0x00 ∷ 0x00 ∷ 0x0E ∷ 0x02 ∷ 0x01 ∷

@@ -1,4 +1,4 @@
--- The rows of "Stations A and B" about validity and commands, as theorems about the definitions.
+-- The rows of Manual 10.2 about validity and commands, as theorems about the definitions.
 use mathlib.Core.Path.{_≡_, refl}
 use mathlib.Core.Bool.{true, false}
 use Rattle.matrix.specs.declared.Name.the-variants.{Plain}
@@ -17,16 +17,16 @@ use Rattle.frame.specs.StationBytes.{A, A-ends-00, B, transferOwn}
 
 -- The rows, under one proof.
 pub record Stations : Type 0 where
-  -- "A is valid."
+  -- A is valid.
   pub a-valid : validAnswer A ≡ true
-  -- "With last byte 00 it still is: log 3 is then absent."
+  -- So is A with last byte 00, in which log 3 is absent.
   pub a-ends-00-valid : validAnswer A-ends-00 ≡ true
   pub log-there : existsName (stateOf A) (Plain 3) ≡ true
   pub log-absent : existsName (stateOf A-ends-00) (Plain 3) ≡ false
-  -- "A, code 3 (0, 2, 1): 13, one link."
+  -- On A code 3 (0, 2, 1) is refused by 13, with 1 link, and no byte changes.
   pub walk-meets : commandAnswer A (transferOwn 0 2 1) ≡ Refused 13 1
   pub walk-meets-bytes : commandBytes A (transferOwn 0 2 1) ≡ A
-  -- "Code 3 (1, 1, 2): accepted, one link." "Code 3 with s = i changes nothing."
+  -- On A code 3 (1, 1, 2) is accepted with 1 link; here s = i, so that no byte changes (Manual 5.4).
   pub to-itself : commandAnswer A (transferOwn 1 1 2) ≡ Accepted 1
   pub to-itself-bytes : commandBytes A (transferOwn 1 1 2) ≡ A
   -- B is valid as well.

@@ -22,7 +22,7 @@ use Rattle.owners.specs.Framed.{valid-framed, owner-same}
 pub row-below : {S : State} → Valid S → (y : Right) (w : ℕ) (x : Name) → has S y w x ≡ true → w < S .top
 row-below v y w x h = v .bound w (v .row y w x h)
 
--- "A plain object exists if some row owns it."
+-- a plain object exists exactly where some subject, of any number, owns it (Manual 3.1)
 pub object-exists : {S : State} → Valid S → (o : ℕ) → (existsName S (Plain o) ≡ true) ↔ ((w : ℕ) × (S .owns w (Plain o) ≡ true))
 object-exists {S} v o = (found, there)
   where
@@ -36,7 +36,7 @@ object-exists {S} v o = (found, there)
 pub owner-found : {S : State} → Valid S → (w s : ℕ) → S .owns w (Subject s) ≡ true → ownerOf (S .top) (S .owns) s ≡ w
 owner-found v w s h = sym (owner-same (valid-framed v) w s h)
 
--- "none but o controls o"
+-- another controller is found exactly where some subject, of any number, is one (Manual 5.2, code 6)
 pub controller-found : {S : State} → Valid S → (x : Name) → (otherController S x ≡ true) ↔ ((w : ℕ) × (S .controls w x ≡ true) × (Subject w ≢ x))
 controller-found {S} v x = (found, there)
   where

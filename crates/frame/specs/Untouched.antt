@@ -1,4 +1,4 @@
--- "No cell that a rule doesn't name changes": a bit that a command doesn't name is after it as it was before.
+-- A bit that a command doesn't name is after it as it was before (Manual 5.5).
 use Prim.Native.Nat.{ℕ}
 use mathlib.Core.Path.{_≡_, refl, _∙_}
 use mathlib.Core.Logic.{_≢_, ⊎-elim}
@@ -59,7 +59,7 @@ unfolding next
 untouched-next basics names S c z w x h =
     ⊎-elim (λ e. rw e (untouched S (decode c) z w x h)) (λ e. rw e refl) (way (eqb (refusal basics names S c) 0))
 
--- "Any other is refused and changes nothing."
+-- a refused command changes nothing
 pub refused-same : (basics : ℕ) (names : Bool) (S : State) (c : Raw) → refusal basics names S c ≢ 0 → next basics names S c ≡ S
 unfolding next
 refused-same basics names S c h = rw (ne-eqb (refusal basics names S c) 0 h) refl

@@ -12,7 +12,7 @@ use Rattle.matrix.specs.Shape.{shapeOf}
 use Rattle.matrix.specs.Reading.{stateOf}
 use Rattle.matrix.specs.Calls.{questionFits}
 
--- test 7 on a record of n subject names and p plain names: "s ≥ n, o ≥ n + p, .. right > 15"
+-- test 7 of a held question on a record of n subject names and p plain names (Manual 7.2)
 abbrev pub withinQuestion : ℕ → ℕ → ℕ → ℕ → ℕ → Bool
 withinQuestion n p s o right = ltb s n && ltb o (n + p) && ltb right 16
 

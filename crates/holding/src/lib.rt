@@ -14,7 +14,7 @@ ghost use Rattle.cells.specs.Station.{Station};
 ghost use Rattle.states.specs.Needs.{BitIn};
 ghost use Rattle.holding.specs.Held.{withinQuestion, heldOn};
 
-// Whether row w holds right y over x: its bit is set, or, for a plain basic right, the starred bit is.
+// Whether row w holds right y over x (Manual 1.3): by its own bit, or a plain basic right by the starred bit.
 pub fn is_held(b: &[u8], n: usize, p: usize, y: Right, w: usize, x: Name) -> bool
     requires { ⌜ BitIn (now b) n p y w x ⌝ }
     ensures { λ t. ⌜ t ≡ held (stateOf (now (b .entry))) y w x ⌝ }

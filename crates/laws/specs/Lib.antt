@@ -6,4 +6,5 @@ pub mod Passed
 pub mod Changed
 pub mod Walks
 pub mod Rules
+pub mod Numbers
 pub mod BitOps

@@ -1,13 +1,13 @@
 -- What a list of the right form has.
-use Prim.Native.Nat.{ℕ, _+_, _%_, _≤_}
-use mathlib.Core.Path.{_≡_}
+use Prim.Native.Nat.{ℕ, zero, suc, _+_, _%_, _≤_}
+use mathlib.Core.Path.{_≡_, refl, ap}
 use mathlib.Core.Bool.{Bool, true, _&&_}
 use mathlib.Core.List.{List}
 use lib.Dec.{eqb, leb}
 use lib.ListN.{length, getD}
 use borrow.Author.Tests.{leb-true, eqb-true}
 use Rattle.matrix.specs.Bytes.{numberAt}
-use Rattle.matrix.specs.CommandList.{wellFormed, mostListBytes, recordBytes}
+use Rattle.matrix.specs.CommandList.{wellFormed, commandsFrom, mostListBytes, recordBytes}
 use Rattle.laws.specs.Tests.{and-left, and-right}
 
 pub record Formed (l : List ℕ) : Type 0 where
@@ -29,3 +29,9 @@ unfolding wellFormed
 formed l h =
     let w = parts (leb 5 (length l)) (eqb (getD l 0 0) 1) (eqb (5 + numberAt l 1 4) (length l)) (leb (numberAt l 1 4) mostListBytes) (eqb (numberAt l 1 4 % recordBytes) 0) _ h in
     record { long = leb-true 5 (length l) (w .0); size = eqb-true (5 + numberAt l 1 4) (length l) (w .1); bounded = leb-true (numberAt l 1 4) mostListBytes (w .2); whole = eqb-true (numberAt l 1 4 % recordBytes) 0 (w .3) }
+
+-- the number of commands that are read
+pub length-commands : (l : List ℕ) (j m : ℕ) → length (commandsFrom l j m) ≡ m
+unfolding commandsFrom
+length-commands l j zero = refl
+length-commands l j (suc m) = ap suc (length-commands l (suc j) m)

@@ -20,7 +20,7 @@ unfoldable pub bytesOfNumber : ℕ → ℕ → List ℕ
 bytesOfNumber zero v = []
 bytesOfNumber (suc w) v = bytesOfNumber w (v / 256) ++ (v % 256 ∷ [])
 
--- bit j of v is set, "bit 0 lowest"
+-- bit j of v is set, counted from 0 for the lowest
 unfoldable pub bit : ℕ → ℕ → Bool
 bit j v = eqb (v / 2 ^ j % 2) 1
 

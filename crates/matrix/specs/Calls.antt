@@ -9,14 +9,16 @@ use Rattle.matrix.specs.declared.Answer.the-variants.{Refused}
 use Rattle.matrix.specs.declared.Holding.{Holding}
 use Rattle.matrix.specs.declared.Holding.the-variants.{Yes, No}
 use Rattle.matrix.specs.declared.Outcome.{Outcome}
+use Rattle.matrix.specs.declared.Numbers.{Numbers}
 use Rattle.matrix.specs.Names.{nameOf}
+use Rattle.matrix.specs.Numbers.{truth, numbers}
 use Rattle.matrix.specs.Rights.{rightOf}
 use Rattle.matrix.specs.State.{State, held}
 use Rattle.matrix.specs.Commands.{Raw}
 use Rattle.matrix.specs.Tests.{test, firstFailed}
 use Rattle.matrix.specs.Step.{refusal, links, next, answer}
 use Rattle.matrix.specs.Shape.{Shape, shapeOf, bitsOf, basicsOf, columns}
-use Rattle.matrix.specs.Reading.{stateOf, bytesOf}
+use Rattle.matrix.specs.Reading.{stateOf, content, bytesOf}
 use Rattle.matrix.specs.Record.{recordRefusal}
 use Rattle.matrix.specs.CommandList.{wellFormed, commandsOf}
 
@@ -32,11 +34,18 @@ questionFits f s o right = ltb s (f .n) && ltb o (columns f) && ltb right (bitsO
 unfoldable pub heldRefusal : List ℕ → ℕ → ℕ → ℕ → ℕ
 heldRefusal b s o right = firstFailed (test (recordRefusal b) (eqb (recordRefusal b) 0) ∷ test 7 (questionFits (shapeOf b) s o right) ∷ [])
 
+abbrev pub holdsOn : List ℕ → ℕ → ℕ → ℕ → Bool
+holdsOn b s o right = held (stateOf b) (rightOf right) s (nameOf (shapeOf b .n) o)
+
 unfoldable pub heldAnswer : List ℕ → ℕ → ℕ → ℕ → Holding
 heldAnswer b s o right =
     cond (eqb (heldRefusal b s o right) 0)
-    (cond (held (stateOf b) (rightOf right) s (nameOf (shapeOf b .n) o)) Yes No)
+    (cond (holdsOn b s o right) Yes No)
     (Rattle.matrix.specs.declared.Holding.the-variants.Refused (heldRefusal b s o right))
+
+-- the same in numbers
+unfoldable pub heldResult : List ℕ → ℕ → ℕ → ℕ → Numbers
+heldResult b s o right = numbers (heldRefusal b s o right) (cond (eqb (heldRefusal b s o right) 0) (truth (holdsOn b s o right)) 0)
 
 -- A command as given to a record of a shape: "in a written list o below n is subject o, any other is plain name o".
 abbrev pub rawOf : Shape → Fields → Raw
@@ -63,10 +72,18 @@ commandAnswer b c =
     (answer (refusalOn (shapeOf b) (stateOf b) c) (linksOn (shapeOf b) (stateOf b) c))
     (Refused (recordRefusal b) 0)
 
+-- the same in numbers
+unfoldable pub commandResult : List ℕ → Fields → Numbers
+commandResult b c =
+    cond (eqb (recordRefusal b) 0)
+    (numbers (refusalOn (shapeOf b) (stateOf b) c) (linksOn (shapeOf b) (stateOf b) c))
+    (numbers (recordRefusal b) 0)
+
+-- the record after it: the same shape with the next state, or, where it is refused, the same bytes
 unfoldable pub commandBytes : List ℕ → Fields → List ℕ
 commandBytes b c =
     cond (eqb (recordRefusal b) 0 && eqb (refusalOn (shapeOf b) (stateOf b) c) 0)
-    (bytesOf (shapeOf b) (nextOn (shapeOf b) (stateOf b) c))
+    (bytesOf (content (shapeOf b) (nextOn (shapeOf b) (stateOf b) c)))
     b
 
 -- A run over a list of commands. "The run stops at the first refused command and answers the number accepted and the refusal,
@@ -96,6 +113,13 @@ runAnswer b l =
     (record { accepted = ranOn b l .accepted; refusal = ranOn b l .refusal })
     (record { accepted = 0; refusal = runRefusal b l })
 
+-- the same in numbers
+unfoldable pub runResult : List ℕ → List ℕ → Numbers
+runResult b l =
+    cond (eqb (runRefusal b l) 0)
+    (numbers (ranOn b l .refusal) (ranOn b l .accepted))
+    (numbers (runRefusal b l) 0)
+
 -- "a list run keeps what it accepted before"
 unfoldable pub runBytes : List ℕ → List ℕ → List ℕ
-runBytes b l = cond (eqb (runRefusal b l) 0) (bytesOf (shapeOf b) (ranOn b l .state)) b
+runBytes b l = cond (eqb (runRefusal b l) 0) (bytesOf (content (shapeOf b) (ranOn b l .state))) b

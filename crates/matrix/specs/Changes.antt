@@ -1,4 +1,4 @@
--- The change that an accepted command makes: the table's last column.
+-- The change that an accepted command makes: the last column of the table in Manual 5.2.
 use Prim.Native.Nat.{ℕ, suc, max}
 use mathlib.Core.Bool.{Bool, true, false, _&&_, _||_}
 use lib.Dec.{eqb}
@@ -15,7 +15,7 @@ use Rattle.matrix.specs.State.{State, put, clear}
 abbrev pub admit : ℕ → State → State
 admit s S = record { top = max (S .top) (suc s); owns = S .owns; controls = S .controls; basic = S .basic }
 
--- "i gains own over all that s owns"
+-- whatever s owns, i owns too
 abbrev pub inherit : ℕ → ℕ → State → State
 inherit i s S = record { top = S .top; owns = λ w x. S .owns w x || eqb w i && S .owns s x; controls = S .controls; basic = S .basic }
 
@@ -26,7 +26,7 @@ inColumn c w x = sameName x c
 abbrev pub inCross : ℕ → ℕ → Name → Bool
 inCross s w x = sameName x (Subject s) || eqb w s
 
--- Code 3: i loses own before s gains it, so that "code 3 with s = i changes nothing".
+-- Code 3: i loses own before s gets it, so that nothing changes where s = i (Manual 5.4).
 abbrev pub change : State → Command → Act → State
 change S c (Transfer Own) = put Own (c .s) (c .o) true (put Own (c .i) (c .o) false S)
 change S c (Transfer Control) = S

@@ -1,5 +1,4 @@
--- A list of commands: "Version byte 1, a four-byte L of the bytes that follow (at most 60,000), then records of a length byte 05
--- and the five fields, one byte each."
+-- A list of commands as bytes (Manual 6.1): a head of version and L, and six bytes for each command, the first of them 05.
 use Prim.Native.Nat.{ℕ, zero, suc, _+_, _*_, _/_, _%_}
 use mathlib.Core.Bool.{Bool, _&&_}
 use mathlib.Core.List.{List, [], _∷_}
@@ -23,8 +22,7 @@ commandsIn l = numberAt l 1 4 / recordBytes
 abbrev pub commandPlace : ℕ → ℕ
 commandPlace j = 5 + recordBytes * j
 
--- Refusal 16's condition is that this fails: "list under 5 bytes, version, L, or a length byte wrong; L over 60,000 or no
--- multiple of 6".
+-- The list has the right form; refusal 16 where this fails (Manual 7.1).
 unfoldable pub wellFormed : List ℕ → Bool
 wellFormed l =
     leb 5 (length l) && eqb (getD l 0 0) 1 && eqb (5 + numberAt l 1 4) (length l) && leb (numberAt l 1 4) mostListBytes

@@ -1,4 +1,4 @@
--- The thirteen commands: the fields that each uses and what it does, and decoding.
+-- The thirteen commands (Manual 5): the fields that each uses and what it does, and decoding.
 use Prim.Native.Nat.{ℕ, _-_}
 use mathlib.Core.Bool.{Bool, true, false, cond, _&&_, _||_}
 use mathlib.Core.List.{List, [], _∷_}
@@ -14,7 +14,7 @@ use Rattle.matrix.specs.declared.Kind.the-variants.{AnyName, SubjectName
 use Rattle.matrix.specs.declared.Rule.{Rule}
 use Rattle.matrix.specs.declared.Command.{Command}
 
--- A command before decoding. "Fields: code, initiator i, subject s, column o, basic right k." "Its o carries its kind."
+-- A command before decoding: its five fields (Manual 5.1), with o as a name, which has a kind (Manual 8.2).
 pub record Raw : Type 0 where
   pub code : ℕ
   pub i : ℕ
@@ -22,7 +22,7 @@ pub record Raw : Type 0 where
   pub o : Name
   pub k : ℕ
 
--- The kind that o has to be of: "3, 6 subject; 7, 10, 11 plain". This is the one table of kinds.
+-- The kind that o has to be of: a subject for codes 3 and 6, a plain object for 7, 10 and 11. This is the one table of kinds.
 abbrev pub kindOf : Act → Kind
 kindOf (Transfer Own) = SubjectName
 kindOf (Transfer Control) = AnyName
@@ -39,7 +39,7 @@ kindOf DestroySubject = AnyName
 abbrev rule : Bool → Bool → Bool → Act → Rule
 rule s o k act = record { s = s; o = o; k = k; kind = kindOf act; act = act }
 
--- The table's column "Uses" and what each command does, from code 1 to code 13; each uses i besides.
+-- The table of Manual 5.2 from code 1 to code 13: whether a command uses s, o and k, and what it does. Each uses i besides.
 abbrev pub rules : ℕ → List Rule
 rules k =
     rule true true true (Transfer (Basic k Plain)) ∷
@@ -56,7 +56,7 @@ rules k =
     rule true false false CreateSubject ∷
     rule true false false DestroySubject ∷ []
 
--- "code not 1 to 13" is refusal 6
+-- a code of the table; refusal 6 for any other
 abbrev pub known : ℕ → Bool
 known code = leb 1 code && leb code 13
 
@@ -64,7 +64,7 @@ known code = leb 1 code && leb code 13
 abbrev pub ruleOf : ℕ → ℕ → Rule
 ruleOf code k = getD (rules k) (code - 1) (rule true false false DestroySubject)
 
--- "A field that a command doesn't use is 0", and a basic right's number is below the number of basic rights.
+-- What refusal 7 asks of a command besides bounds on names (Manual 7.2): unused fields are 0, and k is the number of a basic right.
 abbrev pub fieldsFit : ℕ → Rule → ℕ → ℕ → ℕ → Bool
 fieldsFit basics r s o k = (r .s || eqb s 0) && (r .o || eqb o 0) && cond (r .k) (ltb k basics) (eqb k 0)
 

@@ -1,6 +1,8 @@
--- The definitions, in the order of the paper. A reader who checks these against the paper has checked what every promise says.
+-- The definitions, in the order to read them. A reader who checks these against docs/MANUAL.md has checked what every promise says;
+-- its section 11 has the notation and says which rule is where.
 pub mod Bounded
 pub mod Names
+pub mod Numbers
 pub mod Rights
 pub mod State
 pub mod Owners

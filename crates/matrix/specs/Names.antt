@@ -1,11 +1,11 @@
--- Names. "Subject names and plain names are two separate kinds, each numbered by any whole number."
+-- Names (Manual 1.1): subjects and plain objects, two kinds that are numbered apart and without end.
 use Prim.Native.Nat.{ℕ, _+_}
 use mathlib.Core.Bool.{Bool, true, false, cond, not, _&&_}
 use lib.Dec.{eqb, ltb}
 use Rattle.matrix.specs.declared.Name.{Name}
 use Rattle.matrix.specs.declared.Name.the-variants.{Subject, Plain}
 
--- "Subject 0 is the universal subject U."
+-- the universal subject
 abbrev pub U : ℕ
 U = 0
 
@@ -19,7 +19,7 @@ abbrev pub isSubject : Name → Bool
 isSubject (Subject a) = true
 isSubject (Plain a) = false
 
--- "Column c below n is subject c; the others are plain objects": "column c from n on is plain name c".
+-- The name that column c stands for in a record of n subject names: a subject where c < n, else a plain object, of the same number.
 abbrev pub nameOf : ℕ → ℕ → Name
 nameOf n c = cond (ltb c n) (Subject c) (Plain c)
 

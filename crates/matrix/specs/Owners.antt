@@ -1,4 +1,4 @@
--- Owners above a name, and the owner walk.
+-- Owners above a name, and the owner walk (Manual 4).
 use Prim.Native.Nat.{ℕ, zero, suc, _+_}
 use mathlib.Core.Path.{_≡_}
 use mathlib.Core.Bool.{Bool, true, false, cond}
@@ -11,7 +11,7 @@ use Rattle.matrix.specs.Bounded.{least}
 use Rattle.matrix.specs.Names.{U, sameName}
 use Rattle.matrix.specs.State.{State}
 
--- "Above o": "an owner of o, or an owner of one of those, and so on up to U, which counts like any other".
+-- Above a name are its owners, and whoever is above one of its owners. U is no exception (Manual 4.1).
 pub data Above (owns : ℕ → Name → Bool) : Name → ℕ → Type 0 where
   owner : {x : Name} {w : ℕ} → owns w x ≡ true → Above owns x w
   higher : {x : Name} {w v : ℕ} → owns w x ≡ true → Above owns (Subject w) v → Above owns x v
@@ -20,9 +20,9 @@ pub data Above (owns : ℕ → Name → Bool) : Name → ℕ → Type 0 where
 abbrev pub ownerOf : ℕ → (ℕ → Name → Bool) → ℕ → ℕ
 ownerOf top owns s = least top (λ w. owns w (Subject s))
 
--- "The owner walk starts at a subject and follows its owner until a wanted name or U is met. Its answer carries the number of
--- owner links followed." The wanted name is tested first. `left` is how many subjects the walk may still visit: `top` is enough
--- in a valid state, where the walk is never lost.
+-- The owner walk (Manual 4.2): at each subject it asks whether this is the wanted name o, then whether it is U, and else goes to the
+-- owner, which is one more link. `left` is how many subjects the walk may still visit: `top` is enough in a valid state, where the
+-- walk is never lost.
 unfoldable pub walkFrom : ℕ → (ℕ → Name → Bool) → ℕ → ℕ → Name → ℕ → Walked
 walkFrom top owns zero s o links = Lost
 walkFrom top owns (suc left) s o links =

@@ -1,4 +1,4 @@
--- The state that is read from a record's bytes, and the bytes that a state is written as.
+-- What is read from a record's bytes, and the bytes that it is written as (Manual 2).
 use Prim.Native.Nat.{ℕ}
 use mathlib.Core.Bool.{Bool, _&&_}
 use mathlib.Core.List.{List, [], _∷_, _++_}
@@ -28,6 +28,17 @@ unfoldable pub stateOf : List ℕ → State
 stateOf b =
     record { top = shapeOf b .n; owns = bitAt b (codeOf Own); controls = bitAt b (codeOf Control); basic = λ k f. bitAt b (codeOf (Basic k f)) }
 
+-- What a record holds: its shape, so that version, n and p are kept, and its state.
+pub record Content : Type 0 where
+  pub shape : Shape
+  pub state : State
+
+abbrev pub content : Shape → State → Content
+content f S = record { shape = f; state = S }
+
+abbrev pub contentOf : List ℕ → Content
+contentOf b = content (shapeOf b) (stateOf b)
+
 -- the cell's number in a state, and the bytes of a row
 abbrev pub cellOf : Shape → State → ℕ → ℕ → ℕ
 cellOf f S r c = fromBits (bitsOf f) (λ j. has S (rightOf j) r (nameOf (f .n) c))
@@ -35,6 +46,10 @@ cellOf f S r c = fromBits (bitsOf f) (λ j. has S (rightOf j) r (nameOf (f .n) c
 abbrev pub rowOf : Shape → State → ℕ → List ℕ
 rowOf f S r = joined (columns f) (λ c. bytesOfNumber (f .width) (cellOf f S r c))
 
--- "In demand 2 a state is written in its record's version": the header, then n rows of n + p cells.
-unfoldable pub bytesOf : Shape → State → List ℕ
-bytesOf f S = (f .version ∷ bytesOfNumber 4 (countOf f) ++ (f .n ∷ f .p ∷ [])) ++ joined (f .n) (rowOf f S)
+-- the bytes before the first cell: version, L, n and p
+abbrev pub header : Shape → List ℕ
+header f = f .version ∷ bytesOfNumber 4 (countOf f) ++ (f .n ∷ f .p ∷ [])
+
+-- What a record holds is written in its own version: the header, then n rows of n + p cells.
+unfoldable pub bytesOf : Content → List ℕ
+bytesOf m = header (m .shape) ++ joined (m .shape .n) (rowOf (m .shape) (m .state))

@@ -1,5 +1,5 @@
--- Validity of a record's bytes, and the refusals 1 to 5. The five conditions are tests here, over the record's names; that they
--- are the five conditions of Valid is proved, both ways.
+-- Validity of a record's bytes (Manual 3.2), and the refusals 1 to 5. The five conditions are tests here, over the record's names; that
+-- they are the five conditions of Valid is proved, both ways.
 use Prim.Native.Nat.{ℕ, zero, suc}
 use mathlib.Core.Bool.{Bool, cond, not, _&&_, _||_}
 use mathlib.Core.List.{List, [], _∷_}
@@ -20,19 +20,19 @@ use Rattle.matrix.specs.Reading.{stateOf}
 abbrev pub emptyCell : Shape → State → ℕ → Name → Bool
 emptyCell f S w x = not (any (bitsOf f) (λ j. has S (rightOf j) w x))
 
--- "rows and columns of absent names are all zero"
+-- 1: in the row and in the column of an absent name no bit is set
 abbrev pub absentZero : Shape → State → Bool
 absentZero f S = all (f .n) (λ w. all (columns f) (λ c. emptyCell f S w (nameOf (f .n) c) || exists S w && existsName S (nameOf (f .n) c)))
 
--- "no plain column has control"
+-- 2: nobody controls a plain object
 abbrev pub plainUncontrolled : Shape → State → Bool
 plainUncontrolled f S = all (f .n) (λ w. all (columns f) (λ c. ltb c (f .n) || not (S .controls w (Plain c))))
 
--- "U exists, with no owner and no other controller"
+-- 3: U exists, nobody owns it, and nobody but U controls it
 abbrev pub rootRight : Shape → State → Bool
 rootRight f S = exists S U && all (f .n) (λ w. not (S .owns w (Subject U)) && (eqb w U || not (S .controls w (Subject U))))
 
--- "every other existing subject has exactly one owner and at most one controller besides itself"
+-- 4: an existing subject but U has exactly one owner, and at most one subject other than itself controls it
 abbrev pub oneOwnerEach : Shape → State → Bool
 oneOwnerEach f S =
     all (f .n) (λ s. eqb s U || not (exists S s) ||
@@ -43,15 +43,14 @@ unfoldable pub climb : ℕ → (ℕ → Name → Bool) → ℕ → ℕ → ℕ
 climb top owns zero s = s
 climb top owns (suc links) s = climb top owns links (cond (ltb (ownerOf top owns s) top) (ownerOf top owns s) s)
 
--- "no subject is met again by following owners upward": n owners up from an existing subject is U
+-- 5, as a test (Manual 3.3): n owners up from an existing subject is U
 abbrev pub allRooted : Shape → State → Bool
 allRooted f S = all (f .n) (λ s. not (exists S s) || eqb (climb (f .n) (S .owns) (f .n) s) U)
 
 unfoldable pub validMatrix : Shape → State → Bool
 validMatrix f S = absentZero f S && plainUncontrolled f S && rootRight f S && oneOwnerEach f S && allRooted f S
 
--- The refusals 1 to 5: "record under 7 bytes", "version not 1", "n or p outside its range", "L or true length wrong",
--- "matrix not valid".
+-- The refusals 1 to 5 (Manual 7.1): too few bytes, the version, n and p, L and the length, the five conditions.
 unfoldable pub recordRefusal : List ℕ → ℕ
 recordRefusal b =
     firstFailed (test 1 (leb 7 (length b)) ∷

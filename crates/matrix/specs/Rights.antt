@@ -1,5 +1,4 @@
--- Rights. "A right is own, control, or a basic right, plain or starred. Its code is its bit number in the cell, bit 0 lowest:
--- own 0, control 1, basic right k plain 2 + 2k, starred 3 + 2k."
+-- Rights (Manual 1.2): own, control, and basic rights in two forms. The code of a right is the number of its bit in a cell.
 use Prim.Native.Nat.{ℕ, zero, suc, _+_, _*_, _/_, _%_}
 use mathlib.Core.Bool.{Bool, true, false, cond}
 use mathlib.Core.List.{List, [], _∷_}
@@ -26,7 +25,7 @@ sameForm Plain Starred = false
 sameForm Starred Plain = false
 sameForm Starred Starred = true
 
--- The rights of which a set bit makes the right held: "if its bit is set, or, for a plain basic right, if the starred bit is".
+-- The rights of which a set bit makes the right held (Manual 1.3): the right itself, and beside a plain basic right its starred form.
 abbrev pub heldBy : Right → List Right
 heldBy Own = Own ∷ []
 heldBy Control = Control ∷ []

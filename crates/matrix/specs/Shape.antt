@@ -1,5 +1,4 @@
--- The record's layout: "Byte 0: version, 1. Bytes 1 to 4: the count L of bytes after byte 4. Byte 5: n, subject names, 1 to 64.
--- Byte 6: p, plain names, 0 to 192. Then n rows of n + p cells of 16 bits; L = 2 + 2·n·(n + p)."
+-- The record's layout (Manual 2.1): the version, L, n and p in the first 7 bytes, then the cells, row after row.
 use Prim.Native.Nat.{ℕ, _+_, _-_, _*_}
 use mathlib.Core.Bool.{Bool, _&&_}
 use mathlib.Core.List.{List}
@@ -58,6 +57,6 @@ countOf f = sizeOf f - 5
 abbrev pub inRange : Shape → Bool
 inRange f = leb 1 (f .n) && leb (f .n) mostSubjects && leb (f .p) mostPlain
 
--- refusal 4's condition is that this fails: "L or true length wrong"
+-- L and the length are those of the shape; refusal 4 where this fails
 abbrev pub sized : List ℕ → Bool
 sized b = eqb (numberAt b 1 4) (countOf (shapeOf b)) && eqb (length b) (sizeOf (shapeOf b))

@@ -1,4 +1,4 @@
--- States. "The state says, for each subject name as row and each name of either kind as column, which bits are set."
+-- States (Manual 1.3): for any subject as row and any name as column, the rights that have their bit set.
 use Prim.Native.Nat.{ℕ}
 use mathlib.Core.Bool.{Bool, false, cond, _&&_, _||_}
 use mathlib.Core.List.{List, [], _∷_}
@@ -31,15 +31,15 @@ abbrev pub hasOne : State → List Right → ℕ → Name → Bool
 hasOne S [] w x = false
 hasOne S (y ∷ ys) w x = has S y w x || hasOne S ys w x
 
--- "A right is held if its bit is set, or, for a plain basic right, if the starred bit is."
+-- w holds right y over x: one of the bits by which y is held is set (Manual 1.3)
 abbrev pub held : State → Right → ℕ → Name → Bool
 held S y w x = hasOne S (heldBy y) w x
 
--- "A subject exists if its own cell (row s, column s) has control."
+-- subject s exists: control is set in its own cell (Manual 3.1)
 abbrev pub subjectIn : (ℕ → Name → Bool) → ℕ → Bool
 subjectIn controls s = controls s (Subject s)
 
--- "A plain object exists if some row owns it."
+-- plain object o exists: at least one subject owns it (Manual 3.1)
 abbrev pub objectIn : ℕ → (ℕ → Name → Bool) → ℕ → Bool
 objectIn top owns o = any top (λ w. owns w (Plain o))
 

@@ -20,7 +20,7 @@ use Rattle.matrix.specs.Changes.{change}
 unfoldable pub refusalOf : State → Command → ℕ
 refusalOf S c = firstFailed (commandTests S c)
 
--- "Accepted code 3 and refusal 13 report the links followed; every other answer reports 0."
+-- The links of the walk: code 3 alone walks. They are answered where the command is accepted or refused by 13 (Manual 5.5).
 abbrev pub walkLinks : State → Command → Act → ℕ
 walkLinks S c (Transfer Own) = linksOf (walk S (c .s) (c .o))
 walkLinks S c (Transfer Control) = 0
@@ -35,8 +35,8 @@ walkLinks S c DestroySubject = 0
 abbrev pub linksWith : ℕ → State → Command → ℕ
 linksWith refusal S c = cond (eqb refusal 0 || eqb refusal 13) (walkLinks S c (c .act)) 0
 
--- The refusal of a command as given, 6 to 14, or 0. `names` is whether its names are within bounds: in the safety question every
--- name is, on a record they are to be the record's.
+-- The refusal of a command as given, 6 to 14, or 0. `names` is whether its names are within bounds: on a record they are to be the
+-- record's (Manual 7.2), in the safety question every name is (Manual 8.2).
 unfoldable pub refusal : ℕ → Bool → State → Raw → ℕ
 refusal basics names S c =
     firstFailed (test 6 (known (c .code)) ∷
@@ -46,14 +46,10 @@ refusal basics names S c =
 unfoldable pub links : ℕ → Bool → State → Raw → ℕ
 links basics names S c = linksWith (refusal basics names S c) S (decode c)
 
--- "A command that its rule allows is accepted and makes the table's change. Any other is refused and changes nothing."
+-- The state after a command: with its change where it is accepted, the same where it is refused (Manual 5.5).
 unfoldable pub next : ℕ → Bool → State → Raw → State
 next basics names S c = cond (eqb (refusal basics names S c) 0) (change S (decode c) (decode c .act)) S
 
--- the answer that a refusal number (0: accepted) and the links make, and the number of an answer
+-- the answer that a refusal number (0: accepted) and the links make
 abbrev pub answer : ℕ → ℕ → Answer
 answer number followed = cond (eqb number 0) (Accepted followed) (Refused number followed)
-
-abbrev pub numberOf : Answer → ℕ
-numberOf (Accepted followed) = 0
-numberOf (Refused number followed) = number

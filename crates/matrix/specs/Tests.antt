@@ -1,4 +1,4 @@
--- When a command is turned down: the tests 8 to 14 on a decoded command, in number order.
+-- When a command is turned down: the tests 8 to 14 on a decoded command, in number order (Manual 7.1).
 use Prim.Native.Nat.{ℕ}
 use mathlib.Core.Bool.{Bool, true, false, cond, not, _&&_, _||_}
 use mathlib.Core.List.{List, [], _∷_}
@@ -25,18 +25,18 @@ pub record Test : Type 0 where
 abbrev pub test : ℕ → Bool → Test
 test number passed = record { number = number; passed = passed }
 
--- "Tests run in number order": the number of the first test that is not passed, or 0.
+-- The first test in the list that is not passed gives its number; 0 where all are passed (Manual 7.3).
 unfoldable pub firstFailed : List Test → ℕ
 firstFailed [] = 0
 firstFailed (t ∷ ts) = cond (t .passed) (firstFailed ts) (t .number)
 
--- 9: "o of the wrong kind"
+-- 9: o is of the kind that the command needs
 abbrev pub kindFits : Kind → Name → Bool
 kindFits AnyName x = true
 kindFits SubjectName x = isSubject x
 kindFits PlainName x = not (isSubject x)
 
--- 10: "s or o absent where needed"
+-- 10: s and o exist, where the command uses them and does not create them (Manual 5.3)
 abbrev pub present : State → Command → Act → Bool
 present S c (Transfer y) = exists S (c .s) && existsName S (c .o)
 present S c (Grant y) = exists S (c .s) && existsName S (c .o)
@@ -46,7 +46,7 @@ present S c DestroyObject = existsName S (c .o)
 present S c CreateSubject = true
 present S c DestroySubject = exists S (c .s)
 
--- 11: "name to create exists"
+-- 11: what the command creates is absent
 abbrev pub free : State → Command → Act → Bool
 free S c (Transfer y) = true
 free S c (Grant y) = true
@@ -56,7 +56,8 @@ free S c DestroyObject = true
 free S c CreateSubject = not (exists S (c .s))
 free S c DestroySubject = true
 
--- 12: "i lacks the right needed". No code decodes to a transfer of control or a delete of own or control: no right allows those.
+-- 12: i has the right that the table asks for (Manual 5.2). No code decodes to a transfer of control or a delete of own or control: no
+-- right allows those.
 abbrev pub permitted : State → Command → Act → Bool
 permitted S c (Transfer Own) = S .owns (c .i) (c .o)
 permitted S c (Transfer Control) = false
@@ -70,7 +71,7 @@ permitted S c DestroyObject = S .owns (c .i) (c .o)
 permitted S c CreateSubject = true
 permitted S c DestroySubject = S .owns (c .i) (Subject (c .s))
 
--- 13: "walk meets o": "code 3 walks from s itself"
+-- 13: the walk of code 3, which starts at s itself, does not meet o (Manual 5.4)
 abbrev pub apart : State → Command → Act → Bool
 apart S c (Transfer Own) = not (meets (walk S (c .s) (c .o)))
 apart S c (Transfer Control) = true
@@ -86,7 +87,7 @@ apart S c DestroySubject = true
 abbrev pub otherController : State → Name → Bool
 otherController S x = any (S .top) (λ w. S .controls w x && not (sameName (Subject w) x))
 
--- 14: "o has another controller"
+-- 14: for code 6, no subject other than o controls o (Manual 5.4)
 abbrev pub uncontrolled : State → Command → Act → Bool
 uncontrolled S c (Transfer y) = true
 uncontrolled S c (Grant Own) = true

@@ -1,4 +1,4 @@
--- The bits that a command names: the only ones that it may change.
+-- The bits that a command names: the only ones that it may change (Manual 5.5).
 use Prim.Native.Nat.{ℕ}
 use mathlib.Core.Bool.{Bool, true, false, _&&_, _||_}
 use lib.Dec.{eqb}

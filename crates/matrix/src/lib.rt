@@ -88,3 +88,10 @@ pub struct Outcome {
     pub accepted: usize,
     pub refusal: usize,
 }
+
+// An answer in numbers: the refusal, 0 where the call is answered, and the value.
+#[repr(C)]
+pub struct Numbers {
+    pub refusal: u64,
+    pub value: u64,
+}

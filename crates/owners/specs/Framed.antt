@@ -1,4 +1,4 @@
--- Every condition of Valid but "no subject is met again by following owners upward", and what the others say of a subject's owner.
+-- Every condition of Valid but the last, that no subject is above itself, and what the others say of a subject's owner.
 use Prim.Native.Nat.{ℕ, _<_}
 use mathlib.Core.Path.{_≡_, subst}
 use mathlib.Core.Logic.{_≢_}

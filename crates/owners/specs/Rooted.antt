@@ -1,5 +1,5 @@
--- Subjects from which following owners leads to U; and that this is so of every existing subject exactly where no subject is met again
--- by following owners upward.
+-- Subjects from which following owners leads to U; and that this is so of every existing subject exactly where no subject is above itself,
+-- so that none is met again on the way up.
 use Prim.Native.Nat.{ℕ, zero, suc}
 use mathlib.Core.Path.{_≡_, sym, _∙_, subst}
 use mathlib.Core.Logic.{⊎-elim, _≢_}

@@ -16,6 +16,7 @@ use Rattle.matrix.specs.Record.{recordRefusal}
 use Rattle.matrix.specs.CommandList.{recordBytes, wellFormed, commandsOf}
 use Rattle.matrix.specs.Calls.{questionFits}
 use Rattle.question.specs.declared.Safety.{Safety}
+use Rattle.question.specs.Numbers.{safetyNumbers}
 use Rattle.question.specs.Trust.{trustedBy}
 use Rattle.question.specs.Safe.{Safe}
 use Rattle.question.specs.Leaks.{LeaksBy}
@@ -61,4 +62,6 @@ Decided b mask s o right out out′ r =
 pub record Answers (b : List ℕ) (mask s o right : ℕ) (out out′ : List ℕ) (r : Safety) : Type 0 where
   pub refused : (safetyRefusal b mask s o right (length out) ≡ 0 → ⊥) → (r ≡ Safety.Refused (safetyRefusal b mask s o right (length out))) × (out′ ≡ out)
   pub decided : safetyRefusal b mask s o right (length out) ≡ 0 → Decided b mask s o right out out′ r
+  -- in numbers: the refusal, 0 where the question is decided
+  pub number : safetyNumbers r .refusal ≡ safetyRefusal b mask s o right (length out)
   pub size : length out′ ≡ length out

@@ -1,5 +1,6 @@
--- The safety question, as the paper defines it: by lists of commands alone.
+-- The safety question (Manual 8), defined by lists of commands alone.
 pub mod Trust
 pub mod Safe
 pub mod Leaks
+pub mod Numbers
 pub mod Asked

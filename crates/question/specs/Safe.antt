@@ -1,4 +1,4 @@
--- Safe: "no list of commands of any length by untrusted subjects, names beyond the record included, ever gets there".
+-- Safe (Manual 8.3): lists of commands begun by untrusted subjects never get there, however long and over whatever names.
 use Prim.Native.Nat.{ℕ}
 use mathlib.Core.Path.{_≡_}
 use mathlib.Core.Bool.{Bool, true, false}
@@ -9,19 +9,18 @@ use Rattle.matrix.specs.State.{State, held}
 use Rattle.matrix.specs.Commands.{Raw}
 use Rattle.matrix.specs.Step.{next}
 
--- "Each command gets the state that the one before it left. .. A command that its rule allows is accepted and makes the table's
--- change. Any other is refused and changes nothing, and .. the next one follows. Every refusal of a command holds there, but for
--- 7's bounds on names." "After the empty list the state is the one at the start."
+-- The state after a list in the definition (Manual 8.2): each command acts on what the one before left behind, and after a refused one,
+-- which changes nothing, the next one follows. The tests 6 to 14 are those of a record, but names have no bounds: `names` is true.
 unfoldable pub after : ℕ → State → List Raw → State
 after basics S [] = S
 after basics S (c ∷ cs) = after basics (next basics true S c) cs
 
--- "Only untrusted subjects begin commands." "The trusted set stays the same throughout."
+-- Every command is begun by an untrusted subject; the trusted set is one for the whole list.
 abbrev pub Begun : (ℕ → Bool) → List Raw → Type 0
 Begun trusted [] = Unit
 Begun trusted (c ∷ cs) = (trusted (c .i) ≡ false) × Begun trusted cs
 
--- "Demand 3 is a single claim about the whole list": subject s never holds right x over o. The list is any list of raw commands,
--- over names of both kinds and any number.
+-- One claim about the state after a whole list: subject s does not hold right x over o. The list is any list of raw commands, over
+-- names of both kinds and any number.
 pub record Safe (basics : ℕ) (S : State) (trusted : ℕ → Bool) (s : ℕ) (o : Name) (x : Right) : Type 0 where
   pub never : (cs : List Raw) → Begun trusted cs → held (after basics S cs) x s o ≡ false

@@ -1,4 +1,4 @@
--- "64-bit trust mask (bit s set: subject s is trusted, existing or not)". Names beyond the record are untrusted.
+-- Trusted are the subjects whose bit in the mask is set, whether they exist or not (Manual 8.1). Subjects beyond the record are untrusted.
 use Prim.Native.Nat.{ℕ}
 use mathlib.Core.Bool.{Bool}
 use Rattle.matrix.specs.Bytes.{bit}

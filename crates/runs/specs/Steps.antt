@@ -12,25 +12,21 @@ use Rattle.matrix.specs.declared.Fields.{Fields}
 use Rattle.matrix.specs.declared.Answer.{Answer}
 use Rattle.matrix.specs.declared.Answer.the-variants.{Accepted, Refused}
 use Rattle.matrix.specs.State.{State}
-use Rattle.matrix.specs.Step.{answer, numberOf, refusal, next}
+use Rattle.matrix.specs.Numbers.{commandNumbers}
+use Rattle.matrix.specs.Step.{answer, refusal, next}
 use Rattle.matrix.specs.Shape.{Shape, shapeOf, sizeOf}
 use Rattle.matrix.specs.Reading.{stateOf}
 use Rattle.matrix.specs.CommandList.{fieldsAt, commandPlace, commandsFrom, commandsIn}
 use Rattle.matrix.specs.Calls.{refusalOn, linksOn, nextOn, Ran, runFrom, ranOn}
 use Rattle.matrix.specs.Valid.{Valid}
 use Rattle.laws.specs.Tests.{way}
+use Rattle.laws.specs.Numbers.{answer-number}
 use Rattle.kept.specs.Keeps.{on-keeps}
 use Rattle.cells.specs.Station.{Station}
 use Rattle.states.specs.Needs.{Guessed}
 use Rattle.commands.specs.Answered.{Answered}
 use Rattle.bits.specs.Became.{Became}
 use Rattle.runs.specs.Reached.{RunOn, Reached}
-
--- the number of an answer is the refusal's
-number-is : (r l : ℕ) → numberOf (answer r l) ≡ r
-number-is r l =
-    ⊎-elim (λ (t : eqb r 0 ≡ true). ap (λ (b : Bool). numberOf (cond b (Accepted l) (Refused r l))) t ∙ sym (eqb-true r 0 t))
-    (λ (t : eqb r 0 ≡ false). ap (λ (b : Bool). numberOf (cond b (Accepted l) (Refused r l))) t) (way (eqb r 0))
 
 -- the next command of those that are left
 next-command : (l : List ℕ) (j m : ℕ) → j < m → commandsFrom l j (m - j) ≡ fieldsAt l (commandPlace j) ∷ commandsFrom l (j + 1) (m - (j + 1))
@@ -104,7 +100,7 @@ module _ {b₀ b b′ l : List ℕ} {n p m j : ℕ} {c : Fields} {r : Answer} (h
 
   pub reached-more : {x : ℕ} → r ≡ Accepted x → Reached b₀ b′ l n p m (j + 1)
   reached-more e =
-      let z : refusalOn (shapeOf b₀) (stateOf b) c ≡ 0 = sym (number-is (refusalOn (shapeOf b₀) (stateOf b) c) (linksOn (shapeOf b) (stateOf b) c)) ∙ ap numberOf (sym reply ∙ e) in
+      let z : refusalOn (shapeOf b₀) (stateOf b) c ≡ 0 = sym (answer-number (refusalOn (shapeOf b₀) (stateOf b) c) (linksOn (shapeOf b) (stateOf b) c)) ∙ ap (λ (a : Answer). commandNumbers a .refusal) (sym reply ∙ e) in
       record {
         station = same-station (h .station) (w .became);
         valid = subst Valid (sym after) (on-keeps (shapeOf b₀) (stateOf b) c (h .valid));
@@ -116,10 +112,10 @@ module _ {b₀ b b′ l : List ℕ} {n p m j : ℕ} {c : Fields} {r : Answer} (h
             ∙ here;
       }
 
-  pub ran-refused : {x k number : ℕ} → r ≡ Refused k x → number ≡ numberOf r → RunOn b₀ b′ l (record { accepted = j; refusal = number })
+  pub ran-refused : {x k number : ℕ} → r ≡ Refused k x → number ≡ commandNumbers r .refusal → RunOn b₀ b′ l (record { accepted = j; refusal = number })
   ran-refused {number = number} e f =
       let t : eqb (refusalOn (shapeOf b₀) (stateOf b) c) 0 ≡ false = refused-number (refusalOn (shapeOf b₀) (stateOf b) c) (linksOn (shapeOf b) (stateOf b) c) (sym reply ∙ e) in
-      let q : number ≡ refusalOn (shapeOf b₀) (stateOf b) c = f ∙ ap numberOf reply ∙ number-is (refusalOn (shapeOf b₀) (stateOf b) c) (linksOn (shapeOf b) (stateOf b) c) in
+      let q : number ≡ refusalOn (shapeOf b₀) (stateOf b) c = f ∙ ap (λ (a : Answer). commandNumbers a .refusal) reply ∙ answer-number (refusalOn (shapeOf b₀) (stateOf b) c) (linksOn (shapeOf b) (stateOf b) c) in
       let g : record { accepted = j; refusal = refusalOn (shapeOf b₀) (stateOf b) c; state = stateOf b } ≡ ranOn b₀ l = sym (run-refuses (shapeOf b₀) (stateOf b) c _ j t) ∙ here in
       record {
         outcome = λ i. record { accepted = g i .accepted; refusal = (q ∙ ap (λ (x : Ran). x .refusal) g) i };

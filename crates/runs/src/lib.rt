@@ -5,14 +5,14 @@ use matrix::Outcome;
 use reader::Read;
 ghost use mathlib.Core.Path.{_≡_};
 ghost use mathlib.Core.Bool.{true};
-ghost use Rattle.matrix.specs.Step.{numberOf};
+ghost use Rattle.matrix.specs.Numbers.{commandNumbers};
 ghost use Rattle.matrix.specs.CommandList.{wellFormed};
 ghost use Rattle.states.specs.Needs.{Guessed};
 ghost use Rattle.runs.specs.Reached.{RunOn};
 
 // The number of an answer: 0 for accepted, else the refusal's.
 fn number_of(a: Answer) -> usize
-    ensures { λ r. ⌜ r ≡ numberOf a ⌝ }
+    ensures { λ r. ⌜ r ≡ commandNumbers a .refusal ⌝ }
 {
     match a {
         Answer::Accepted(_) => 0,

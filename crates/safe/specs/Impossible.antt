@@ -20,7 +20,7 @@ use Rattle.question.specs.Safe.{Safe}
 use Rattle.safe.specs.Possible.{possible, Impossible, own-itself, own-root, control-root, control-plain}
 use Rattle.safe.specs.Runs.{safe-by}
 
--- "Nobody owns itself", nobody owns U, none but U controls U, and nobody controls a plain object.
+-- No subject owns itself, nobody owns U, nobody but U controls U, and nobody controls a plain object.
 pub impossible-unheld : {S : State} → Valid S → (s : ℕ) (o : Name) (x : Right) → Impossible s o x → held S x s o ≡ false
 impossible-unheld {S} v s o x (own-itself e q) =
     rw (e, q) (or-false (S .owns s (Subject s)) ∙ fails (S .owns s (Subject s)) (λ h. v .no-cycle s (owner h)))

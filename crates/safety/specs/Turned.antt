@@ -2,6 +2,7 @@
 use Prim.Native.Nat.{ℕ, _+_, _≤_, _<_}
 use native.Mathlib.Omega.{arith}
 use mathlib.Core.Path.{_≡_, refl, sym, _∙_, ap}
+use mathlib.Core.Logic.{inl, inr}
 use mathlib.Core.Bool.{Bool, true, false, cond, _&&_}
 use mathlib.Core.List.{List, []}
 use lib.Dec.{eqb, leb}
@@ -13,6 +14,7 @@ use Rattle.matrix.specs.Record.{recordRefusal}
 use Rattle.matrix.specs.Calls.{questionFits}
 use Rattle.question.specs.declared.Safety.{Safety}
 use Rattle.question.specs.declared.Safety.the-variants.{Refused}
+use Rattle.question.specs.Numbers.{safetyNumbers}
 use Rattle.question.specs.Asked.{trustFits, listRoom, safetyRefusal, Decided, Answers}
 
 module _ (b : List ℕ) (mask s o right : ℕ) (out : List ℕ) where
@@ -26,9 +28,14 @@ module _ (b : List ℕ) (mask s o right : ℕ) (out : List ℕ) where
   unfolding safetyRefusal firstFailed
   by-tests h e f = rw (h, e, f) refl
 
+  -- an answer that decides the question is no refusal
+  decided-number : {out′ : List ℕ} {r : Safety} → Decided b mask s o right out out′ r → safetyNumbers r .refusal ≡ 0
+  decided-number (inl d) = ap (λ (r : Safety). safetyNumbers r .refusal) (d .0)
+  decided-number (inr d) = ap (λ (r : Safety). safetyNumbers r .refusal) (d .1)
+
   -- turned down by the number m
   turned-by : {m : ℕ} → m ≡ safetyRefusal b mask s o right (length out) → (m ≡ 0 → ⊥) → Answers b mask s o right out out (Refused m)
-  turned-by e ne = record { refused = λ h. (ap Refused e, refl); decided = λ h. absurd (ne (e ∙ h)); size = refl }
+  turned-by e ne = record { refused = λ h. (ap Refused e, refl); decided = λ h. absurd (ne (e ∙ h)); number = e; size = refl }
 
   pub turned-record : {m : ℕ} → m ≡ recordRefusal b → (m ≡ 0 → ⊥) → Answers b mask s o right out out (Refused m)
   turned-record e ne = turned-by (e ∙ sym (by-record (ne-eqb (recordRefusal b) 0 (λ z. ne (e ∙ z))))) ne
@@ -44,4 +51,4 @@ module _ (b : List ℕ) (mask s o right : ℕ) (out : List ℕ) where
       pub answers : {out′ : List ℕ} {r : Safety} → listRoom (shapeOf b .n + 2) ≤ length out → Decided b mask s o right out out′ r → length out′ ≡ length out → Answers b mask s o right out out′ r
       answers l d e =
           let z : safetyRefusal b mask s o right (length out) ≡ 0 = by-tests valid (sym fits ∙ fit) (le-leb (listRoom (shapeOf b .n + 2)) (length out) l) in
-          record { refused = λ h. absurd (h z); decided = λ h. d; size = e }
+          record { refused = λ h. absurd (h z); decided = λ h. d; number = decided-number d ∙ sym z; size = e }

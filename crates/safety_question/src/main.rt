@@ -1,5 +1,5 @@
-// Asks the safety question that stands in the standard input: a record, and as the last 11 bytes the trust mask (high byte first), s, o and
-// the right. It prints `safe`, `refused N`, or `leaks N` and a line for each command of the list.
+// Asks the safety question that stands in the standard input (Manual 9.2) and prints the answer (Manual 9.3): `safe`, `refused N`, or
+// `leaks N` with the commands of the list, a line for each.
 
 use libc::STDIN_FILENO;
 use libc::STDOUT_FILENO;

@@ -14,7 +14,7 @@ use Rattle.matrix.specs.State.{State}
 use Rattle.matrix.specs.Tests.{firstFailed}
 use Rattle.matrix.specs.Step.{refusal, next}
 use Rattle.matrix.specs.Shape.{Shape, shapeOf}
-use Rattle.matrix.specs.Reading.{stateOf, bytesOf}
+use Rattle.matrix.specs.Reading.{stateOf, content, bytesOf}
 use Rattle.matrix.specs.Record.{recordRefusal}
 use Rattle.matrix.specs.CommandList.{wellFormed}
 use Rattle.matrix.specs.Calls.{validAnswer, heldAnswer, refusalOn, nextOn, commandAnswer, commandBytes, runRefusal, runAnswer, runBytes}
@@ -27,8 +27,8 @@ use Rattle.runs.specs.Reached.{RunOn}
 use Rattle.holding.specs.Asked.{held-refused}
 
 -- bytes that became a state are that state written in the same shape
-pub written : {b b′ : List ℕ} {S : State} → Became b b′ S → b′ ≡ bytesOf (shapeOf b) S
-written {b′ = b′} w = sym (read-write b′ (w .shaped) (w .octets)) ∙ (λ i. bytesOf (w .shape i) (w .state i))
+pub written : {b b′ : List ℕ} {S : State} → Became b b′ S → b′ ≡ bytesOf (content (shapeOf b) S)
+written {b′ = b′} w = sym (read-write b′ (w .shaped) (w .octets)) ∙ (λ i. bytesOf (content (w .shape i) (w .state i)))
 
 -- a refused command's state is written as the same bytes
 unchanged : {b b′ : List ℕ} {n p : ℕ} → Station b n p → Became b b′ (stateOf b) → b′ ≡ b
@@ -47,14 +47,14 @@ module _ {b b′ : List ℕ} {n p : ℕ} {c : Fields} {r : Answer} (valid : reco
   unfolding commandBytes
   command-done = rw valid (⊎-elim accepted refused (way (eqb (refusalOn (shapeOf b) (stateOf b) c) 0)))
     where
-      accepted : eqb (refusalOn (shapeOf b) (stateOf b) c) 0 ≡ true → b′ ≡ cond (eqb (refusalOn (shapeOf b) (stateOf b) c) 0) (bytesOf (shapeOf b) (nextOn (shapeOf b) (stateOf b) c)) b
-      accepted t = written (w .became) ∙ sym (ap (λ (u : Bool). cond u (bytesOf (shapeOf b) (nextOn (shapeOf b) (stateOf b) c)) b) t)
+      accepted : eqb (refusalOn (shapeOf b) (stateOf b) c) 0 ≡ true → b′ ≡ cond (eqb (refusalOn (shapeOf b) (stateOf b) c) 0) (bytesOf (content (shapeOf b) (nextOn (shapeOf b) (stateOf b) c))) b
+      accepted t = written (w .became) ∙ sym (ap (λ (u : Bool). cond u (bytesOf (content (shapeOf b) (nextOn (shapeOf b) (stateOf b) c))) b) t)
 
-      refused : eqb (refusalOn (shapeOf b) (stateOf b) c) 0 ≡ false → b′ ≡ cond (eqb (refusalOn (shapeOf b) (stateOf b) c) 0) (bytesOf (shapeOf b) (nextOn (shapeOf b) (stateOf b) c)) b
+      refused : eqb (refusalOn (shapeOf b) (stateOf b) c) 0 ≡ false → b′ ≡ cond (eqb (refusalOn (shapeOf b) (stateOf b) c) 0) (bytesOf (content (shapeOf b) (nextOn (shapeOf b) (stateOf b) c))) b
       refused t =
           let z = w .became in
           unchanged h (record { shaped = z .shaped; octets = z .octets; shape = z .shape; state = z .state ∙ refused-next (shapeOf b) (stateOf b) c t })
-          ∙ sym (ap (λ (u : Bool). cond u (bytesOf (shapeOf b) (nextOn (shapeOf b) (stateOf b) c)) b) t)
+          ∙ sym (ap (λ (u : Bool). cond u (bytesOf (content (shapeOf b) (nextOn (shapeOf b) (stateOf b) c))) b) t)
 
 module _ (b : List ℕ) {m : ℕ} (number : m ≡ recordRefusal b) (turned : m ≡ 0 → ⊥) where
   not-zero : eqb (recordRefusal b) 0 ≡ false

@@ -6,7 +6,8 @@ use matrix::Holding;
 use matrix::Outcome;
 use question::Safety;
 ghost use mathlib.Core.Path.{_≡_};
-ghost use Rattle.matrix.specs.Calls.{validAnswer, heldAnswer, commandAnswer, commandBytes, runAnswer, runBytes};
+ghost use Rattle.matrix.specs.Numbers.{heldNumbers, commandNumbers, runNumbers};
+ghost use Rattle.matrix.specs.Calls.{validAnswer, heldAnswer, heldResult, commandAnswer, commandResult, commandBytes, runAnswer, runResult, runBytes};
 ghost use Rattle.question.specs.Asked.{Answers};
 ghost use Rattle.station.specs.Given.{fieldsOf};
 
@@ -19,7 +20,8 @@ pub fn valid(b: &[u8]) -> bool
 
 // Whether a right is held by subject s over column o, by the right's code.
 pub fn held(b: &[u8], s: u64, o: u64, right: u64) -> Holding
-    ensures { λ r. ⌜ r ≡ heldAnswer (now (b .entry)) s o right ⌝ }
+    ensures answer { λ r. ⌜ r ≡ heldAnswer (now (b .entry)) s o right ⌝ }
+    ensures numbers { λ r. ⌜ heldNumbers r ≡ heldResult (now (b .entry)) s o right ⌝ }
 {
     let turned = validity::refusal(b);
     if turned != 0 {
@@ -34,6 +36,7 @@ pub fn held(b: &[u8], s: u64, o: u64, right: u64) -> Holding
 pub fn command(b: &mut [u8], code: u64, i: u64, s: u64, o: u64, k: u64) -> Answer
     ensures answer { λ r. ⌜ r ≡ commandAnswer (now (b .entry)) (fieldsOf code i s o k) ⌝ }
     ensures bytes { λ r. ⌜ now (b .exit) ≡ commandBytes (now (b .entry)) (fieldsOf code i s o k) ⌝ }
+    ensures numbers { λ r. ⌜ commandNumbers r ≡ commandResult (now (b .entry)) (fieldsOf code i s o k) ⌝ }
 {
     let mut owners = [0u8; 64];
     let turned = validity::refusal_with(b, &mut owners);
@@ -56,6 +59,7 @@ pub fn command(b: &mut [u8], code: u64, i: u64, s: u64, o: u64, k: u64) -> Answe
 pub fn run(b: &mut [u8], l: &[u8]) -> Outcome
     ensures answer { λ r. ⌜ r ≡ runAnswer (now (b .entry)) (now (l .entry)) ⌝ }
     ensures bytes { λ r. ⌜ now (b .exit) ≡ runBytes (now (b .entry)) (now (l .entry)) ⌝ }
+    ensures numbers { λ r. ⌜ runNumbers r ≡ runResult (now (b .entry)) (now (l .entry)) ⌝ }
 {
     let mut owners = [0u8; 64];
     let turned = validity::refusal_with(b, &mut owners);

@@ -1,5 +1,4 @@
--- A list of commands as it is written at a buffer's start: "Version byte 1, a four-byte L of the bytes that follow (at most 60,000), then
--- records of a length byte 05 and the five fields, one byte each."
+-- A list of commands as it is written at a buffer's start, in the form of Manual 6.1.
 use Prim.Native.Nat.{ℕ, suc, _+_, _*_, _≤_, _<_}
 use mathlib.Core.List.{List, [], _∷_}
 use lib.ListN.{length, set}

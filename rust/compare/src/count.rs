@@ -31,7 +31,7 @@ impl Call {
         }
     }
 
-    /// The refusals that the paper gives to the call. The validity call gives none, and says no where 1 to 5 would
+    /// The refusals that Manual 7.3 gives to the call. The validity call gives none, and says no where 1 to 5 would
     /// turn the record down; these are counted as its refusals.
     fn refusals(self) -> Vec<u64> {
         let record = 1..=5;

@@ -1,6 +1,6 @@
 //! Asks the proved library, through its C interface, and the second implementation the same seeded inputs, and
 //! compares answers, numbers and buffers to the last byte. It exits with 0 only if all agree and every refusal and
-//! answer that the paper gives occurred.
+//! answer that the manual gives occurred.
 //!
 //!     compare [--inputs N] [--seed S] [--program PATH]
 

@@ -1,4 +1,4 @@
-//! The program safety_question: what it prints, compared with what the paper says it prints.
+//! The program safety_question: what it prints, compared with what Manual 9.3 says it prints.
 
 use std::fmt;
 use std::io::Write;
@@ -12,10 +12,10 @@ use crate::generate::valid_record;
 use crate::inputs;
 use crate::random::Random;
 
-/// "Standard input, at most 65,536 bytes."
+/// The most bytes of an input that is asked (Manual 9.2).
 const INPUT_MAXIMUM: usize = 65_536;
 
-/// "As the last 11 bytes the mask (high byte first), s, o, right."
+/// The bytes of a question after the record: the trust mask in eight, and s, o and the right.
 const QUESTION_BYTES: usize = 11;
 
 /// The number of generated inputs, besides those of special lengths.

@@ -24,18 +24,18 @@ pub enum Safety {
     Leaks,
 }
 
-/// "Whether a record is valid: no exactly where 1 to 5 would turn it down, and never a refusal."
+/// Whether a record passes the tests 1 to 5 (Manual 8.6). This call never refuses.
 pub fn valid(record: &[u8]) -> bool {
     read(record).is_ok()
 }
 
-/// "Whether a right is held: no for absent names"; value 1 for yes and 0 for no.
+/// Whether a right is held (Manual 8.6): value 1 for yes and 0 for no, which is the answer for absent names.
 pub fn held(record: &[u8], s: u64, o: u64, right: u64) -> Answer {
     let station = match read(record) {
         Ok(station) => station,
         Err(refusal) => return Answer { refusal, value: 0 },
     };
-    // 7: s ≥ n, o ≥ n + p, right > 15.
+    // 7: the bounds of a held question (Manual 7.2).
     let in_bounds = s < station.n && o < station.n + station.p;
     match Right::from_code(right) {
         Some(right) if in_bounds => Answer {
@@ -70,8 +70,8 @@ fn step(station: &mut Station, fields: [u64; 5]) -> Answer {
     }
 }
 
-/// One command on a record. "Accepted code 3 and refusal 13 report the links followed; every other answer
-/// reports 0."
+/// One command on a record. The value is the links that the walk of code 3 followed, where the command is
+/// accepted or refused by 13, and else 0 (Manual 5.5).
 pub fn command(record: &mut [u8], fields: [u64; 5]) -> Answer {
     let mut station = match read(record) {
         Ok(station) => station,
@@ -84,8 +84,8 @@ pub fn command(record: &mut [u8], fields: [u64; 5]) -> Answer {
     answer
 }
 
-/// "The run stops at the first refused command and answers the number accepted and the refusal, 0 if none.
-/// Refusals 1 to 5 and 16 come with 0 accepted." What was accepted before a refused command stays.
+/// A list run (Manual 6.2): the commands in turn, up to the first that is refused. The value is how many were
+/// accepted, and their changes stay; where the record or the list is refused, none was.
 pub fn run(record: &mut [u8], list: &[u8]) -> Answer {
     let read_both = read(record).and_then(|station| Ok((station, read_list(list)?)));
     let (mut station, commands) = match read_both {

@@ -1,4 +1,4 @@
-//! The thirteen commands.
+//! The thirteen commands (Manual 5).
 
 use crate::Refusal;
 use crate::record::name_of_column;
@@ -23,7 +23,7 @@ pub struct Uses {
     pub k: bool,
 }
 
-/// The table's column "Uses"; none for a code that is not 1 to 13.
+/// The fields that the table has for a code; none for a code that it has not.
 pub fn uses(code: u64) -> Option<Uses> {
     let (s, o, k) = match code {
         1 | 2 => (true, true, true),
@@ -45,11 +45,11 @@ pub fn uses(code: u64) -> Option<Uses> {
 /// and 7 in their order.
 pub fn decode(fields: [u64; 5], n: u64, p: u64) -> Result<Command, Refusal> {
     let [code, i, s, o, k] = fields;
-    // 6: code not 1 to 13.
+    // 6: a code that the table has not.
     let Some(uses) = uses(code) else {
         return Err(6);
     };
-    // 7: i or s ≥ n, o ≥ n + p, k > 6, unused field not 0.
+    // 7: the bounds of a command (Manual 7.2).
     let out_of_bounds = i >= n || s >= n || o >= n + p || k > 6;
     let unused_not_zero = (!uses.s && s != 0) || (!uses.o && o != 0) || (!uses.k && k != 0);
     if out_of_bounds || unused_not_zero {
@@ -70,23 +70,23 @@ pub struct Refused {
 /// code 3, otherwise 0.
 pub fn allowed(state: &State, c: &Command) -> Result<u64, Refused> {
     let refused = |refusal| Err(Refused { refusal, links: 0 });
-    // 8: initiator absent.
+    // 8: i exists.
     if !state.exists(Name::Subject(c.i)) {
         return refused(8);
     }
-    // 9: o of the wrong kind.
+    // 9: the kind of o.
     if !right_kind(c) {
         return refused(9);
     }
-    // 10: s or o absent where needed.
+    // 10: the names used that are not created exist.
     if !needed_names_exist(state, c) {
         return refused(10);
     }
-    // 11: name to create exists.
+    // 11: the name that is created does not.
     if name_to_create(c).is_some_and(|name| state.exists(name)) {
         return refused(11);
     }
-    // 12: i lacks the right needed.
+    // 12: the right that i needs.
     if !has_right_needed(state, c) {
         return refused(12);
     }
@@ -100,14 +100,14 @@ pub fn allowed(state: &State, c: &Command) -> Result<u64, Refused> {
             Ok(links)
         };
     }
-    // 14: o has another controller than itself.
+    // 14: nobody but o controls o.
     if c.code == 6 && controlled_by_another(state, c.o) {
         return refused(14);
     }
     Ok(0)
 }
 
-/// "o of the wrong kind (3, 6 subject; 7, 10, 11 plain)."
+/// Whether o is of the kind that the command needs, if it needs one.
 fn right_kind(c: &Command) -> bool {
     match c.code {
         3 | 6 => matches!(c.o, Name::Subject(_)),
@@ -125,7 +125,7 @@ fn name_to_create(c: &Command) -> Option<Name> {
     }
 }
 
-/// "All names not being created must exist": the s and the o that the command uses.
+/// Whether the s and the o exist that the command uses and does not create (Manual 5.3).
 fn needed_names_exist(state: &State, c: &Command) -> bool {
     let s = Name::Subject(c.s);
     match c.code {
@@ -136,7 +136,7 @@ fn needed_names_exist(state: &State, c: &Command) -> bool {
     }
 }
 
-/// The right that the table's column "Allowed if" asks of i.
+/// Whether i has the right that the table asks of it (Manual 5.2).
 fn has_right_needed(state: &State, c: &Command) -> bool {
     let s = Name::Subject(c.s);
     let owns_o = state.has(c.i, c.o, Right::Own);
@@ -162,37 +162,37 @@ fn has_right_needed(state: &State, c: &Command) -> bool {
     }
 }
 
-/// "None but o controls o", turned round.
+/// Whether a subject other than o controls o.
 fn controlled_by_another(state: &State, o: Name) -> bool {
     let mut controllers = state.rows_with(o, Right::Control);
     controllers.any(|row| Name::Subject(row) != o)
 }
 
-/// The table's column "Change", for an allowed command.
+/// The change that the table has for an accepted command (Manual 5.2).
 pub fn change(state: &mut State, c: &Command) {
     let plain = Right::Basic(c.k, Form::Plain);
     let starred = Right::Basic(c.k, Form::Starred);
     match c.code {
-        // Transfer r, r*: s gains r, r* over o. Grant r, r*: s gains r, r*.
+        // Transfer and grant of r or r*: s gets it.
         1 | 4 => state.gain(c.s, c.o, plain),
         2 | 5 => state.gain(c.s, c.o, starred),
-        // Transfer own: s gains own, i loses it; with s = i nothing changes.
+        // Transfer own: from i to s; i loses it first, so that nothing changes where s = i.
         3 => {
             state.lose(c.i, c.o, Right::Own);
             state.gain(c.s, c.o, Right::Own);
         }
-        // Grant control: s gains control.
+        // Grant control: s gets it.
         6 => state.gain(c.s, c.o, Right::Control),
-        // Grant own: s gains own too.
+        // Grant own: s gets it, and i keeps its own.
         7 => state.gain(c.s, c.o, Right::Own),
-        // Delete r, r*: that one bit is cleared.
+        // Delete r or r*: s loses this bit and no other.
         8 => state.lose(c.s, c.o, plain),
         9 => state.lose(c.s, c.o, starred),
-        // Create object: i owns o.
+        // Create object: it is i's.
         10 => state.gain(c.i, c.o, Right::Own),
-        // Destroy object: column cleared.
+        // Destroy object: nobody has anything over it.
         11 => state.clear_column(c.o),
-        // Create subject: i owns s, s controls itself.
+        // Create subject: it is i's, and controls itself.
         12 => {
             state.gain(c.i, Name::Subject(c.s), Right::Own);
             state.gain(c.s, Name::Subject(c.s), Right::Control);
@@ -202,7 +202,7 @@ pub fn change(state: &mut State, c: &Command) {
     }
 }
 
-/// Destroy subject: i gains own over all that s owns; row and column s cleared.
+/// Destroy subject: what s owned is i's, and then s has no bit left, in its row or in its column.
 fn destroy_subject(state: &mut State, c: &Command) {
     for name in state.owned_by(c.s) {
         state.gain(c.i, name, Right::Own);

@@ -1,8 +1,8 @@
-//! A second implementation of the scope paper "The log station's rights matrix and its safety question",
-//! written from the paper alone. The program `compare` asks it and the proved library the same questions.
+//! A second implementation, written from the scope paper alone, whose rules docs/MANUAL.md has. The program
+//! `compare` asks it and the proved library the same questions.
 //!
-//! It is written to be read beside the paper: each rule is quoted where it stands, and nothing is made fast
-//! at the cost of being plain.
+//! It is written to be read beside the manual: each rule names its section, and nothing is made fast at the
+//! cost of being plain.
 
 mod calls;
 mod command;
@@ -25,5 +25,5 @@ pub use safety::{Question, buffer_minimum, leaks, question};
 pub use search::{Names, leaks_by_definition, projected};
 pub use state::{Name, State, U, Walk};
 
-/// The number of a refusal, 1 to 16, as the table "When a call is turned down" has it.
+/// The number of a refusal, 1 to 16 (Manual 7.1).
 pub type Refusal = u64;

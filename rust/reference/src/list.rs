@@ -1,12 +1,12 @@
-//! A list of commands as bytes.
+//! A list of commands as bytes (Manual 6.1).
 
 use crate::Refusal;
 
-/// "A four-byte L of the bytes that follow (at most 60,000)."
+/// The most that L of a list may be.
 pub const LIST_MAXIMUM: usize = 60_000;
 
-/// The fields of a list's commands in turn, or refusal 16: "list under 5 bytes, version, L, or a length byte
-/// wrong; L over 60,000 or no multiple of 6". The whole list is looked at before its first command.
+/// The fields of a list's commands in turn, or refusal 16 (Manual 7.1). The whole list is looked at before its
+/// first command.
 pub fn read_list(list: &[u8]) -> Result<Vec<[u64; 5]>, Refusal> {
     if list.len() < 5 || list[0] != 1 {
         return Err(16);
@@ -24,8 +24,7 @@ pub fn read_list(list: &[u8]) -> Result<Vec<[u64; 5]>, Refusal> {
         .collect())
 }
 
-/// Writes commands as a list: "version byte 1, a four-byte L, then records of a length byte 05 and the five
-/// fields, one byte each".
+/// Writes commands as a list.
 pub fn write_list(commands: &[[u8; 5]]) -> Vec<u8> {
     let mut list = vec![1];
     list.extend(((6 * commands.len()) as u32).to_be_bytes());

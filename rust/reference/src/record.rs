@@ -1,11 +1,11 @@
-//! The rights record: bytes to state and back.
+//! The rights record (Manual 2): bytes to state and back.
 
 use crate::Refusal;
 use crate::rights::Cell;
 use crate::state::{Name, State};
 use crate::valid::matrix_valid;
 
-/// The state read from a record. "The state read keeps n and p."
+/// What is read from a record (Manual 2.2): n, p and the state.
 #[derive(Clone, Debug, PartialEq, Eq)]
 pub struct Station {
     pub n: u64,
@@ -14,7 +14,7 @@ pub struct Station {
 }
 
 impl Station {
-    /// "Column c below n is subject c; the others are plain objects (logs)."
+    /// The name that a column stands for (Manual 1.1).
     pub fn name(&self, column: u64) -> Name {
         name_of_column(self.n, column)
     }
@@ -34,7 +34,7 @@ pub fn record_length(n: u64, p: u64) -> usize {
     5 + count_after_byte_4(n, p) as usize
 }
 
-/// "L = 2 + 2·n·(n + p)."
+/// L.
 fn count_after_byte_4(n: u64, p: u64) -> u64 {
     2 + 2 * n * (n + p)
 }
@@ -46,25 +46,25 @@ fn offset(n: u64, p: u64, row: u64, column: u64) -> usize {
 
 /// Reads a record, with the tests 1 to 5 in their order.
 pub fn read(record: &[u8]) -> Result<Station, Refusal> {
-    // 1: record under 7 bytes.
+    // 1: fewer than 7 bytes.
     if record.len() < 7 {
         return Err(1);
     }
-    // 2: version not 1.
+    // 2: the version.
     if record[0] != 1 {
         return Err(2);
     }
-    // 3: n or p outside its range: n 1 to 64, p 0 to 192.
+    // 3: n is 1 to 64, p 0 to 192.
     let (n, p) = (u64::from(record[5]), u64::from(record[6]));
     if !(1..=64).contains(&n) || p > 192 {
         return Err(3);
     }
-    // 4: L or true length wrong.
+    // 4: L, and the length.
     let l = u32::from_be_bytes([record[1], record[2], record[3], record[4]]);
     if u64::from(l) != count_after_byte_4(n, p) || record.len() != record_length(n, p) {
         return Err(4);
     }
-    // 5: matrix not valid.
+    // 5: the five conditions.
     let state = read_matrix(record, n, p);
     if !matrix_valid(&state, n) {
         return Err(5);

@@ -1,13 +1,13 @@
 //! Rights, their codes, and the cells that hold them.
 
-/// "Plain or starred. The star is the source's copy flag."
+/// The form of a basic right. The star is the copy flag (Manual 1.2).
 #[derive(Clone, Copy, Debug, PartialEq, Eq, PartialOrd, Ord, Hash)]
 pub enum Form {
     Plain,
     Starred,
 }
 
-/// "A right is own, control, or a basic right, plain or starred."
+/// A right (Manual 1.2).
 #[derive(Clone, Copy, Debug, PartialEq, Eq, PartialOrd, Ord, Hash)]
 pub enum Right {
     Own,
@@ -28,8 +28,7 @@ impl Right {
         }
     }
 
-    /// "Its code is its bit number in the cell, bit 0 lowest: own 0, control 1, basic right k (0 to 6) plain
-    /// 2 + 2k, starred 3 + 2k."
+    /// The code of a right: the number of its bit in a cell (Manual 1.2).
     pub fn code(self) -> u64 {
         match self {
             Right::Own => 0,
@@ -55,7 +54,7 @@ impl Cell {
         self.0 & Cell::bit(right) != 0
     }
 
-    /// "A right is held if its bit is set, or, for a plain basic right, if the starred bit is."
+    /// Whether a right is held (Manual 1.3): by its own bit, or plain by the starred one.
     pub fn held(self, right: Right) -> bool {
         match right {
             Right::Basic(k, Form::Plain) => {

@@ -10,7 +10,7 @@ use crate::state::{Name, State, U};
 /// A safety question: whether s can come to hold the right over o, if only untrusted subjects begin commands.
 #[derive(Clone, Copy, Debug, PartialEq, Eq, Hash)]
 pub struct Question {
-    /// "64-bit trust mask (bit s set: subject s is trusted, existing or not)."
+    /// The trust mask: a bit for each subject, set for those that are trusted (Manual 8.1).
     pub trust: u64,
     pub s: u64,
     pub o: Name,
@@ -24,7 +24,7 @@ impl Question {
     }
 }
 
-/// The test 7 of a safety question: s ≥ n, o ≥ n + p, right > 15, trust bit ≥ n.
+/// The test 7 of a safety question (Manual 7.2).
 pub fn question(
     station: &Station,
     trust: u64,
@@ -81,7 +81,7 @@ fn has_star(state: &State, v: u64, q: &Question) -> bool {
     }
 }
 
-/// "Above o means: an owner of o, or an owner of one of those, and so on up to U, which counts like any other."
+/// The subjects above o (Manual 4.1): its owners, their owners, and on, U among them.
 fn above(state: &State, o: Name) -> BTreeSet<u64> {
     let mut above = BTreeSet::new();
     let mut names = vec![o];

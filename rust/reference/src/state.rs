@@ -1,18 +1,17 @@
-//! The state: for each subject name as row and each name of either kind as column, which bits are set.
+//! The state (Manual 1.3): which bits are set in the cell of any subject's row and any name's column.
 
 use std::collections::BTreeMap;
 
 use crate::rights::{Cell, Right};
 
-/// "Subject names and plain names are two separate kinds, each numbered by any whole number (column c from n
-/// on is plain name c)."
+/// A name of one of the two kinds, by its number within the kind (Manual 1.1).
 #[derive(Clone, Copy, Debug, PartialEq, Eq, PartialOrd, Ord, Hash)]
 pub enum Name {
     Subject(u64),
     Plain(u64),
 }
 
-/// "Subject 0 is the universal subject U."
+/// The universal subject.
 pub const U: u64 = 0;
 
 /// The answer of the owner walk: whether the wanted name was met, and the number of owner links followed.
@@ -88,8 +87,7 @@ impl State {
             .map(|((_, row), _)| *row)
     }
 
-    /// "A subject exists if its own cell (row s, column s) has control. A plain object exists if some row owns
-    /// it."
+    /// Existence (Manual 3.1): of a subject by control in its own cell, of a plain object by an owner.
     pub fn exists(&self, name: Name) -> bool {
         match name {
             Name::Subject(s) => self.has(s, name, Right::Control),
@@ -115,11 +113,10 @@ impl State {
         self.cells.retain(|(c, _), _| *c != column);
     }
 
-    /// "The owner walk starts at a subject and follows its owner until a wanted name or U is met. Its answer
-    /// carries the number of owner links followed."
+    /// The owner walk (Manual 4.2), from owner to owner, with the links counted.
     ///
-    /// It is asked of valid states only, where every existing subject but U has one owner and no subject is
-    /// met again.
+    /// It is asked of valid states only, where every existing subject but U has one owner and the owners of
+    /// owners come to U.
     pub fn walk(&self, start: u64, wanted: Name) -> Walk {
         let mut at = start;
         let mut links = 0;

@@ -5,7 +5,7 @@ use std::collections::BTreeSet;
 use crate::rights::Right;
 use crate::state::{Name, State, U};
 
-/// "The record is valid when" all five of the paper's conditions hold.
+/// The five conditions (Manual 3.2), in their order.
 pub fn matrix_valid(state: &State, n: u64) -> bool {
     let subjects: Vec<u64> = (0..n).filter(|s| state.exists(Name::Subject(*s))).collect();
     absent_names_are_zero(state, &subjects)
@@ -15,8 +15,7 @@ pub fn matrix_valid(state: &State, n: u64) -> bool {
         && no_subject_is_met_again(state, &subjects)
 }
 
-/// "Rows and columns of absent names are all zero": each cell that is not zero is of an existing row and an
-/// existing column.
+/// 1: each cell that is not zero is of an existing row and an existing column.
 fn absent_names_are_zero(state: &State, subjects: &[u64]) -> bool {
     let columns: BTreeSet<Name> = state.cells().map(|(column, _, _)| column).collect();
     columns.iter().all(|column| state.exists(*column))
@@ -25,7 +24,7 @@ fn absent_names_are_zero(state: &State, subjects: &[u64]) -> bool {
             .all(|(_, row, _)| subjects.binary_search(&row).is_ok())
 }
 
-/// "No plain column has control."
+/// 2: nobody controls a plain object.
 fn no_plain_column_has_control(state: &State) -> bool {
     let mut cells = state.cells();
     cells.all(|(column, _, cell)| matches!(column, Name::Subject(_)) || !cell.has(Right::Control))
@@ -37,7 +36,7 @@ fn other_controllers(state: &State, s: u64) -> usize {
     controllers.filter(|row| *row != s).count()
 }
 
-/// "U exists, with no owner and no other controller."
+/// 3: U exists, nobody owns it, and nobody but U controls it.
 fn universal_subject_stands_alone(state: &State) -> bool {
     let u = Name::Subject(U);
     state.exists(u)
@@ -45,7 +44,7 @@ fn universal_subject_stands_alone(state: &State) -> bool {
         && other_controllers(state, U) == 0
 }
 
-/// "Every other existing subject has exactly one owner and at most one controller besides itself."
+/// 4: each existing subject but U has one owner, and at most one subject other than itself controls it.
 fn others_have_one_owner_and_few_controllers(state: &State, subjects: &[u64]) -> bool {
     subjects.iter().filter(|s| **s != U).all(|s| {
         let owners = state.rows_with(Name::Subject(*s), Right::Own).count();
@@ -53,7 +52,7 @@ fn others_have_one_owner_and_few_controllers(state: &State, subjects: &[u64]) ->
     })
 }
 
-/// "No subject is met again by following owners upward." Asked once every subject but U has one owner, so that
+/// 5: from owner to owner one comes to no subject twice. Asked once every subject but U has one owner, so that
 /// following owners either ends at U or meets a subject again.
 fn no_subject_is_met_again(state: &State, subjects: &[u64]) -> bool {
     let mut ends_at_u = BTreeSet::from([U]);

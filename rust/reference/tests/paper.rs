@@ -1,10 +1,10 @@
-//! The paper's worked examples: "Stations A and B", the refusal table, and the example of each refusal.
+//! The worked examples of docs/MANUAL.md: the rows of its section 10, and the example of each refusal.
 
 use reference::{
     Answer, Safety, command, held, leaks_by, read, run, safety, valid, write, write_list,
 };
 
-/// A (31 bytes): 01 0000001A 03 01, rows 0002 0001 0000 0000, 0000 0002 0001 0000, 0000 0000 0002 0001.
+/// Station A (Manual 10.1).
 fn a() -> Vec<u8> {
     vec![
         0x01, 0x00, 0x00, 0x00, 0x1A, 0x03, 0x01, //
@@ -14,7 +14,7 @@ fn a() -> Vec<u8> {
     ]
 }
 
-/// B: n = 2, p = 1, rows 0002 0000 0000 and zeros.
+/// Station B (Manual 10.1).
 fn b() -> Vec<u8> {
     vec![
         0x01, 0x00, 0x00, 0x00, 0x0E, 0x02, 0x01, //

@@ -1,6 +1,6 @@
 -- `bunvespo::bunvespo_command` meets its contract.
-use Rattle.bunvespo.specs.Pairs.{commandPair}
-use Rattle.bunvespo.specs.Laws.{pair-of}
+use Rattle.matrix.specs.Numbers.{commandNumbers}
+use Rattle.bunvespo.specs.Laws.{numbers-of}
 use borrow.Author.Needs.{needs}
 use Rattle.bunvespo.proofs.bunvespo_command.Statement.{statement}
 use Rattle.bunvespo.proofs.bunvespo_command.Tie as tie
@@ -18,13 +18,13 @@ same-length : tie.Need-same-length
 same-length c = search needs
 
 returns : tie.Need-returns
-returns c = (pair-of commandPair (c .before .before .before .before .before .command .ensures .0) (c .before .answer .given .1), c .before .before .before .before .before .command .ensures .1)
+returns c = (numbers-of commandNumbers (c .before .before .before .before .before .command .ensures .0) (c .before .answer .given .1), c .before .before .before .before .before .command .ensures .1 .0)
 
 same-length-2 : tie.Need-same-length-2
 same-length-2 c = search needs
 
 returns-2 : tie.Need-returns-2
-returns-2 c = (pair-of commandPair (c .before .before .before .before .before .command .ensures .0) (c .before .answer2 .given .1), c .before .before .before .before .before .command .ensures .1)
+returns-2 c = (numbers-of commandNumbers (c .before .before .before .before .before .command .ensures .0) (c .before .answer2 .given .1), c .before .before .before .before .before .command .ensures .1 .0)
 
 pub bunvespo-command-spec : {M : Type 1} → statement M
 bunvespo-command-spec =

@@ -1,6 +1,6 @@
 -- `bunvespo::bunvespo_held` meets its contract.
-use Rattle.bunvespo.specs.Pairs.{heldPair}
-use Rattle.bunvespo.specs.Laws.{pair-of}
+use Rattle.matrix.specs.Numbers.{heldNumbers}
+use Rattle.bunvespo.specs.Laws.{numbers-of}
 use borrow.Author.Needs.{needs}
 use Rattle.bunvespo.proofs.bunvespo_held.Statement.{statement}
 use Rattle.bunvespo.proofs.bunvespo_held.Tie as tie
@@ -18,13 +18,13 @@ enum-known-answer : tie.Need-enum-known-answer
 enum-known-answer c = search needs
 
 returns : tie.Need-returns
-returns c = pair-of heldPair (c .before .before .held .ensures) (c .enum-told .given .1)
+returns c = numbers-of heldNumbers (c .before .before .held .ensures .0) (c .enum-told .given .1)
 
 returns-2 : tie.Need-returns-2
-returns-2 c = pair-of heldPair (c .before .before .held .ensures) (c .enum-told2 .given .1)
+returns-2 c = numbers-of heldNumbers (c .before .before .held .ensures .0) (c .enum-told2 .given .1)
 
 returns-3 : tie.Need-returns-3
-returns-3 c = pair-of heldPair (c .before .before .before .held .ensures) (c .before .answer .given .1)
+returns-3 c = numbers-of heldNumbers (c .before .before .before .held .ensures .0) (c .before .answer .given .1)
 
 pub bunvespo-held-spec : {M : Type 1} → statement M
 bunvespo-held-spec =

@@ -1,6 +1,6 @@
 -- `bunvespo::bunvespo_run` meets its contract.
 use mathlib.Core.Path.{ap}
-use Rattle.bunvespo.specs.Pairs.{runPair}
+use Rattle.matrix.specs.Numbers.{runNumbers}
 use borrow.Author.Needs.{needs}
 use Rattle.bunvespo.proofs.bunvespo_run.Statement.{statement}
 use Rattle.bunvespo.proofs.bunvespo_run.Tie as tie
@@ -12,7 +12,7 @@ same-length : tie.Need-same-length
 same-length c = search needs
 
 returns : tie.Need-returns
-returns c = (ap runPair (c .before .before .run .ensures .0), c .before .before .run .ensures .1)
+returns c = (ap runNumbers (c .before .before .run .ensures .0), c .before .before .run .ensures .1 .0)
 
 pub bunvespo-run-spec : {M : Type 1} → statement M
 bunvespo-run-spec = tie.close (tie.spec run-requires same-length returns)

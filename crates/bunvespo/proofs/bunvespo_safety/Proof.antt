@@ -1,7 +1,7 @@
 -- `bunvespo::bunvespo_safety` meets its contract.
 use native.Mathlib.Omega.{arith}
 use Rattle.matrix.specs.Shaped.{Octets}
-use Rattle.bunvespo.specs.Laws.{answers-pair, few-commands}
+use Rattle.bunvespo.specs.Laws.{answers-numbers, few-commands}
 use borrow.Author.Needs.{needs}
 use Rattle.bunvespo.proofs.bunvespo_safety.Statement.{statement}
 use Rattle.bunvespo.proofs.bunvespo_safety.Tie as tie
@@ -28,19 +28,19 @@ same-length : tie.Need-same-length
 same-length c = search needs
 
 returns : tie.Need-returns
-returns c = answers-pair (c .before .before .before .before .safety .ensures) (c .enum-told .given .1)
+returns c = answers-numbers (c .before .before .before .before .safety .ensures) (c .enum-told .given .1)
 
 same-length-2 : tie.Need-same-length-2
 same-length-2 c = search needs
 
 returns-2 : tie.Need-returns-2
-returns-2 c = answers-pair (c .before .before .before .before .before .safety .ensures) (c .before .answer .given .1)
+returns-2 c = answers-numbers (c .before .before .before .before .before .safety .ensures) (c .before .answer .given .1)
 
 same-length-3 : tie.Need-same-length-3
 same-length-3 c = search needs
 
 returns-3 : tie.Need-returns-3
-returns-3 c = answers-pair (c .before .before .before .before .before .safety .ensures) (c .before .answer2 .given .1)
+returns-3 c = answers-numbers (c .before .before .before .before .before .safety .ensures) (c .before .answer2 .given .1)
 
 pub bunvespo-safety-spec : {M : Type 1} → statement M
 bunvespo-safety-spec =

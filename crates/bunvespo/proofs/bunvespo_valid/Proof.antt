@@ -1,6 +1,6 @@
 -- `bunvespo::bunvespo_valid` meets its contract.
-use Rattle.bunvespo.specs.Pairs.{truth}
-use Rattle.bunvespo.specs.Laws.{pair-of}
+use Rattle.matrix.specs.Numbers.{truth}
+use Rattle.bunvespo.specs.Laws.{numbers-of}
 use borrow.Author.Needs.{needs}
 use Rattle.bunvespo.proofs.bunvespo_valid.Statement.{statement}
 use Rattle.bunvespo.proofs.bunvespo_valid.Tie as tie
@@ -9,10 +9,10 @@ valid-requires : tie.Need-valid-requires
 valid-requires c κs = search needs
 
 returns : tie.Need-returns
-returns c = pair-of truth (c .before .valid .ensures) (c .if1 .taken)
+returns c = numbers-of truth (c .before .valid .ensures) (c .if1 .taken)
 
 returns-2 : tie.Need-returns-2
-returns-2 c = pair-of truth (c .before .valid .ensures) (c .if1 .left)
+returns-2 c = numbers-of truth (c .before .valid .ensures) (c .if1 .left)
 
 pub bunvespo-valid-spec : {M : Type 1} → statement M
 bunvespo-valid-spec = tie.close (tie.spec valid-requires returns returns-2)

@@ -6,6 +6,7 @@ use Rattle.matrix.specs.Shaped.{Octets}
 use Rattle.owners.specs.Read.{valid-record}
 use Rattle.cells.specs.Station.{Station}
 use Rattle.opening.specs.Opened.{station-of, long-enough}
+use Rattle.laws.specs.Numbers.{command-numbers}
 use Rattle.station.specs.Done.{command-turned-down, command-kept, command-reply, command-done}
 use borrow.Author.Needs.{needs}
 use Rattle.station.proofs.command.Statement.{statement}
@@ -29,7 +30,8 @@ opened c = station-of (octets (c .before .before .before .before)) (right (c .be
 
 returns : tie.Need-returns
 returns c =
-    (command-turned-down _ (c .before .refusal-with .ensures .0) (c .if1 .taken) _, command-kept _ (c .before .refusal-with .ensures .0) (c .if1 .taken) _)
+    let e = command-turned-down _ (c .before .refusal-with .ensures .0) (c .if1 .taken) _ in
+    (e, (command-kept _ (c .before .refusal-with .ensures .0) (c .if1 .taken) _, command-numbers _ _ e))
 
 byte-requires : tie.Need-byte-requires
 byte-requires c κs = omega (arith, long-enough _ (right (c .before)))
@@ -48,7 +50,8 @@ same-length-2 c = search needs
 returns-2 : tie.Need-returns-2
 returns-2 c =
     let f = c .before .before .before .before .before in
-    (command-reply (right (f .before .before .before .before)) (opened f) (c .before .before .command-on .ensures .0), command-done (right (f .before .before .before .before)) (opened f) (c .before .before .command-on .ensures .0))
+    let e = command-reply (right (f .before .before .before .before)) (opened f) (c .before .before .command-on .ensures .0) in
+    (e, (command-done (right (f .before .before .before .before)) (opened f) (c .before .before .command-on .ensures .0), command-numbers _ _ e))
 
 pub command-spec : {M : Type 1} → statement M
 command-spec =

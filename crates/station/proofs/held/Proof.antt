@@ -5,6 +5,7 @@ use Rattle.matrix.specs.Record.{recordRefusal}
 use Rattle.matrix.specs.Shaped.{Octets}
 use Rattle.holding.specs.Asked.{held-answer}
 use Rattle.opening.specs.Opened.{station-of, long-enough}
+use Rattle.laws.specs.Numbers.{held-numbers}
 use Rattle.station.specs.Done.{held-turned-down}
 use borrow.Author.Needs.{needs}
 use Rattle.station.proofs.held.Statement.{statement}
@@ -21,7 +22,7 @@ octets : (c : tie.Else1) → Octets (c .before .before .before .args .b .now)
 octets c = record { octet = λ j. c .before .before .shared-slice-known .given j .fits }
 
 returns : tie.Need-returns
-returns c = held-turned-down _ (c .before .refusal .ensures) (c .if1 .taken) _ _ _
+returns c = let e = held-turned-down _ (c .before .refusal .ensures) (c .if1 .taken) _ _ _ in (e, held-numbers _ _ _ _ e)
 
 byte-requires : tie.Need-byte-requires
 byte-requires c κs = omega (arith, long-enough _ (right c))
@@ -33,7 +34,7 @@ held-on-requires : tie.Need-held-on-requires
 held-on-requires c κs = station-of (octets (c .before .before)) (right (c .before .before)) (c .before .byte .ensures) (c .byte2 .ensures)
 
 returns-2 : tie.Need-returns-2
-returns-2 c = c .held-on .ensures ∙ held-answer _ _ _ _ (right (c .before .before .before))
+returns-2 c = let e = c .held-on .ensures ∙ held-answer _ _ _ _ (right (c .before .before .before)) in (e, held-numbers _ _ _ _ e)
 
 pub held-spec : {M : Type 1} → statement M
 held-spec =

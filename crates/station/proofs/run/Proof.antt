@@ -9,6 +9,7 @@ use borrow.Author.Tests.{not-true, not-false}
 use Rattle.owners.specs.Read.{valid-record}
 use Rattle.cells.specs.Station.{Station}
 use Rattle.opening.specs.Opened.{station-of, long-enough}
+use Rattle.laws.specs.Numbers.{run-numbers}
 use Rattle.station.specs.Done.{run-turned-down, run-kept, list-turned-down, list-kept, run-outcome, run-done}
 use borrow.Author.Needs.{needs}
 use Rattle.station.proofs.run.Statement.{statement}
@@ -36,7 +37,8 @@ opened c = station-of (octets (c .before .before .before .before .before .before
 
 returns : tie.Need-returns
 returns c =
-    (run-turned-down _ (c .before .refusal-with .ensures .0) (c .if1 .taken) _, run-kept _ (c .before .refusal-with .ensures .0) (c .if1 .taken) _)
+    let e = run-turned-down _ (c .before .refusal-with .ensures .0) (c .if1 .taken) _ in
+    (e, (run-kept _ (c .before .refusal-with .ensures .0) (c .if1 .taken) _, run-numbers _ _ e))
 
 well-formed-requires : tie.Need-well-formed-requires
 well-formed-requires c κs = search needs
@@ -47,7 +49,8 @@ same-length-2 c = search needs
 returns-2 : tie.Need-returns-2
 returns-2 c =
     let f = sym (c .before .well-formed .ensures) ∙ not-true _ (c .if2 .taken) in
-    (list-turned-down _ _ (right (c .before .before)) f, list-kept _ _ (right (c .before .before)) f)
+    let e = list-turned-down _ _ (right (c .before .before)) f in
+    (e, (list-kept _ _ (right (c .before .before)) f, run-numbers _ _ e))
 
 byte-requires : tie.Need-byte-requires
 byte-requires c κs = omega (arith, long-enough _ (right (c .before .before .before)))
@@ -67,7 +70,8 @@ same-length-3 c = search needs
 returns-3 : tie.Need-returns-3
 returns-3 c =
     let d = c .before .before .before .before .before .before .before .before .before in
-    (run-outcome _ _ (right (d .before .before)) (formed d) (c .before .before .run-on .ensures), run-done _ _ (right (d .before .before)) (formed d) (c .before .before .run-on .ensures))
+    let e = run-outcome _ _ (right (d .before .before)) (formed d) (c .before .before .run-on .ensures) in
+    (e, (run-done _ _ (right (d .before .before)) (formed d) (c .before .before .run-on .ensures), run-numbers _ _ e))
 
 pub run-spec : {M : Type 1} → statement M
 run-spec =

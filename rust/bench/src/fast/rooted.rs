@@ -2,7 +2,7 @@
 
 use super::tables::Tables;
 
-/// Whether no subject is met again by following owners upward, where each has at most one owner and U none. By doubling: after
+/// Whether the owners of owners come to U from every subject, where each has at most one owner and U none. By doubling: after
 /// six rounds each entry has followed 64 owners, and only a subject on a cycle or below one is not at U. Absent subjects and
 /// names beyond n have U as their entry.
 pub fn rooted(tables: &Tables, n: usize) -> bool {

@@ -1,0 +1,219 @@
+-- Demand 2 holds.
+use Prim.Native.Nat.{ℕ, _+_, _-_, _≤_, _<_}
+use native.Mathlib.Omega.{arith}
+use mathlib.Core.Path.{_≡_, refl, sym, _∙_, ap, ap₂, subst}
+use mathlib.Core.Logic.{_↔_, ⊎-elim}
+use mathlib.Core.Bool.{Bool, true, false, cond, _&&_, _||_}
+use mathlib.Core.List.{List, _++_}
+use lib.Dec.{eqb}
+use lib.ListN.{length, take, drop}
+use lib.Seq.{take-at}
+use borrow.Author.Tests.{eqb-true, eq-eqb}
+use Rattle.matrix.specs.declared.Right.{Right}
+use Rattle.matrix.specs.declared.Right.the-variants.{Own, Control, Basic}
+use Rattle.matrix.specs.declared.Act.{Act}
+use Rattle.matrix.specs.declared.Act.the-variants.{Transfer, Grant, Delete, CreateObject, DestroyObject, CreateSubject, DestroySubject}
+use Rattle.matrix.specs.declared.Command.{Command}
+use Rattle.matrix.specs.declared.Fields.{Fields}
+use Rattle.matrix.specs.declared.Answer.{Answer}
+use Rattle.matrix.specs.declared.Answer.the-variants.{Accepted, Refused}
+use Rattle.matrix.specs.declared.Numbers.{Numbers}
+use Rattle.matrix.specs.Names.{nameOf}
+use Rattle.matrix.specs.Numbers.{numbers, commandNumbers}
+use Rattle.matrix.specs.Rights.{rightOf}
+use Rattle.matrix.specs.State.{State, has}
+use Rattle.matrix.specs.Owners.{walk, linksOf}
+use Rattle.matrix.specs.Commands.{decode}
+use Rattle.matrix.specs.Touched.{touched}
+use Rattle.matrix.specs.Bytes.{bytesOfNumber, joined, fromBits}
+use Rattle.matrix.specs.Step.{answer, walkLinks, refusal, links, next}
+use Rattle.matrix.specs.Shape.{Shape, shapeOf, basicsOf, bitsOf, columns, cellPlace}
+use Rattle.matrix.specs.Shaped.{Shaped, Octets}
+use Rattle.matrix.specs.Reading.{Content, stateOf, content, contentOf, header, rowOf, cellAt, cellOf, bytesOf}
+use Rattle.matrix.specs.Record.{recordRefusal}
+use Rattle.matrix.specs.Calls.{validAnswer, rawOf, namesFit, refusalOn, linksOn, nextOn, commandAnswer, commandResult, commandBytes, runRefusal, ranOn, runBytes}
+use Rattle.laws.specs.Tests.{way, clash}
+use Rattle.laws.specs.Numbers.{answer-number, command-numbers}
+use Rattle.codec.specs.Bits.{fromBits-same}
+use Rattle.codec.specs.Cells.{cell-inside}
+use Rattle.codec.specs.Numbers.{bytes-numberAt}
+use Rattle.codec.specs.Written.{length-header, shaped-write, cell-write}
+use Rattle.codec.specs.RoundTrip.{read-write}
+use Rattle.owners.specs.Read.{record-shaped, record-links}
+use Rattle.frame.specs.Untouched.{untouched-next}
+use Rattle.demands.specs.First.{NoneHolds}
+use Rattle.demands.specs.Printed.{runConditions}
+use Rattle.demands.specs.Refusals.{run-numbered}
+use Rattle.demands.specs.Records.{Sound, sound-record, content-read, bytes-pass, bytes-octets, sound-next, sound-run}
+use Rattle.demands.specs.Turns.{run-valid}
+use Rattle.demands.specs.Demand1Holds.{command-number}
+use Rattle.demands.specs.Demand2.{cellBytes, Unnamed, NextRight, Demand2}
+
+-- ---- records and what they hold
+
+passes : (b : List ℕ) → validAnswer b ≡ true → recordRefusal b ≡ 0
+unfolding validAnswer
+passes b h = eqb-true (recordRefusal b) 0 h
+
+valid-so : (b : List ℕ) → recordRefusal b ≡ 0 → validAnswer b ≡ true
+unfolding validAnswer
+valid-so b h = eq-eqb (recordRefusal b) 0 h
+
+written-same : (b : List ℕ) → Octets b → validAnswer b ≡ true → bytesOf (contentOf b) ≡ b
+written-same b octets valid = read-write b (record-shaped b (passes b valid)) octets
+
+read-same : (b c : List ℕ) → Octets b → Octets c → validAnswer b ≡ true → validAnswer c ≡ true → contentOf b ≡ contentOf c → b ≡ c
+read-same b c o p v w e = sym (written-same b o v) ∙ ap bytesOf e ∙ written-same c p w
+
+-- the bytes of a cell that a record holds, and those before the first cell
+module _ (m : Content) (sound : Sound m) where
+  held-shape : shapeOf (bytesOf m) ≡ m .shape
+  held-shape = ap (λ (c : Content). c .shape) (content-read m sound)
+
+  held-cell : (r d : ℕ) → r < m .shape .n → d < columns (m .shape) → cellBytes (bytesOf m) r d ≡ bytesOfNumber (m .shape .width) (cellOf (m .shape) (m .state) r d)
+  unfolding cellAt
+  held-cell r d row column =
+      sym (bytes-numberAt b (cellPlace (shapeOf b) r d) (shapeOf b .width) (bytes-octets m sound) (cell-inside b r d (shaped-write (m .shape) (m .state) (sound .shape)) (rw held-shape row) (rw held-shape column)))
+      ∙ ap₂ (λ (f : Shape) (v : ℕ). bytesOfNumber (f .width) v) held-shape (cell-write (m .shape) (m .state) r d (sound .shape) row column)
+    where
+      b : List ℕ
+      b = bytesOf m
+
+  held-header : take (m .shape .first) (bytesOf m) ≡ header (m .shape)
+  unfolding bytesOf
+  held-header = take-at (header (m .shape)) (joined (m .shape .n) (rowOf (m .shape) (m .state))) (m .shape .first) (length-header (m .shape) (sound .shape))
+
+-- ---- an accepted command
+
+module _ (b : List ℕ) (c : Fields) where
+  abbrev f : Shape
+  f = shapeOf b
+
+  abbrev S : State
+  S = stateOf b
+
+  -- the value of the answer
+  value-is : commandNumbers (commandAnswer b c) .value ≡ cond (eqb (recordRefusal b) 0) (linksOn f S c) 0
+  unfolding commandResult
+  value-is = ap (λ (r : Numbers). r .value) (command-numbers b c refl) ∙ picked (eqb (recordRefusal b) 0)
+    where
+      picked : (t : Bool) → cond t (numbers (refusalOn f S c) (linksOn f S c)) (numbers (recordRefusal b) 0) .value ≡ cond t (linksOn f S c) 0
+      picked true = refl
+      picked false = refl
+
+  module _ (followed : ℕ) (e : commandAnswer b c ≡ Accepted followed) where
+    none : cond (eqb (recordRefusal b) 0) (refusalOn f S c) (recordRefusal b) ≡ 0
+    none = sym (command-number b c) ∙ ap (λ (r : Answer). commandNumbers r .refusal) e
+
+    record-passes : recordRefusal b ≡ 0
+    record-passes =
+        ⊎-elim (λ t. eqb-true (recordRefusal b) 0 t) (λ t. let z : recordRefusal b ≡ 0 = rw t at none in z) (way (eqb (recordRefusal b) 0))
+
+    taken : refusalOn f S c ≡ 0
+    taken = rw record-passes at none
+
+    followed-is : linksOn f S c ≡ followed
+    followed-is =
+        let v : cond (eqb (recordRefusal b) 0) (linksOn f S c) 0 ≡ followed = sym value-is ∙ ap (λ (r : Answer). commandNumbers r .value) e in
+        rw record-passes at v
+
+    m : Content
+    m = content f (nextOn f S c)
+
+    sound : Sound m
+    unfolding m
+    sound = sound-next (contentOf b) (sound-record b record-passes) c
+
+    bytes-are : commandBytes b c ≡ bytesOf m
+    unfolding commandBytes m
+    bytes-are = rw (record-passes, taken) refl
+
+    next-right : Octets b → NextRight b c
+    unfolding m nextOn
+    next-right octets =
+        record {
+          valid = ap validAnswer bytes-are ∙ valid-so (bytesOf m) (bytes-pass m sound);
+          octets = subst Octets (sym bytes-are) (bytes-octets m sound);
+          shape = ap shapeOf bytes-are ∙ held-shape m sound;
+          state = ap stateOf bytes-are ∙ ap (λ (r : Content). r .state) (content-read m sound);
+          header = ap (take (f .first)) bytes-are ∙ held-header m sound ∙ sym (held-header (contentOf b) before) ∙ ap (take (f .first)) same;
+          cells = λ r d row column unnamed.
+              ap (λ (x : List ℕ). cellBytes x r d) bytes-are ∙ held-cell m sound r d row column
+              ∙ ap (bytesOfNumber (f .width)) (bits r d unnamed) ∙ sym (held-cell (contentOf b) before r d row column) ∙ ap (λ (x : List ℕ). cellBytes x r d) same;
+        }
+      where
+        before : Sound (contentOf b)
+        before = sound-record b record-passes
+
+        same : bytesOf (contentOf b) ≡ b
+        same = read-write b (record-shaped b record-passes) octets
+
+        bits : (r d : ℕ) → Unnamed b c r d → cellOf f (nextOn f S c) r d ≡ cellOf f S r d
+        bits r d unnamed =
+            fromBits-same (bitsOf f) (λ j. has (nextOn f S c) (rightOf j) r (nameOf (f .n) d)) (λ j. has S (rightOf j) r (nameOf (f .n) d))
+            (λ j l. untouched-next (basicsOf f) (namesFit f c) S (rawOf f c) (rightOf j) r (nameOf (f .n) d) (unnamed (rightOf j)))
+
+  accepted-so : recordRefusal b ≡ 0 → refusalOn f S c ≡ 0 → commandAnswer b c ≡ Accepted (linksOn f S c)
+  unfolding commandAnswer
+  accepted-so valid allowed = rw (valid, allowed) refl
+
+-- ---- the links
+
+walk-few : (b : List ℕ) → recordRefusal b ≡ 0 → (c : Command) (a : Act) → walkLinks (stateOf b) c a ≤ shapeOf b .n - 1
+walk-few b h c (Transfer Own) = let l : linksOf (walk (stateOf b) (c .s) (c .o)) < shapeOf b .n = record-links b h (c .s) (c .o) in omega arith
+walk-few b h c (Transfer Control) = omega arith
+walk-few b h c (Transfer (Basic k g)) = omega arith
+walk-few b h c (Grant y) = omega arith
+walk-few b h c (Delete y) = omega arith
+walk-few b h c CreateObject = omega arith
+walk-few b h c DestroyObject = omega arith
+walk-few b h c CreateSubject = omega arith
+walk-few b h c DestroySubject = omega arith
+
+cond-few : (t : Bool) (m n : ℕ) → (t ≡ true → m ≤ n) → cond t m 0 ≤ n
+cond-few true m n h = h refl
+cond-few false m n h = omega arith
+
+links-few : (b : List ℕ) (c : Fields) → commandNumbers (commandAnswer b c) .value ≤ shapeOf b .n - 1
+unfolding linksOn links
+links-few b c =
+    subst (λ (k : ℕ). k ≤ shapeOf b .n - 1) (sym (value-is b c))
+    (cond-few (eqb (recordRefusal b) 0) _ (shapeOf b .n - 1)
+    (λ t. cond-few (eqb number 0 || eqb number 13) _ (shapeOf b .n - 1) (λ u. walk-few b (eqb-true (recordRefusal b) 0 t) (decode (rawOf (shapeOf b) c)) (decode (rawOf (shapeOf b) c) .act))))
+  where
+    number : ℕ
+    number = refusal (basicsOf (shapeOf b)) (namesFit (shapeOf b) c) (stateOf b) (rawOf (shapeOf b) c)
+
+-- ---- a list run
+
+run-read : (b l : List ℕ) → Octets b → NoneHolds (runConditions b l)
+    → (validAnswer (runBytes b l) ≡ true) × Octets (runBytes b l) × (contentOf (runBytes b l) ≡ content (shapeOf b) (ranOn b l .state))
+unfolding runBytes
+run-read b l octets h =
+    let passed : runRefusal b l ≡ 0 = run-numbered b l .answered .1 h in
+    let before = sound-record b (run-valid b l passed) in
+    let m : Content = content (shapeOf b) (ranOn b l .state) in
+    let sound : Sound m = sound-run b l before in
+    rw passed (valid-so (bytesOf m) (bytes-pass m sound), bytes-octets m sound, content-read m sound)
+
+-- ---- the demand
+
+allowed : (b : List ℕ) (c : Fields) (followed : ℕ) → (commandAnswer b c ≡ Accepted followed)
+    ↔ ((validAnswer b ≡ true)
+    × (refusal (basicsOf (shapeOf b)) (namesFit (shapeOf b) c) (stateOf b) (rawOf (shapeOf b) c) ≡ 0)
+    × (links (basicsOf (shapeOf b)) (namesFit (shapeOf b) c) (stateOf b) (rawOf (shapeOf b) c) ≡ followed))
+unfolding refusalOn linksOn
+allowed b c followed =
+    (λ e. (valid-so b (record-passes b c followed e), taken b c followed e, followed-is b c followed e),
+    λ h. accepted-so b c (passes b (h .0)) (h .1) ∙ ap Accepted (h .2))
+
+pub demand-2 : Demand2
+demand-2 =
+    record {
+      accepted = allowed;
+      next = λ b c followed octets e. next-right b c followed e octets;
+      links = links-few;
+      written = written-same;
+      same = read-same;
+      run = run-read;
+    }

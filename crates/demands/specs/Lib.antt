@@ -1,0 +1,21 @@
+-- The three demands, as theorems about the answers and the bytes of the public calls, and the sheet of the thirteen commands.
+pub mod Row
+pub mod Sheet
+pub mod SheetHolds
+pub mod First
+pub mod FirstLaws
+pub mod Printed
+pub mod Codes
+pub mod Refusals
+pub mod InTurn
+pub mod Records
+pub mod Turns
+pub mod Shortened
+pub mod Stopped
+pub mod Demand1
+pub mod RunHolds
+pub mod Demand1Holds
+pub mod Demand2
+pub mod Demand2Holds
+pub mod Demand3
+pub mod Demand3Holds

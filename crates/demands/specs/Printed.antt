@@ -1,0 +1,111 @@
+-- The conditions of the refusals as the manual prints them (Manual 7), each with its number, and the conditions of each call in their order.
+use Prim.Native.Nat.{ℕ, _+_, _<_}
+use mathlib.Core.Path.{_≡_}
+use mathlib.Core.Bool.{Bool, true, false, cond, not, _&&_, _||_}
+use mathlib.Core.List.{List, [], _∷_, _++_}
+use lib.Dec.{eqb, ltb}
+use lib.ListN.{length}
+use Rattle.matrix.specs.declared.Name.{Name}
+use Rattle.matrix.specs.declared.Name.the-variants.{Subject}
+use Rattle.matrix.specs.declared.Form.the-variants.{Starred}
+use Rattle.matrix.specs.declared.Fields.{Fields}
+use Rattle.matrix.specs.Names.{isSubject, nameOf}
+use Rattle.matrix.specs.State.{State, exists, existsName}
+use Rattle.matrix.specs.Owners.{walk, meets}
+use Rattle.matrix.specs.Valid.{Valid}
+use Rattle.matrix.specs.Commands.{known}
+use Rattle.matrix.specs.Tests.{otherController}
+use Rattle.matrix.specs.Shape.{Shape, shapeOf, knownVersion, inRange, sized, basicsOf}
+use Rattle.matrix.specs.Reading.{stateOf}
+use Rattle.matrix.specs.CommandList.{wellFormed}
+use Rattle.matrix.specs.Calls.{questionFits, namesFit}
+use Rattle.question.specs.Asked.{trustFits, listRoom}
+use Rattle.demands.specs.First.{Condition, condition}
+
+-- 1 to 5: the record is too short; its version is unknown; n or p is out of range; L or the length is wrong; the matrix is not valid
+abbrev pub recordConditions : List ℕ → List Condition
+recordConditions b =
+    condition 1 (length b < 7) ∷
+    condition 2 (knownVersion (shapeOf b .version) ≡ false) ∷
+    condition 3 (inRange (shapeOf b) ≡ false) ∷
+    condition 4 (sized b ≡ false) ∷
+    condition 5 (Valid (stateOf b) → ⊥) ∷ []
+
+-- a code is one of a list
+abbrev pub oneOf : ℕ → List ℕ → Bool
+oneOf code [] = false
+oneOf code (c ∷ cs) = eqb code c || oneOf code cs
+
+-- the codes that use s, o and k
+abbrev pub usesS : ℕ → Bool
+usesS code = not (oneOf code (10 ∷ 11 ∷ []))
+
+abbrev pub usesO : ℕ → Bool
+usesO code = not (oneOf code (12 ∷ 13 ∷ []))
+
+abbrev pub usesK : ℕ → Bool
+usesK code = oneOf code (1 ∷ 2 ∷ 4 ∷ 5 ∷ 8 ∷ 9 ∷ [])
+
+-- 7 fails these: a field that is not used is 0, and k is a basic right's number where it is used
+abbrev pub fieldsRight : ℕ → ℕ → ℕ → ℕ → ℕ → Bool
+fieldsRight basics code s o k = (usesS code || eqb s 0) && (usesO code || eqb o 0) && cond (usesK code) (ltb k basics) (eqb k 0)
+
+-- The conditions 9 to 14 by the code. 9: o is of the wrong kind
+abbrev pub kindWrong : ℕ → Name → Bool
+kindWrong code o = cond (oneOf code (3 ∷ 6 ∷ [])) (not (isSubject o)) (cond (oneOf code (7 ∷ 10 ∷ 11 ∷ [])) (isSubject o) false)
+
+-- 10: s or o is absent where it is needed
+abbrev pub missing : State → ℕ → ℕ → Name → Bool
+missing S code s o =
+    cond (oneOf code (1 ∷ 2 ∷ 3 ∷ 4 ∷ 5 ∷ 6 ∷ 7 ∷ 8 ∷ 9 ∷ [])) (not (exists S s && existsName S o))
+    (cond (eqb code 11) (not (existsName S o))
+    (cond (eqb code 13) (not (exists S s)) false))
+
+-- 11: the name to create exists
+abbrev pub taken : State → ℕ → ℕ → Name → Bool
+taken S code s o = cond (eqb code 10) (existsName S o) (cond (eqb code 12) (exists S s) false)
+
+-- 12: i lacks the right that is needed
+abbrev pub unentitled : State → ℕ → ℕ → ℕ → Name → ℕ → Bool
+unentitled S code i s o k =
+    cond (oneOf code (1 ∷ 2 ∷ [])) (not (S .basic k Starred i o))
+    (cond (oneOf code (3 ∷ 4 ∷ 5 ∷ 6 ∷ 7 ∷ 11 ∷ [])) (not (S .owns i o))
+    (cond (oneOf code (8 ∷ 9 ∷ [])) (not (S .owns i o || S .controls i (Subject s)))
+    (cond (eqb code 13) (not (S .owns i (Subject s))) false)))
+
+-- 13: the walk from s meets o
+abbrev pub walkMeets : State → ℕ → ℕ → Name → Bool
+walkMeets S code s o = cond (eqb code 3) (meets (walk S s o)) false
+
+-- 14: o has another controller
+abbrev pub controlled : State → ℕ → Name → Bool
+controlled S code o = cond (eqb code 6) (otherController S o) false
+
+-- 6 to 14, on a state of a shape
+abbrev pub commandConditions : Shape → State → Fields → List Condition
+commandConditions f S c =
+    condition 6 (known (c .code) ≡ false) ∷
+    condition 7 ((namesFit f c && fieldsRight (basicsOf f) (c .code) (c .s) (c .o) (c .k)) ≡ false) ∷
+    condition 8 (exists S (c .i) ≡ false) ∷
+    condition 9 (kindWrong (c .code) (nameOf (f .n) (c .o)) ≡ true) ∷
+    condition 10 (missing S (c .code) (c .s) (nameOf (f .n) (c .o)) ≡ true) ∷
+    condition 11 (taken S (c .code) (c .s) (nameOf (f .n) (c .o)) ≡ true) ∷
+    condition 12 (unentitled S (c .code) (c .i) (c .s) (nameOf (f .n) (c .o)) (c .k) ≡ true) ∷
+    condition 13 (walkMeets S (c .code) (c .s) (nameOf (f .n) (c .o)) ≡ true) ∷
+    condition 14 (controlled S (c .code) (nameOf (f .n) (c .o)) ≡ true) ∷ []
+
+-- a held question; a command; a list run, before its first command; a safety question with a buffer of so many bytes
+abbrev pub heldConditions : List ℕ → ℕ → ℕ → ℕ → List Condition
+heldConditions b s o right = recordConditions b ++ (condition 7 (questionFits (shapeOf b) s o right ≡ false) ∷ [])
+
+abbrev pub givenConditions : List ℕ → Fields → List Condition
+givenConditions b c = recordConditions b ++ commandConditions (shapeOf b) (stateOf b) c
+
+abbrev pub runConditions : List ℕ → List ℕ → List Condition
+runConditions b l = recordConditions b ++ (condition 16 (wellFormed l ≡ false) ∷ [])
+
+abbrev pub safetyConditions : List ℕ → ℕ → ℕ → ℕ → ℕ → ℕ → List Condition
+safetyConditions b mask s o right room =
+    recordConditions b
+    ++ (condition 7 ((questionFits (shapeOf b) s o right && trustFits (shapeOf b) mask) ≡ false) ∷
+    condition 15 (room < listRoom (shapeOf b .n + 2)) ∷ [])

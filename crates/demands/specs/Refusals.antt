@@ -1,0 +1,141 @@
+-- The numbers that the definitions of the calls give are those of the printed conditions, the first that holds.
+use Prim.Native.Nat.{ℕ, _+_, _<_}
+use native.Mathlib.Omega.{arith}
+use mathlib.Core.Path.{_≡_, refl, sym, _∙_, ap, subst}
+use mathlib.Core.Logic.{_≢_, ⊎-elim}
+use mathlib.Core.Bool.{Bool, true, false, cond, not, _&&_}
+use mathlib.Core.List.{List, [], _∷_, _++_}
+use lib.Dec.{eqb, leb}
+use lib.ListN.{length, drop}
+use borrow.Author.Tests.{leb-true, leb-false, eqb-true}
+use Rattle.matrix.specs.declared.Fields.{Fields}
+use Rattle.matrix.specs.Names.{nameOf, columnOf}
+use Rattle.matrix.specs.State.{State, exists}
+use Rattle.matrix.specs.Valid.{Valid}
+use Rattle.matrix.specs.Commands.{known, ruleOf, fieldsFit, decode}
+use Rattle.matrix.specs.Tests.{Test, test, firstFailed, commandTests}
+use Rattle.matrix.specs.Step.{refusalOf, refusal}
+use Rattle.matrix.specs.Shape.{Shape, shapeOf, knownVersion, inRange, sized, basicsOf}
+use Rattle.matrix.specs.Reading.{stateOf}
+use Rattle.matrix.specs.Record.{validMatrix, recordRefusal}
+use Rattle.matrix.specs.CommandList.{wellFormed}
+use Rattle.matrix.specs.Calls.{questionFits, heldRefusal, namesFit, rawOf, refusalOn, runRefusal}
+use Rattle.laws.specs.Tests.{way, clash}
+use Rattle.codec.specs.Columns.{columnOf-nameOf}
+use Rattle.codec.specs.RoundTrip.{within-read}
+use Rattle.owners.specs.Test.{valid-of-test, test-of-valid}
+use Rattle.question.specs.Asked.{trustFits, listRoom, safetyRefusal}
+use Rattle.demands.specs.First.{Condition, condition, Numbered}
+use Rattle.demands.specs.FirstLaws.{Against, AllAgainst, numbered, numbered-then}
+use Rattle.demands.specs.Printed.{recordConditions, fieldsRight, commandConditions, heldConditions, givenConditions, runConditions, safetyConditions}
+use Rattle.demands.specs.Codes.{Agrees, agrees}
+
+-- a test, and the condition that it fails
+fails-test : (m : ℕ) (t : Bool) → m ≢ 0 → Against (test m t) (condition m (t ≡ false))
+fails-test m t some = record { number = refl; some = some; failed = λ e. e; passed = λ e h. clash e h }
+
+-- a test, and a condition of which it is the opposite
+opposite : (m : ℕ) (t u : Bool) → m ≢ 0 → t ≡ not u → Against (test m t) (condition m (u ≡ true))
+opposite m t true some e = record { number = refl; some = some; failed = λ h. refl; passed = λ h g. clash h e }
+opposite m t false some e = record { number = refl; some = some; failed = λ h. absurd (clash e h); passed = λ h g. clash g refl }
+
+-- ---- 1 to 5
+
+pub record-numbered : (b : List ℕ) → Numbered (recordConditions b) (recordRefusal b)
+unfolding recordRefusal
+record-numbered b =
+    numbered
+    (test 1 (leb 7 (length b)) ∷
+    test 2 (knownVersion (shapeOf b .version)) ∷
+    test 3 (inRange (shapeOf b)) ∷
+    test 4 (sized b) ∷
+    test 5 (validMatrix (shapeOf b) (stateOf b)) ∷ [])
+    (recordConditions b)
+    (short, λ a. (fails-test 2 _ (omega arith), λ c. (fails-test 3 _ (omega arith), λ d. (fails-test 4 _ (omega arith), λ e. (matrix, λ f. tt)))))
+  where
+    short : Against (test 1 (leb 7 (length b))) (condition 1 (length b < 7))
+    short =
+        record { number = refl; some = omega arith; failed = λ e. leb-false 7 (length b) e; passed = λ e h. let l = leb-true 7 (length b) e in omega arith }
+
+    matrix : Against (test 5 (validMatrix (shapeOf b) (stateOf b))) (condition 5 (Valid (stateOf b) → ⊥))
+    matrix =
+        record {
+          number = refl;
+          some = omega arith;
+          failed = λ e v. clash (test-of-valid (shapeOf b) (stateOf b) (within-read b) v) e;
+          passed = λ e h. h (valid-of-test (shapeOf b) (stateOf b) (within-read b) e);
+        }
+
+-- ---- 6 to 14
+
+-- a number given as a test by itself is that number
+same-number : (m : ℕ) → cond (eqb m 0) 0 m ≡ m
+same-number m = ⊎-elim (λ e. rw e (sym (eqb-true m 0 e))) (λ e. rw e refl) (way (eqb m 0))
+
+module _ (f : Shape) (S : State) (c : Fields) where
+  abbrev code-tests : List Test
+  code-tests =
+      test 6 (known (c .code)) ∷
+      test 7 (namesFit f c && fieldsFit (basicsOf f) (ruleOf (c .code) (c .k)) (c .s) (columnOf (nameOf (f .n) (c .o))) (c .k)) ∷
+      commandTests S (decode (rawOf f c))
+
+  -- the tests of a command in one list
+  one-list : refusalOn f S c ≡ firstFailed code-tests
+  unfolding refusalOn refusal refusalOf firstFailed
+  one-list =
+      ap (λ (m : ℕ). cond (known (c .code)) (cond fit m 7) 6) (same-number (refusalOf S (decode (rawOf f c))))
+    where
+      fit : Bool
+      fit = namesFit f c && fieldsFit (basicsOf f) (ruleOf (c .code) (c .k)) (c .s) (columnOf (nameOf (f .n) (c .o))) (c .k)
+
+  against : AllAgainst code-tests (commandConditions f S c)
+  against = (fails-test 6 (known (c .code)) (omega arith), λ e. later (agrees S (c .i) (c .s) (nameOf (f .n) (c .o)) (c .k) (c .code) e))
+    where
+      column : columnOf (nameOf (f .n) (c .o)) ≡ c .o
+      column = columnOf-nameOf (f .n) (c .o)
+
+      later : Agrees S (c .i) (c .s) (nameOf (f .n) (c .o)) (c .k) (c .code) → AllAgainst (drop 1 code-tests) (drop 1 (commandConditions f S c))
+      later a =
+          (subst (λ (t : Bool). Against (test 7 (namesFit f c && t)) (condition 7 ((namesFit f c && fieldsRight (basicsOf f) (c .code) (c .s) (c .o) (c .k)) ≡ false)))
+          (sym (a .fields (basicsOf f) ∙ ap (λ (m : ℕ). fieldsRight (basicsOf f) (c .code) (c .s) m (c .k)) column)) (fails-test 7 _ (omega arith)), λ t.
+          (fails-test 8 (exists S (c .i)) (omega arith), λ t.
+          (opposite 9 _ _ (omega arith) (a .kind), λ t.
+          (opposite 10 _ _ (omega arith) (a .there), λ t.
+          (opposite 11 _ _ (omega arith) (a .absent), λ t.
+          (opposite 12 _ _ (omega arith) (a .entitled), λ t.
+          (opposite 13 _ _ (omega arith) (a .unmet), λ t.
+          (opposite 14 _ _ (omega arith) (a .alone), λ t. tt))))))))
+
+  pub command-numbered : Numbered (commandConditions f S c) (refusalOn f S c)
+  command-numbered = subst (Numbered (commandConditions f S c)) (sym one-list) (numbered code-tests (commandConditions f S c) against)
+
+-- ---- the calls
+
+module _ (b : List ℕ) where
+  -- 1 to 5, then what else a call tests
+  pub then-numbered : (ds : List Condition) (m : ℕ) → Numbered ds m → Numbered (recordConditions b ++ ds) (cond (eqb (recordRefusal b) 0) m (recordRefusal b))
+  then-numbered ds m n = numbered-then (recordConditions b) ds (record-numbered b) (λ e. n)
+
+  pub held-numbered : (s o right : ℕ) → Numbered (heldConditions b s o right) (heldRefusal b s o right)
+  unfolding heldRefusal firstFailed
+  held-numbered s o right = then-numbered _ _ (numbered (test 7 (questionFits (shapeOf b) s o right) ∷ []) _ (fails-test 7 _ (omega arith), λ e. tt))
+
+  pub run-numbered : (l : List ℕ) → Numbered (runConditions b l) (runRefusal b l)
+  unfolding runRefusal firstFailed
+  run-numbered l = then-numbered _ _ (numbered (test 16 (wellFormed l) ∷ []) _ (fails-test 16 _ (omega arith), λ e. tt))
+
+  pub safety-numbered : (mask s o right room : ℕ) → Numbered (safetyConditions b mask s o right room) (safetyRefusal b mask s o right room)
+  unfolding safetyRefusal firstFailed
+  safety-numbered mask s o right room =
+      then-numbered _ _
+      (numbered (test 7 (questionFits (shapeOf b) s o right && trustFits (shapeOf b) mask) ∷ test 15 (leb (listRoom (shapeOf b .n + 2)) room) ∷ []) _
+      (fails-test 7 _ (omega arith), λ e. (short, λ e. tt)))
+    where
+      short : Against (test 15 (leb (listRoom (shapeOf b .n + 2)) room)) (condition 15 (room < listRoom (shapeOf b .n + 2)))
+      short =
+          record {
+            number = refl;
+            some = omega arith;
+            failed = λ e. leb-false (listRoom (shapeOf b .n + 2)) room e;
+            passed = λ e h. let l = leb-true (listRoom (shapeOf b .n + 2)) room e in omega arith;
+          }
