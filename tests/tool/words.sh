@@ -21,6 +21,7 @@ try check --html out.html "$a"
 try check --dry "$a"
 try show "$a" --html
 try show "$a" --names
+try show "$a" --html --names x
 try show --json "$a"
 try run --json "$a" none
 try who --json "$a" 3 own

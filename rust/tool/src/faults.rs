@@ -1,7 +1,7 @@
 //! Why a record is refused: the first of the refusals 1 to 5 that holds, and for 5 each place where the matrix is not valid. The
 //! verdict is the library's; a test compares the two on damaged records.
 
-use crate::library::{Header, MOST_RECORD, Refusal, Right};
+use crate::library::{Header, MOST_PLAIN, MOST_RECORD, MOST_SUBJECTS, Refusal, Right};
 use crate::names::{Names, counted, listed};
 use crate::record::{Name, Record, rights_in};
 
@@ -40,45 +40,43 @@ fn form_fault(bytes: &[u8]) -> Option<(u8, String)> {
         let sentence = format!("it has {has} of the 7 bytes that a record begins with");
         return Some((1, sentence));
     };
-    let Header {
-        version,
-        length,
-        n,
-        p,
-    } = header;
-    let should = header.expected_length();
-    let with = format!(
-        "{} and {}",
-        counted(u64::from(n), "login"),
-        counted(u64::from(p), "log")
-    );
+    let Header { version, n, p, .. } = header;
     if version != 1 {
         Some((2, format!("its version, byte 0, is {version} and not 1")))
-    } else if !(1..=64).contains(&n) {
+    } else if !(1..=MOST_SUBJECTS).contains(&n) {
+        let most = MOST_SUBJECTS;
         Some((
             3,
-            format!("byte 5 says {n} logins, and a record has 1 to 64"),
+            format!("byte 5 says {n} logins, and a record has 1 to {most}"),
         ))
-    } else if p > 192 {
+    } else if p > MOST_PLAIN {
+        let most = MOST_PLAIN;
         Some((
             3,
-            format!("byte 6 says {p} logs, and a record has 0 to 192"),
+            format!("byte 6 says {p} logs, and a record has 0 to {most}"),
         ))
-    } else if has > MOST_RECORD {
-        Some((
-            4,
-            format!("it has more than {MOST_RECORD} bytes, which no record has"),
+    } else {
+        length_fault(header, has).map(|sentence| (4, sentence))
+    }
+}
+
+/// How the length that a record has, or says, does not fit its names.
+fn length_fault(header: Header, has: usize) -> Option<String> {
+    let (said, should) = (header.length, header.expected_length());
+    let logins = counted(u64::from(header.n), "login");
+    let logs = counted(u64::from(header.p), "log");
+    if has > MOST_RECORD {
+        Some(format!(
+            "it has more than {MOST_RECORD} bytes, which no record has"
         ))
-    } else if length as usize + 5 != should {
+    } else if said as usize + 5 != should {
         let right = should - 5;
-        Some((
-            4,
-            format!("bytes 1 to 4 say {length} more bytes, and with {with} there are {right}"),
+        Some(format!(
+            "bytes 1 to 4 say {said} more bytes, and with {logins} and {logs} there are {right}"
         ))
     } else if has != should {
-        Some((
-            4,
-            format!("it has {has} bytes, and with {with} a record has {should}"),
+        Some(format!(
+            "it has {has} bytes, and with {logins} and {logs} a record has {should}"
         ))
     } else {
         None

@@ -95,6 +95,14 @@ pub fn notes(q: &Question, station: &Station) -> Vec<String> {
         ));
     }
     notes.extend(impossible(q.login, q.over, q.right, names));
+    notes.extend(trust_notes(q, station));
+    notes
+}
+
+/// What is to be known of who is trusted.
+fn trust_notes(q: &Question, station: &Station) -> Vec<String> {
+    let Station { record, names, .. } = station;
+    let mut notes = Vec::new();
     let trusted = members(q.trust).into_iter();
     let (there, absent): (Vec<u64>, Vec<u64>) =
         trusted.partition(|s| record.exists(Name::Login(*s)));
@@ -108,16 +116,13 @@ pub fn notes(q: &Question, station: &Station) -> Vec<String> {
             "no login that exists is trusted, so everybody may begin commands",
         ));
     }
-    if !absent.is_empty() {
-        let verb = if absent.len() == 1 {
-            "does not exist, and stays"
-        } else {
-            "do not exist, and stay"
-        };
-        notes.push(format!(
-            "{} {verb} trusted if created",
-            names.logins(&absent)
-        ));
+    let who = names.logins(&absent);
+    match absent.len() {
+        0 => {}
+        1 => notes.push(format!(
+            "{who} does not exist, and stays trusted if created"
+        )),
+        _ => notes.push(format!("{who} do not exist, and stay trusted if created")),
     }
     notes
 }

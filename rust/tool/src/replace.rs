@@ -9,6 +9,7 @@ use std::path::{Path, PathBuf};
 use std::thread::sleep;
 use std::time::Duration;
 
+use crate::html::START;
 use crate::input::{called, read_from, trouble};
 use crate::library::MOST_RECORD;
 use crate::no_answer::{Answered, NoAnswer, no_answer};
@@ -161,10 +162,9 @@ pub fn write_page(path: &OsStr, page: &str) -> Answered<()> {
                 .map_err(failed);
         }
     };
-    let start = page.as_bytes().split_at(15.min(page.len())).0;
     if old.is_some() {
-        let there = File::open(&target).and_then(|file| read_from(file, start.len() - 1));
-        if there.map_err(failed)? != start {
+        let there = File::open(&target).and_then(|file| read_from(file, START.len()));
+        if !there.map_err(failed)?.starts_with(START.as_bytes()) {
             let file = called(path);
             return no_answer(format!(
                 "{file} is there already and is no page, so it is left as it is"

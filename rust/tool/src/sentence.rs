@@ -74,15 +74,8 @@ pub fn parse(line: &str, record: &Record, names: &Names) -> Result<Command, Stri
     let verb = next(&mut rest)?;
     let c = match verb.as_str() {
         "transfers" | "grants" | "deletes" => over(&verb, i, &mut rest, record, names)?,
-        "creates" | "destroys" => {
-            let column = spoken::column(&name(&mut rest)?, record, names)?;
-            match (verb == "creates", column < record.logins()) {
-                (true, false) => Command::create_object(i, column),
-                (false, false) => Command::destroy_object(i, column),
-                (true, true) => Command::create_subject(i, column),
-                (false, true) => Command::destroy_subject(i, column),
-            }
-        }
+        "creates" => made_or_destroyed(true, i, &mut rest, record, names)?,
+        "destroys" => made_or_destroyed(false, i, &mut rest, record, names)?,
         _ => {
             return Err(format!(
                 "'{verb}' is none of transfers, grants, deletes, creates and destroys"
@@ -93,6 +86,23 @@ pub fn parse(line: &str, record: &Record, names: &Names) -> Result<Command, Stri
         None => Ok(c),
         Some(word) => Err(format!("'{word}' is one word too many")),
     }
+}
+
+/// `creates COLUMN` and `destroys COLUMN`, of a login or a log.
+fn made_or_destroyed(
+    made: bool,
+    i: u64,
+    rest: &mut &[String],
+    record: &Record,
+    names: &Names,
+) -> Result<Command, String> {
+    let column = spoken::column(&name(rest)?, record, names)?;
+    Ok(match (made, column < record.logins()) {
+        (true, false) => Command::create_object(i, column),
+        (false, false) => Command::destroy_object(i, column),
+        (true, true) => Command::create_subject(i, column),
+        (false, true) => Command::destroy_subject(i, column),
+    })
 }
 
 /// `RIGHT over COLUMN to LOGIN`, or for deletes `from LOGIN`.

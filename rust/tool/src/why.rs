@@ -60,27 +60,28 @@ pub fn refused(c: Command, why: CommandRefused, record: &Record, names: &Names) 
 /// Which number of a command is out of range (7).
 fn beyond(c: Command, record: &Record) -> String {
     let (n, columns) = (record.logins(), record.columns());
-    let right = c.code <= 2 || matches!(c.code, 4 | 5 | 8 | 9);
-    let uses_s = !matches!(c.code, 10 | 11);
-    let uses_o = !matches!(c.code, 12 | 13);
-    let logins = |what: &str, s: u64| {
-        format!(
-            "{what} {s} is beyond the record, which has logins 0 to {}",
-            n - 1
-        )
+    let uses_s = !matches!(c.code, code::CREATE_OBJECT | code::DESTROY_OBJECT);
+    let uses_o = !matches!(c.code, code::CREATE_SUBJECT | code::DESTROY_SUBJECT);
+    let without_k = matches!(
+        c.code,
+        code::TRANSFER_OWN | code::GRANT_CONTROL | code::GRANT_OWN
+    );
+    let logins = |s: u64| {
+        let last = n - 1;
+        format!("login {s} is beyond the record, which has logins 0 to {last}")
     };
     let zero = |field: &str| format!("code {} does not use {field}, which then is 0", c.code);
     if c.i >= n {
-        logins("login", c.i)
+        logins(c.i)
     } else if c.s >= n && uses_s {
-        logins("login", c.s)
+        logins(c.s)
     } else if c.o >= columns && uses_o {
         let last = columns - 1;
         format!(
             "column {} is beyond the record, which has columns 0 to {last}",
             c.o
         )
-    } else if c.k > 6 && right {
+    } else if c.k > 6 && uses_s && uses_o && !without_k {
         format!("there is no basic right {}, they are 0 to 6", c.k)
     } else if c.s != 0 && !uses_s {
         zero("s")
@@ -93,7 +94,10 @@ fn beyond(c: Command, record: &Record) -> String {
 
 /// Which name is absent and has to exist (10).
 fn absent(c: Command, record: &Record, names: &Names) -> String {
-    let needs_s = !matches!(c.code, 10..=12);
+    let needs_s = !matches!(
+        c.code,
+        code::CREATE_OBJECT | code::DESTROY_OBJECT | code::CREATE_SUBJECT
+    );
     let name = if needs_s && !record.exists(Name::Login(c.s)) {
         Name::Login(c.s)
     } else {

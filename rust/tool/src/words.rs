@@ -43,6 +43,14 @@ const fn form(
     }
 }
 
+/// The options, each with whether a file follows it.
+const OPTIONS: [(&str, bool); 4] = [
+    ("--json", false),
+    ("--dry", false),
+    ("--html", true),
+    ("--names", true),
+];
+
 /// What was given: as many words as the command takes, and its options.
 pub struct Given {
     pub command: &'static str,
@@ -80,7 +88,7 @@ pub fn parse(arguments: impl Iterator<Item = OsString>) -> Answered<Request> {
     }
     let mut split = Split::default();
     while let Some(argument) = arguments.next() {
-        if split.ended || argument == "-" || !argument.as_encoded_bytes().starts_with(b"-") {
+        if split.ended || argument == "-" || !is_option(&argument) {
             split.words.push(argument);
         } else if argument == "--" {
             split.ended = true;
@@ -108,38 +116,31 @@ impl Split {
         argument: &OsString,
         rest: &mut impl Iterator<Item = OsString>,
     ) -> Answered<()> {
-        for (name, valued) in [
-            ("--json", false),
-            ("--dry", false),
-            ("--html", true),
-            ("--names", true),
-        ] {
-            let value = if argument == name {
-                if valued { rest.next() } else { None }
+        let Some((name, valued)) = OPTIONS.into_iter().find(|(name, _)| names(argument, name))
+        else {
+            let word = shown(argument);
+            return no_answer(format!(
+                "'{word}' is no option; a word that begins with - stands after --"
+            ));
+        };
+        let is_file = |next: &OsString| next == "-" || !is_option(next);
+        let value = match after_equals(argument, name) {
+            None if valued => rest.next().filter(is_file),
+            value => value,
+        };
+        if valued != value.is_some() {
+            let form = if valued {
+                "is followed by a file"
             } else {
-                match after_equals(argument, name) {
-                    None => continue,
-                    value => value,
-                }
+                "has no value"
             };
-            if valued != value.is_some() {
-                let form = if valued {
-                    "is followed by a file"
-                } else {
-                    "has no value"
-                };
-                return no_answer(format!("the option {name} {form}"));
-            }
-            if self.options.iter().any(|(other, _)| *other == name) {
-                return no_answer(format!("the option {name} stands twice"));
-            }
-            self.options.push((name, value));
-            return Ok(());
+            return no_answer(format!("the option {name} {form}"));
         }
-        let word = shown(argument);
-        no_answer(format!(
-            "'{word}' is no option; a word that begins with - stands after --"
-        ))
+        if self.options.iter().any(|(other, _)| *other == name) {
+            return no_answer(format!("the option {name} stands twice"));
+        }
+        self.options.push((name, value));
+        Ok(())
     }
 
     /// The words and options against the form of their command.
@@ -156,37 +157,36 @@ impl Split {
         };
         let (command, words) = (form.command, words.collect::<Vec<_>>());
         if words.len() != form.words.len() {
-            let takes = form.words.join(" ");
+            let (takes, count) = (form.words.join(" "), words.len());
             return no_answer(format!(
-                "{command} takes {takes}, and {} words are given",
-                words.len()
+                "{command} takes {takes}, and {count} words are given"
             ));
         }
-        let foreign = self
-            .options
-            .iter()
-            .find(|(name, _)| !form.options.contains(name));
-        if let Some((name, _)) = foreign {
+        let mut options = self.options.iter();
+        if let Some((name, _)) = options.find(|(name, _)| !form.options.contains(name)) {
             return no_answer(format!("{command} has no option {name}"));
         }
-        let mut given = Given {
+        let set = |name: &str| self.options.iter().find(|(other, _)| *other == name);
+        let value = |name: &str| set(name).and_then(|(_, value)| value.clone());
+        Ok(Given {
             command,
             words,
-            json: false,
-            dry: false,
-            html: None,
-            names: None,
-        };
-        for (name, value) in self.options {
-            match name {
-                "--json" => given.json = true,
-                "--dry" => given.dry = true,
-                "--html" => given.html = value,
-                _ => given.names = value,
-            }
-        }
-        Ok(given)
+            json: set("--json").is_some(),
+            dry: set("--dry").is_some(),
+            html: value("--html"),
+            names: value("--names"),
+        })
     }
+}
+
+/// Whether an argument is an option of this name, alone or with `=` and a value.
+fn names(argument: &OsString, name: &str) -> bool {
+    argument == name || after_equals(argument, name).is_some()
+}
+
+/// Whether an argument begins as an option does.
+fn is_option(argument: &OsString) -> bool {
+    argument.as_encoded_bytes().starts_with(b"-")
 }
 
 /// What stands after an option's name and `=`.

@@ -10,7 +10,7 @@ use std::fs;
 use std::path::{Path, PathBuf};
 use std::process::{Command as Process, Output};
 
-use bunvespo::{Command, RunRefused, encode, run};
+use bunvespo::{Command, encode, run};
 use random::{Numbers, any_command, station};
 
 /// A folder that goes with this value.
@@ -56,47 +56,49 @@ fn some_commands(numbers: &mut Numbers, record: &[u8]) -> Vec<Command> {
     commands
 }
 
+/// The exit status that belongs to yes or no.
+fn exits(output: &Output, yes: bool) {
+    assert_eq!(output.status.code(), Some(i32::from(!yes)));
+    assert!(output.stderr.is_empty());
+}
+
+/// Runs commands on a file, dry and then in earnest, and compares the file and the differences with the library's; whether it was refused.
+fn run_and_compare(folder: &Folder, old: &[u8], commands: &[Command], as_text: bool) -> bool {
+    let list = encode(commands).unwrap();
+    let line = |c: &Command| format!("{} {} {} {} {}\n", c.code, c.i, c.s, c.o, c.k);
+    let text: String = commands.iter().map(line).collect();
+    let given = if as_text { text.as_bytes() } else { &list };
+    let mut new = old.to_vec();
+    let ran = run(&mut new, &list);
+
+    let before = folder.file("old", old);
+    let file = folder.file("record", old);
+    let commands = folder.file("commands", given);
+    exits(
+        &bunvespo("run", &[Path::new("--dry"), &file, &commands]),
+        ran.is_ok(),
+    );
+    assert_eq!(fs::read(&file).unwrap(), old);
+    exits(&bunvespo("run", &[&file, &commands]), ran.is_ok());
+    assert_eq!(fs::read(&file).unwrap(), new);
+
+    let printed = bunvespo("diff", &[Path::new("--json"), &before, &file]);
+    exits(&printed, old == new);
+    let told = String::from_utf8(printed.stdout).unwrap();
+    let bits = old.iter().zip(&new).map(|(a, b)| (a ^ b).count_ones());
+    assert_eq!(told.matches("\"held\":").count() as u32, bits.sum());
+    ran.is_err()
+}
+
 #[test]
 fn run_and_diff_have_the_bytes_of_the_library() {
     let folder = Folder::new("bunvespo-bytes");
     let mut numbers = Numbers::new(8);
-    let mut refused_runs = 0;
+    let mut refused = 0;
     for round in 0..300 {
         let old = station(&mut numbers);
         let commands = some_commands(&mut numbers, &old);
-        let list = encode(&commands).unwrap();
-        let text: String = commands
-            .iter()
-            .map(|c| format!("{} {} {} {} {}\n", c.code, c.i, c.s, c.o, c.k))
-            .collect();
-        let given = if round % 2 == 0 {
-            text.into_bytes()
-        } else {
-            list.clone()
-        };
-        let mut new = old.clone();
-        let expected: Result<u64, RunRefused> = run(&mut new, &list);
-        refused_runs += u64::from(expected.is_err());
-
-        let before = folder.file("old", &old);
-        let file = folder.file("record", &old);
-        let commands = folder.file("commands", &given);
-        let printed = bunvespo("run", &[Path::new("--dry"), &file, &commands]);
-        assert_eq!(printed.status.code(), Some(i32::from(expected.is_err())));
-        assert_eq!(fs::read(&file).unwrap(), old);
-        let printed = bunvespo("run", &[&file, &commands]);
-        assert_eq!(printed.status.code(), Some(i32::from(expected.is_err())));
-        assert!(printed.stderr.is_empty());
-        assert_eq!(fs::read(&file).unwrap(), new);
-
-        let printed = bunvespo("diff", &[Path::new("--json"), &before, &file]);
-        assert_eq!(printed.status.code(), Some(i32::from(old != new)));
-        let told = String::from_utf8(printed.stdout)
-            .unwrap()
-            .matches("\"held\":")
-            .count();
-        let bits = old.iter().zip(&new).map(|(a, b)| (a ^ b).count_ones());
-        assert_eq!(told as u32, bits.sum());
+        refused += u64::from(run_and_compare(&folder, &old, &commands, round % 2 == 0));
     }
-    assert!(refused_runs > 20, "{refused_runs}");
+    assert!(refused > 20, "{refused}");
 }

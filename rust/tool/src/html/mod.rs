@@ -11,13 +11,16 @@ use crate::answer::Answer;
 use crate::no_answer::{Answered, shown};
 use crate::replace::write_page;
 
+/// What every page begins with.
+pub const START: &str = "<!doctype html>";
+
 const STYLE: &str = include_str!("style.css");
 
 /// A whole page.
 pub fn page(title: &str, body: &str) -> String {
     let title = escape(title);
     format!(
-        "<!doctype html>\n<html lang=\"en\">\n<head>\n<meta charset=\"utf-8\">\n\
+        "{START}\n<html lang=\"en\">\n<head>\n<meta charset=\"utf-8\">\n\
          <meta name=\"viewport\" content=\"width=device-width, initial-scale=1\">\n\
          <title>{title}</title>\n<style>\n{STYLE}</style>\n</head>\n<body>\n<h1>{title}</h1>\n{body}</body>\n</html>\n"
     )
