@@ -53,3 +53,6 @@ try who --names wrong.names "$a" 3 own
 changed 30 03 ward.rights
 try check ward.rights
 try check ward.rights --json
+# Names that are cut in the table are told apart by their numbers.
+printf 'login %s = nurse of the night shift\nlogin 2 = nurse of the night shift too\nlog 3 = bed-3 by the window\n' 1 >long.names
+try show --names long.names "$a"

@@ -155,3 +155,38 @@ pub fn told_name(name: Name, made: bool, names: &Names) -> String {
     let what = if made { "is made" } else { "is gone" };
     format!("{} {what}", names.name(name))
 }
+
+/// What differs, in words: logs first, then each login with what it gains and loses.
+pub fn by_login(changes: &Changes, names: &Names) -> String {
+    let mut text = String::new();
+    for (list, made) in [(&changes.gone, false), (&changes.made, true)] {
+        for name in list.iter().filter(|name| matches!(name, Name::Log(_))) {
+            text.push_str(&format!("{}.\n", told_name(*name, made, names)));
+        }
+    }
+    for login in Changes::LOGINS {
+        text.push_str(&of_login(login, changes, names));
+    }
+    text
+}
+
+/// What differs of one login; nothing where nothing does.
+fn of_login(login: u64, changes: &Changes, names: &Names) -> String {
+    let name = Name::Login(login);
+    let lost = changes.of_login(login, false);
+    let gained = changes.of_login(login, true);
+    let state = if changes.made.contains(&name) {
+        " is made"
+    } else if changes.gone.contains(&name) {
+        " is gone"
+    } else if lost.is_empty() && gained.is_empty() {
+        return String::new();
+    } else {
+        ""
+    };
+    let mut text = format!("{}{state}:\n", names.name(name));
+    for part in told(&lost, names).into_iter().chain(told(&gained, names)) {
+        text.push_str(&format!("  {part}\n"));
+    }
+    text
+}

@@ -3,7 +3,7 @@
 use crate::changes::{Changes, changes, told, told_name};
 use crate::input::Station;
 use crate::library::{Command, Refusal, Right, command, witness};
-use crate::names::Names;
+use crate::names::{Names, counted};
 use crate::record::{Name, Record};
 use crate::sentence::{numbers, sentence};
 use crate::why::{allowed, impossible};
@@ -71,6 +71,22 @@ pub fn question(q: &Question, station: &Station) -> String {
         names.right(q.right),
         names.name(q.over)
     )
+}
+
+/// The answer as one sentence, without its full stop.
+pub fn verdict(q: &Question, station: &Station, leak: Option<&[Step]>) -> String {
+    match leak {
+        None => {
+            String::from("SAFE. No list of commands by the other logins, of any length, gets there")
+        }
+        Some([]) => format!("LEAKS. {} holds it already", station.names.login(q.login)),
+        Some(steps) => {
+            let count = steps.len() as u64;
+            let verb = if count == 1 { "gets" } else { "get" };
+            let commands = counted(count, "command");
+            format!("LEAKS. {commands} {verb} there, and no trusted login begins any")
+        }
+    }
 }
 
 /// The logins of a mask.

@@ -1,6 +1,7 @@
 //! A record's bytes, read to be printed and explained. Whether a record may be read at all is the library's answer.
 
 use crate::library::{Header, Refusal, Right, check};
+use crate::names::counted;
 
 /// A record of the right form, which is valid unless it was made by `shaped`.
 #[derive(Clone, PartialEq, Eq)]
@@ -133,4 +134,18 @@ pub fn column_of(name: Name) -> u64 {
 pub fn rights_in(cell: u16) -> Vec<Right> {
     let all = Right::ALL.into_iter();
     all.filter(|right| right.in_cell(cell)).collect()
+}
+
+/// How many names there are and exist.
+pub fn sizes(record: &Record) -> String {
+    let existing = record.existing();
+    let logs = existing.iter().filter(|name| matches!(name, Name::Log(_)));
+    let logs = logs.count();
+    let logins = existing.len() - logs;
+    let names = [
+        (record.logins(), "login", logins),
+        (record.logs(), "log", logs),
+    ];
+    let told = names.map(|(all, noun, exist)| format!("{}, {exist} existing", counted(all, noun)));
+    told.join("; ")
 }

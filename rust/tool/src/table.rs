@@ -10,7 +10,7 @@ const LONGEST: usize = 16;
 /// The table of the names that exist, each line with its end.
 pub fn table(record: &Record, names: &Names, width: usize) -> String {
     let logins = record.existing_logins();
-    let labels = logins.iter().map(|s| cut(&names.label(Name::Login(*s))));
+    let labels = logins.iter().map(|s| label(Name::Login(*s), names));
     let labels: Vec<String> = labels.collect();
     let first = labels.iter().map(|label| count(label)).max().unwrap_or(0);
     let columns: Vec<Column> = record
@@ -47,7 +47,7 @@ struct Column {
 impl Column {
     fn new(record: &Record, names: &Names, name: Name, logins: &[u64]) -> Column {
         let head = match names.of_names.get(&name) {
-            Some(given) => cut(given),
+            Some(_) => label(name, names),
             None => column_of(name).to_string(),
         };
         let text = |cell: u16| {
@@ -100,13 +100,15 @@ pub fn short(cell: u16) -> String {
     rights_in(cell).into_iter().map(short).collect()
 }
 
-/// A label that is not too long.
-fn cut(label: &str) -> String {
-    if count(label) <= LONGEST {
-        return String::from(label);
+/// The label of a name, cut where it is too long, and then with the column's number, so that no two are alike.
+fn label(name: Name, names: &Names) -> String {
+    let label = names.label(name);
+    if count(&label) <= LONGEST {
+        return label;
     }
-    let start: String = label.chars().take(LONGEST - 1).collect();
-    format!("{start}…")
+    let number = column_of(name).to_string();
+    let start = label.chars().take(LONGEST - 2 - number.len());
+    format!("{}… {number}", start.collect::<String>())
 }
 
 fn count(text: &str) -> usize {

@@ -5,8 +5,7 @@ use crate::commands::held::beyond;
 use crate::html;
 use crate::input::{Station, station};
 use crate::json;
-use crate::leak::{Question, Step, answer, effects, members, notes, question};
-use crate::names::counted;
+use crate::leak::{Question, Step, answer, effects, members, notes, question, verdict};
 use crate::no_answer::Answered;
 use crate::record::Name;
 use crate::sentence::numbers;
@@ -49,32 +48,19 @@ fn asked(given: &Given, station: &Station) -> Answered<Question> {
     })
 }
 
-/// The answer as one sentence.
-pub fn verdict(q: &Question, station: &Station, leak: Option<&[Step]>) -> String {
-    match leak {
-        None => String::from(
-            "SAFE. No list of commands by the other logins, of any length, gets there.",
-        ),
-        Some([]) => format!("LEAKS. {} holds it already.", station.names.login(q.login)),
-        Some(steps) => format!(
-            "LEAKS. {} there, and no trusted login begins any [code i s o k]:",
-            gets(steps.len() as u64)
-        ),
-    }
-}
-
-fn gets(count: u64) -> String {
-    let verb = if count == 1 { "gets" } else { "get" };
-    format!("{} {verb}", counted(count, "command"))
-}
-
 fn text(q: &Question, station: &Station, leak: Option<&[Step]>) -> String {
     let mut text = format!("{}\n", question(q, station));
     for note in notes(q, station) {
         text.push_str(&format!("Note: {note}.\n"));
     }
-    text.push_str(&format!("{}\n", verdict(q, station, leak)));
-    for (at, step) in leak.unwrap_or(&[]).iter().enumerate() {
+    let steps = leak.unwrap_or(&[]);
+    let end = if steps.is_empty() {
+        "."
+    } else {
+        " [code i s o k]:"
+    };
+    text.push_str(&format!("{}{end}\n", verdict(q, station, leak)));
+    for (at, step) in steps.iter().enumerate() {
         let (words, five) = (&step.words, numbers(step.command));
         text.push_str(&format!("  {:2}. {words}   [{five}]\n", at + 1));
         text.push_str(&format!("      allowed: {}\n", step.allowed));

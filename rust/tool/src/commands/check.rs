@@ -5,9 +5,9 @@ use crate::faults::{Fault, reasons};
 use crate::input::{called, names_of, record_bytes};
 use crate::json;
 use crate::library::{self, Refusal};
-use crate::names::{Names, counted};
+use crate::names::Names;
 use crate::no_answer::Answered;
-use crate::record::{Name, Record};
+use crate::record::{Record, sizes};
 use crate::words::Given;
 
 /// How many reasons are printed.
@@ -33,20 +33,6 @@ pub fn check(given: &Given) -> Answered<Answer> {
         }
     };
     Ok(Answer::new(text, library::valid(&bytes)))
-}
-
-/// How many names there are and exist.
-pub fn sizes(record: &Record) -> String {
-    let existing = record.existing();
-    let logs = existing.iter().filter(|name| matches!(name, Name::Log(_)));
-    let logs = logs.count();
-    let logins = existing.len() - logs;
-    let names = [
-        (record.logins(), "login", logins),
-        (record.logs(), "log", logs),
-    ];
-    let told = names.map(|(all, noun, exist)| format!("{}, {exist} existing", counted(all, noun)));
-    told.join("; ")
 }
 
 fn text(file: &str, refusal: Refusal, faults: &[Fault]) -> String {

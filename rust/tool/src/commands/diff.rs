@@ -3,10 +3,10 @@
 use std::ffi::OsString;
 
 use crate::answer::Answer;
-use crate::changes::{Changes, changes, told, told_name};
+use crate::changes::{Changes, by_login, changes};
 use crate::input::{Station, beside, names_of, opened, record_bytes};
 use crate::json;
-use crate::names::{Names, counted};
+use crate::names::counted;
 use crate::no_answer::{Answered, no_answer};
 use crate::record::{Name, Record};
 use crate::words::Given;
@@ -27,7 +27,7 @@ pub fn diff(given: &Given) -> Answered<Answer> {
     } else if same {
         String::from("No difference.\n")
     } else {
-        resize_text(&old_record, &station.record) + &text(&changes, &station.names)
+        resize_text(&old_record, &station.record) + &by_login(&changes, &station.names)
     };
     Ok(Answer::new(text, same))
 }
@@ -70,41 +70,6 @@ fn resize_text(old: &Record, new: &Record) -> String {
         size(old),
         size(new)
     )
-}
-
-/// What differs, in words: logs first, then each login with what it gains and loses.
-pub fn text(changes: &Changes, names: &Names) -> String {
-    let mut text = String::new();
-    for (list, made) in [(&changes.gone, false), (&changes.made, true)] {
-        for name in list.iter().filter(|name| matches!(name, Name::Log(_))) {
-            text.push_str(&format!("{}.\n", told_name(*name, made, names)));
-        }
-    }
-    for login in Changes::LOGINS {
-        text.push_str(&of_login(login, changes, names));
-    }
-    text
-}
-
-/// What differs of one login; nothing where nothing does.
-fn of_login(login: u64, changes: &Changes, names: &Names) -> String {
-    let name = Name::Login(login);
-    let lost = changes.of_login(login, false);
-    let gained = changes.of_login(login, true);
-    let state = if changes.made.contains(&name) {
-        " is made"
-    } else if changes.gone.contains(&name) {
-        " is gone"
-    } else if lost.is_empty() && gained.is_empty() {
-        return String::new();
-    } else {
-        ""
-    };
-    let mut text = format!("{}{state}:\n", names.name(name));
-    for part in told(&lost, names).into_iter().chain(told(&gained, names)) {
-        text.push_str(&format!("  {part}\n"));
-    }
-    text
 }
 
 fn in_json(old: &Record, new: &Station, changes: &Changes, differs: bool) -> String {

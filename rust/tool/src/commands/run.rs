@@ -3,9 +3,8 @@
 use std::ffi::OsStr;
 
 use crate::answer::Answer;
-use crate::changes::changes;
+use crate::changes::{by_login, changes};
 use crate::command_text::{Commands, Ran, read};
-use crate::commands::diff;
 use crate::input::{self, MOST_TEXT, Station, called, names_of, opened, record_bytes};
 use crate::names::counted;
 use crate::no_answer::{Answered, NoAnswer, no_answer};
@@ -99,7 +98,7 @@ fn text(station: &Station, after: &Record, commands: &Commands, ran: &Ran) -> St
     if changes.is_empty() {
         text.push_str("Nothing changes.\n");
     } else {
-        text.push_str(&diff::text(&changes, names));
+        text.push_str(&by_login(&changes, names));
     }
     text
 }

@@ -3,10 +3,10 @@
 use std::env;
 
 use crate::answer::Answer;
-use crate::commands::check::sizes;
 use crate::html;
 use crate::input::{Station, station};
 use crate::no_answer::Answered;
+use crate::record::sizes;
 use crate::table::table;
 use crate::tree::tree;
 use crate::words::Given;

@@ -2,11 +2,10 @@
 
 use std::collections::BTreeSet;
 
-use crate::commands::ask::verdict;
 use crate::html::grid::{Grid, legend};
 use crate::html::{escape, page as whole};
 use crate::input::Station;
-use crate::leak::{Question, Step, effects, notes, question};
+use crate::leak::{Question, Step, effects, notes, question, verdict};
 use crate::record::{Name, Record};
 use crate::sentence::numbers;
 
@@ -15,32 +14,18 @@ const MOST_DRAWN: usize = 14;
 
 /// The page of an answer.
 pub fn page(q: &Question, station: &Station, leak: Option<&[Step]>) -> String {
-    let class = if leak.is_some() { "leaks" } else { "safe" };
-    let verdict = verdict(q, station, leak);
-    let verdict = verdict.replace(" [code i s o k]:", ".");
-    let mut body = format!(
-        "<div class=\"verdict {class}\">{}</div>\n",
-        escape(&verdict)
-    );
-    for note in notes(q, station) {
-        body.push_str(&format!("<p>Note: {}.</p>\n", escape(&note)));
-    }
-    body.push_str(&format!(
-        "<p>The record is {}.</p>\n",
-        escape(&station.file)
-    ));
     let steps = leak.unwrap_or(&[]);
+    let mut body = answered(q, station, leak);
     let changed = Part::of(q, station, steps, true);
     let shared = Some(&changed).filter(|part| part.is_small());
     let named = Part::of(q, station, steps, false);
+    body.push_str(&legend(changed.columns.len(), &station.names));
+    body.push_str("<p>The cell that is asked about has a violet frame.");
+    if !steps.is_empty() {
+        body.push_str(" What a command gives is framed green, what it takes is struck out.");
+    }
+    body.push_str("</p>\n<div class=\"step\"><h2>At the start</h2>\n");
     let first = shared.unwrap_or(&named);
-    let widest = shared.unwrap_or(&changed).columns.len();
-    body.push_str(&legend(widest, &station.names));
-    body.push_str(
-        "<p>The cell that is asked about has a violet frame. \
-         What a command gives is framed green, what it takes is struck out.</p>\n",
-    );
-    body.push_str("<div class=\"step\"><h2>At the start</h2>\n");
     body.push_str(&first.grid(q, station, &station.record, None));
     body.push_str("</div>\n");
     let mut before = &station.record;
@@ -53,6 +38,19 @@ pub fn page(q: &Question, station: &Station, leak: Option<&[Step]>) -> String {
         before = &step.after;
     }
     whole(&question(q, station), &body)
+}
+
+/// The answer, what is to be known of the question, and the record's file.
+fn answered(q: &Question, station: &Station, leak: Option<&[Step]>) -> String {
+    let class = if leak.is_some() { "leaks" } else { "safe" };
+    let verdict = escape(&verdict(q, station, leak));
+    let notes = notes(q, station).into_iter();
+    let notes = notes.map(|note| format!("<p>Note: {}.</p>\n", escape(&note)));
+    format!(
+        "<div class=\"verdict {class}\">{verdict}.</div>\n{}<p>The record is {}.</p>\n",
+        notes.collect::<String>(),
+        escape(&station.file)
+    )
 }
 
 /// A step in words, with its block left open.

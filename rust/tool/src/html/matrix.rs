@@ -1,10 +1,9 @@
 //! The page of `show`: the matrix as a grid, who owns whom as a drawing, and every right in words.
 
-use crate::commands::check::sizes;
 use crate::html::grid::{Grid, legend};
 use crate::html::{escape, owners, page as whole};
 use crate::input::Station;
-use crate::record::{Name, column_of, rights_in};
+use crate::record::{Name, column_of, rights_in, sizes};
 
 /// The page of a station.
 pub fn page(station: &Station) -> String {
