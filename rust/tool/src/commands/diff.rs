@@ -1,0 +1,105 @@
+//! `diff OLD NEW`: every right gained and lost and every name made or gone, grouped by login.
+
+use std::ffi::OsString;
+
+use crate::answer::Answer;
+use crate::changes::{Changes, by_login, changes};
+use crate::input::{Station, beside, names_of, opened, record_bytes};
+use crate::json;
+use crate::names::counted;
+use crate::no_answer::{Answered, no_answer};
+use crate::record::{Name, Record};
+use crate::words::Given;
+
+pub fn diff(given: &Given) -> Answered<Answer> {
+    let (old, new) = (&given.words[0], &given.words[1]);
+    if old == "-" && new == "-" {
+        return no_answer("OLD and NEW can't both be the standard input");
+    }
+    let old_record = opened(old, record_bytes(old)?)?;
+    let new_record = opened(new, record_bytes(new)?)?;
+    let station = named(given, &old_record, new_record)?;
+    let changes = changes(&old_record, &station.record);
+    let resized = sizes(&old_record) != sizes(&station.record);
+    let same = changes.is_empty() && !resized;
+    let text = if given.json {
+        in_json(&old_record, &station, &changes, !same)
+    } else if same {
+        String::from("No difference.\n")
+    } else {
+        resize_text(&old_record, &station.record) + &by_login(&changes, &station.names)
+    };
+    Ok(Answer::new(text, same))
+}
+
+/// The new record with the names given, or those beside it, or those beside the old one. Names are read for the record whose file
+/// has them.
+fn named(given: &Given, old: &Record, new: Record) -> Answered<Station> {
+    let (old_path, new_path) = (&given.words[0], &given.words[1]);
+    let by_option: Option<&OsString> = given.names.as_ref();
+    let names = if by_option.is_some() || beside(new_path).is_some() {
+        names_of(new_path, by_option, &new)?
+    } else {
+        names_of(old_path, None, old)?
+    };
+    Ok(Station {
+        file: crate::input::called(new_path),
+        record: new,
+        names,
+    })
+}
+
+fn sizes(record: &Record) -> (u64, u64) {
+    (record.logins(), record.logs())
+}
+
+/// That the two have different sizes, if they have.
+fn resize_text(old: &Record, new: &Record) -> String {
+    if sizes(old) == sizes(new) {
+        return String::new();
+    }
+    let size = |r: &Record| {
+        format!(
+            "{} and {}",
+            counted(r.logins(), "login"),
+            counted(r.logs(), "log")
+        )
+    };
+    format!(
+        "The old record has {}, the new one {}; logs are compared by column.\n",
+        size(old),
+        size(new)
+    )
+}
+
+fn in_json(old: &Record, new: &Station, changes: &Changes, differs: bool) -> String {
+    let names = &new.names;
+    let size = |r: &Record| {
+        json::object(&[
+            ("logins", r.logins().to_string()),
+            ("logs", r.logs().to_string()),
+        ])
+    };
+    let listed = |list: &[Name]| json::array(list.iter().map(|name| json::name(*name, names)));
+    let moves = |gained: bool| {
+        let moves = changes.moved.iter().filter(|m| m.gained == gained);
+        json::array(moves.map(|m| {
+            json::object(&[
+                ("login", json::name(Name::Login(m.login), names)),
+                ("over", json::name(m.over, names)),
+                ("right", json::right(m.right, names)),
+                ("held", (gained || m.still_held).to_string()),
+            ])
+        }))
+    };
+    let answer = json::object(&[
+        ("differs", differs.to_string()),
+        ("old", size(old)),
+        ("new", size(&new.record)),
+        ("made", listed(&changes.made)),
+        ("gone", listed(&changes.gone)),
+        ("gained", moves(true)),
+        ("lost", moves(false)),
+    ]);
+    format!("{answer}\n")
+}

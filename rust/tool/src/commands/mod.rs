@@ -1,0 +1,9 @@
+//! The commands, one a file.
+
+pub mod ask;
+pub mod check;
+pub mod diff;
+pub mod held;
+pub mod new;
+pub mod run;
+pub mod show;

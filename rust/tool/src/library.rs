@@ -1,0 +1,8 @@
+//! All that the tool takes of the proved library: its calls, and the types of what they are asked and answer. No other module names the
+//! crate `bunvespo`.
+
+pub use bunvespo::{
+    Basic, Command, CommandRefused, EncodeError, Header, MOST_COMMANDS, MOST_PLAIN, MOST_RECORD,
+    MOST_SUBJECTS, Refusal, Right, check, code, command, commands, encode, held, new_record, run,
+    trust_mask, valid, witness,
+};

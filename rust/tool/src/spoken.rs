@@ -1,0 +1,105 @@
+//! Words of the command line and of command texts: logins, columns, rights and trusted logins, by name or by number.
+
+use crate::library::{Right, trust_mask};
+use crate::names::Names;
+use crate::record::{Name, Record, column_of};
+
+/// A number of digits alone; none where the word is something else.
+pub fn number(word: &str) -> Result<Option<u64>, String> {
+    if word.is_empty() || !word.bytes().all(|b| b.is_ascii_digit()) {
+        return Ok(None);
+    }
+    let number = word.parse();
+    number
+        .map(Some)
+        .map_err(|_| format!("{word} is too large a number"))
+}
+
+/// The number after a word and a space, as in `login 3`.
+fn numbered(word: &str, kind: &str) -> Result<Option<u64>, String> {
+    let after = word
+        .strip_prefix(kind)
+        .and_then(|rest| rest.strip_prefix(' '));
+    after.map_or(Ok(None), |rest| number(rest.trim_start()))
+}
+
+/// The name that a word is in the file of names.
+fn named(word: &str, names: &Names) -> Option<Name> {
+    let mut all = names.of_names.iter();
+    all.find(|(_, given)| *given == word).map(|(name, _)| *name)
+}
+
+/// A login: a number, `login N` or a name. Numbers beyond the record are left to the library.
+pub fn login(word: &str, names: &Names) -> Result<u64, String> {
+    if let Some(number) = number(word)? {
+        return Ok(number);
+    }
+    if let Some(number) = numbered(word, "login")? {
+        return Ok(number);
+    }
+    match named(word, names) {
+        Some(Name::Login(s)) => Ok(s),
+        Some(Name::Log(_)) => Err(format!("'{word}' is a log and no login")),
+        None => Err(format!("'{word}' is neither a login's number nor its name")),
+    }
+}
+
+/// A column: a number, `login N`, `log N` or a name. A bare number beyond the record is left to the library.
+pub fn column(word: &str, record: &Record, names: &Names) -> Result<u64, String> {
+    if let Some(number) = number(word)? {
+        return Ok(number);
+    }
+    if let Some(number) = numbered(word, "login")? {
+        if number >= record.logins() {
+            return Err(format!("login {number} is beyond the record"));
+        }
+        return Ok(number);
+    }
+    if let Some(number) = numbered(word, "log")? {
+        if number < record.logins() {
+            return Err(format!("column {number} is a login and no log"));
+        }
+        return Ok(number);
+    }
+    let name = named(word, names);
+    name.map(column_of)
+        .ok_or_else(|| format!("'{word}' is neither the number nor the name of a login or log"))
+}
+
+/// A right: own, control, r0 to r6 or a name, with the star or without, or a code.
+pub fn right(word: &str, names: &Names) -> Result<Right, String> {
+    if let Some(code) = number(word)? {
+        let wrong = || format!("{code} is no right's code, which are 0 to 15");
+        return Right::from_code(code).ok_or_else(wrong);
+    }
+    if let Ok(right) = word.parse() {
+        return Ok(right);
+    }
+    let plain = word.strip_suffix('*').unwrap_or(word);
+    let given = names.of_rights.iter().find(|(_, name)| *name == plain);
+    match given {
+        Some((k, _)) if plain == word => Ok(Right::Plain(*k)),
+        Some((k, _)) => Ok(Right::Starred(*k)),
+        None => Err(format!(
+            "'{word}' is no right, which is own, control, r0 to r6, 'r0*' to 'r6*', a name for one of these, or a code 0 to 15"
+        )),
+    }
+}
+
+/// The mask of trusted logins: names or numbers with commas between, `none`, or `all`.
+pub fn trusted(word: &str, record: &Record, names: &Names) -> Result<u64, String> {
+    match word {
+        "none" => return Ok(0),
+        "all" => return Ok(u64::MAX >> (64 - record.logins())),
+        _ => {}
+    }
+    let mut logins = Vec::new();
+    for part in word.split(',') {
+        let s = login(part.trim(), names);
+        logins.push(s.map_err(|why| {
+            format!("{why}; trusted logins stand with commas between, or are none or all")
+        })?);
+    }
+    let most = logins.iter().max().copied().unwrap_or(0);
+    trust_mask(logins).map_err(|_| format!("login {most} is in no record, so it can't be trusted"))
+}

@@ -1,0 +1,7 @@
+//! Tests of the tool's modules against the library, on seeded random stations.
+
+mod agree;
+mod damaged;
+mod pages;
+mod random;
+mod spoken_names;

@@ -1,0 +1,197 @@
+//! The words of the command line: the command, its words, and its options.
+
+use std::ffi::OsString;
+
+use crate::no_answer::{Answered, no_answer, shown};
+
+/// What a command takes.
+pub struct Form {
+    pub command: &'static str,
+    pub words: &'static [&'static str],
+    pub options: &'static [&'static str],
+}
+
+/// The commands. `--names FILE` is taken by each but `new`.
+pub const FORMS: [Form; 8] = [
+    form("new", &["FILE", "LOGINS", "LOGS"], &[]),
+    form("show", &["FILE"], &["--html", "--names"]),
+    form("check", &["FILE"], &["--json", "--names"]),
+    form(
+        "held",
+        &["FILE", "LOGIN", "COLUMN", "RIGHT"],
+        &["--json", "--names"],
+    ),
+    form("who", &["FILE", "COLUMN", "RIGHT"], &["--names"]),
+    form(
+        "ask",
+        &["FILE", "TRUSTED", "LOGIN", "COLUMN", "RIGHT"],
+        &["--html", "--json", "--names"],
+    ),
+    form("run", &["FILE", "COMMANDS"], &["--dry", "--names"]),
+    form("diff", &["OLD", "NEW"], &["--json", "--names"]),
+];
+
+const fn form(
+    command: &'static str,
+    words: &'static [&'static str],
+    options: &'static [&'static str],
+) -> Form {
+    Form {
+        command,
+        words,
+        options,
+    }
+}
+
+/// The options, each with whether a file follows it.
+const OPTIONS: [(&str, bool); 4] = [
+    ("--json", false),
+    ("--dry", false),
+    ("--html", true),
+    ("--names", true),
+];
+
+/// What was given: as many words as the command takes, and its options.
+pub struct Given {
+    pub command: &'static str,
+    pub words: Vec<OsString>,
+    pub json: bool,
+    pub dry: bool,
+    pub html: Option<OsString>,
+    pub names: Option<OsString>,
+}
+
+impl Given {
+    /// A word that is a number, a name or a right.
+    pub fn text(&self, at: usize) -> Answered<&str> {
+        match self.words[at].to_str() {
+            Some(text) => Ok(text),
+            None => no_answer(format!(
+                "'{}' is not written in UTF-8",
+                shown(&self.words[at])
+            )),
+        }
+    }
+}
+
+/// What is asked for.
+pub enum Request {
+    Help,
+    Do(Given),
+}
+
+/// Reads the words after the program's name.
+pub fn parse(arguments: impl Iterator<Item = OsString>) -> Answered<Request> {
+    let mut arguments = arguments.peekable();
+    if arguments.peek().is_none_or(|first| first == "help") {
+        return Ok(Request::Help);
+    }
+    let mut split = Split::default();
+    while let Some(argument) = arguments.next() {
+        if split.ended || argument == "-" || !is_option(&argument) {
+            split.words.push(argument);
+        } else if argument == "--" {
+            split.ended = true;
+        } else if argument == "--help" || argument == "-h" {
+            return Ok(Request::Help);
+        } else {
+            split.option(&argument, &mut arguments)?;
+        }
+    }
+    split.given().map(Request::Do)
+}
+
+/// The words and options met so far.
+#[derive(Default)]
+struct Split {
+    ended: bool,
+    words: Vec<OsString>,
+    options: Vec<(&'static str, Option<OsString>)>,
+}
+
+impl Split {
+    /// Takes an option, and where it has a value and no `=` the next argument as that.
+    fn option(
+        &mut self,
+        argument: &OsString,
+        rest: &mut impl Iterator<Item = OsString>,
+    ) -> Answered<()> {
+        let Some((name, valued)) = OPTIONS.into_iter().find(|(name, _)| names(argument, name))
+        else {
+            let word = shown(argument);
+            return no_answer(format!(
+                "'{word}' is no option; a word that begins with - stands after --"
+            ));
+        };
+        let is_file = |next: &OsString| next == "-" || !is_option(next);
+        let value = match after_equals(argument, name) {
+            None if valued => rest.next().filter(is_file),
+            value => value,
+        };
+        if valued != value.is_some() {
+            let form = if valued {
+                "is followed by a file"
+            } else {
+                "has no value"
+            };
+            return no_answer(format!("the option {name} {form}"));
+        }
+        if self.options.iter().any(|(other, _)| *other == name) {
+            return no_answer(format!("the option {name} stands twice"));
+        }
+        self.options.push((name, value));
+        Ok(())
+    }
+
+    /// The words and options against the form of their command.
+    fn given(self) -> Answered<Given> {
+        let mut words = self.words.into_iter();
+        let Some(first) = words.next() else {
+            return no_answer("there is no command; 'bunvespo help' says which there are");
+        };
+        let Some(form) = FORMS.iter().find(|form| first == form.command) else {
+            let word = shown(&first);
+            return no_answer(format!(
+                "'{word}' is no command; 'bunvespo help' says which there are"
+            ));
+        };
+        let (command, words) = (form.command, words.collect::<Vec<_>>());
+        if words.len() != form.words.len() {
+            let (takes, count) = (form.words.join(" "), words.len());
+            return no_answer(format!(
+                "{command} takes {takes}, and {count} words are given"
+            ));
+        }
+        let mut options = self.options.iter();
+        if let Some((name, _)) = options.find(|(name, _)| !form.options.contains(name)) {
+            return no_answer(format!("{command} has no option {name}"));
+        }
+        let set = |name: &str| self.options.iter().find(|(other, _)| *other == name);
+        let value = |name: &str| set(name).and_then(|(_, value)| value.clone());
+        Ok(Given {
+            command,
+            words,
+            json: set("--json").is_some(),
+            dry: set("--dry").is_some(),
+            html: value("--html"),
+            names: value("--names"),
+        })
+    }
+}
+
+/// Whether an argument is an option of this name, alone or with `=` and a value.
+fn names(argument: &OsString, name: &str) -> bool {
+    argument == name || after_equals(argument, name).is_some()
+}
+
+/// Whether an argument begins as an option does.
+fn is_option(argument: &OsString) -> bool {
+    argument.as_encoded_bytes().starts_with(b"-")
+}
+
+/// What stands after an option's name and `=`.
+fn after_equals(argument: &OsString, name: &str) -> Option<OsString> {
+    let text = argument.to_str()?;
+    let value = text.strip_prefix(name)?.strip_prefix('=')?;
+    Some(OsString::from(value))
+}

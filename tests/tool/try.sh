@@ -1,0 +1,54 @@
+# What the cases of the topics are written with. They run in a folder of their own; root is the repository's.
+program=$root/rust/target/release/bunvespo
+a=$root/stations/a.rights
+b=$root/stations/b.rights
+
+fail() {
+    echo "FAILED: $*"
+    exit 1
+}
+
+# Runs the program on words and prints them, what it prints, and how it exits. The standard error has one line where it exits with 2, else
+# none; and the standard output has none there.
+try() {
+    local status=0 lines
+    echo "> bunvespo $(shown "$@")"
+    "$program" "$@" >out 2>err || status=$?
+    places <out
+    places <err | sed 's/^/! /'
+    lines=$(wc -l <err)
+    [[ $status != 2 || ($lines == 1 && ! -s out) ]] || fail "2 comes with one sentence alone"
+    [[ $status == 2 || ($status -le 1 && $lines == 0) ]] || fail "an answer comes with 0 or 1 and no sentence"
+    echo "exits with $status"
+}
+
+# The words, with quotes where a shell needs them.
+shown() {
+    local word
+    for word in "$@"; do
+        [[ $word =~ ^[A-Za-z0-9_.,/=-]+$ ]] && printf '%s ' "$word" || printf "'%s' " "$word"
+    done | sed "s/ $//" | places
+}
+
+# Text without the places of this machine.
+places() {
+    sed "s|$root/||g"
+}
+
+# A file of bytes, given as hexadecimal numbers.
+bytes() {
+    local file=$1 byte
+    shift
+    for byte in "$@"; do printf "\\x$byte"; done >"$file"
+}
+
+# Station A with the byte at a place changed.
+changed() {
+    { head -c "$1" "$a"; printf "\\x$2"; tail -c "+$(($1 + 2))" "$a"; } >"$3"
+}
+
+# The bytes of a file in hexadecimal.
+hex() {
+    od -An -v -tx1 "$1" | tr -d '\n'
+    echo
+}
