@@ -1,5 +1,6 @@
 -- Demand 1: every input is answered, or refused by exactly the number whose condition is the first to hold; a refusal changes nothing, and a
--- list run keeps what it accepted before (Manual 7). An answer is compared by its numbers: the refusal of an answer that is none is 0.
+-- list run keeps what it accepted before (Manual 7). An answer is compared by its numbers: the refusal of an answer that is none is 0. The
+-- record of a question is lent to be read alone, so that there is nothing to say of its bytes.
 use Prim.Native.Nat.{ℕ}
 use mathlib.Core.Path.{_≡_}
 use mathlib.Core.Logic.{_≢_, _↔_, _⊎_}
@@ -56,11 +57,13 @@ abbrev pub TurnedDown : List ℕ → List ℕ → ℕ → Type 0
 TurnedDown b l number = (runAnswer b l ≡ record { accepted = 0; refusal = number }) × (runBytes b l ≡ b)
 
 -- A list run: refused by 1 to 5 or 16 with nothing accepted and nothing changed. Else it is the command call on each command in turn, up to
--- the first that is refused, by 6 to 14.
+-- the first that is refused, and its number is 0 or that command's, 6 to 14.
 pub record RunRight (b l : List ℕ) : Type 0 where
   pub turned : (number : ℕ) → number ≢ 0 → First (runConditions b l) number → TurnedDown b l number
   pub each : Octets b → NoneHolds (runConditions b l)
       → (runAnswer b l ≡ inTurn 0 b (commandsOf l) .outcome) × (runBytes b l ≡ inTurn 0 b (commandsOf l) .bytes)
+  pub by-command : NoneHolds (runConditions b l)
+      → Among (runNumbers (runAnswer b l) .refusal) (0 ∷ 6 ∷ 7 ∷ 8 ∷ 9 ∷ 10 ∷ 11 ∷ 12 ∷ 13 ∷ 14 ∷ [])
   pub only : Among (runNumbers (runAnswer b l) .refusal)
       (0 ∷ 1 ∷ 2 ∷ 3 ∷ 4 ∷ 5 ∷ 6 ∷ 7 ∷ 8 ∷ 9 ∷ 10 ∷ 11 ∷ 12 ∷ 13 ∷ 14 ∷ 16 ∷ [])
   pub stopped : Octets b → NoneHolds (runConditions b l) → runNumbers (runAnswer b l) .refusal ≢ 0 → StoppedAfter b l (runAnswer b l .accepted)

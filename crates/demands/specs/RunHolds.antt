@@ -58,6 +58,10 @@ module _ (b l : List ℕ) where
       let n : eqb number 0 ≡ false = ne-eqb number 0 some in
       rw (e, n) (refl, refl)
 
+  by-command : NoneHolds (runConditions b l) → Among (runNumbers (runAnswer b l) .refusal) (0 ∷ ofCommand)
+  unfolding runAnswer
+  by-command none = let e : runRefusal b l ≡ 0 = run-numbered b l .answered .1 none in rw e (ran-among 0 (shapeOf b) (stateOf b) (commandsOf l))
+
   only : Among (runNumbers (runAnswer b l) .refusal) (0 ∷ ofRun)
   unfolding runAnswer
   only =
@@ -139,4 +143,4 @@ module _ (b l : List ℕ) where
         subst (StoppedAfter b l) (sym (ap (λ (o : Outcome). o .accepted) answer-is ∙ number-of s)) (after s)
 
   pub run-right : RunRight b l
-  run-right = record { turned = turned; each = λ octets none. (answer-is octets none, bytes-are octets none); only = only; stopped = ended-so }
+  run-right = record { turned = turned; each = λ octets none. (answer-is octets none, bytes-are octets none); by-command = by-command; only = only; stopped = ended-so }

@@ -1,5 +1,6 @@
 -- The sheet of the thirteen commands (Manual 5): of each code, when it is accepted and what it makes of the state S. Its fields are i, s, o and
--- k; `basics` is the number of basic rights.
+-- k; `basics` is the number of basic rights. `names` is whether i, s and o are within bounds: on a record, whether i < n, s < n and o < n + p
+-- (`namesFit`); in the lists of a safety question it is true.
 use Prim.Native.Nat.{ℕ}
 use mathlib.Core.Path.{_≡_}
 use mathlib.Core.Bool.{Bool, true, false, not, _||_}

@@ -6,7 +6,7 @@ pub enum Name {
     Plain(usize),
 }
 
-// A basic right is held plain or starred; the star is the source's copy flag.
+// A basic right is held plain or starred; the star lets its holder pass the right on.
 pub enum Form {
     Plain,
     Starred,

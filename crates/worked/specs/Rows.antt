@@ -2,8 +2,9 @@
 -- question. The safe ones go through the theorem that decides the question, the others are computed.
 use Prim.Native.Nat.{ℕ, _+_, _≤_, _<_}
 use native.Mathlib.Omega.{arith}
-use mathlib.Core.Path.{_≡_, refl, subst}
-use mathlib.Core.Bool.{true, _&&_}
+use mathlib.Core.Path.{_≡_, refl, sym, _∙_, ap, subst}
+use mathlib.Core.Logic.{inl, inr}
+use mathlib.Core.Bool.{Bool, true, _&&_}
 use mathlib.Core.List.{List, [], _∷_}
 use lib.ListN.{length}
 use borrow.Author.Tests.{le-leb}
@@ -15,21 +16,28 @@ use Rattle.matrix.specs.Owners.{walkFrom}
 use Rattle.matrix.specs.Tests.{firstFailed}
 use Rattle.matrix.specs.Step.{refusalOf, refusal, links, next}
 use Rattle.matrix.specs.Bytes.{numberAt, bit, fromBits}
-use Rattle.matrix.specs.Shape.{shapeOf, basicsOf}
+use Rattle.matrix.specs.State.{State}
+use Rattle.matrix.specs.Shape.{Shape, shapeOf, basicsOf}
 use Rattle.matrix.specs.Reading.{cellAt, bitAt, stateOf}
 use Rattle.matrix.specs.Record.{climb, validMatrix, recordRefusal}
-use Rattle.matrix.specs.Calls.{questionFits, refusalOn, linksOn, nextOn, runFrom}
+use Rattle.matrix.specs.Calls.{questionFits, rawOf, namesFit, refusalOn, linksOn, nextOn, runFrom}
+use Rattle.laws.specs.Tests.{clash}
+use Rattle.laws.specs.Bounded.{all-each}
+use Rattle.laws.specs.Passed.{taken}
 use Rattle.codec.specs.RoundTrip.{within-read}
 use Rattle.owners.specs.Read.{valid-record}
+use Rattle.frame.specs.Stays.{names-in}
 use Rattle.frame.specs.StationBytes.{A, B}
 use Rattle.frame.specs.Stations.{Stations, stations}
 use Rattle.question.specs.Trust.{trustedBy}
 use Rattle.question.specs.declared.Safety.{Safety}
-use Rattle.question.specs.Asked.{trustFits, listRoom, safetyRefusal, SafeRecord, LeaksRecord, Answers}
+use Rattle.question.specs.Leaks.{Untrusted}
+use Rattle.question.specs.Asked.{trustFits, listRoom, safetyRefusal, SafeRecord, LeaksRecord, Decided, Answers}
 use Rattle.route.specs.Parts.{fields, basicNumber, destroysAll, among}
 use Rattle.route.specs.Rise.{rise}
+use Rattle.route.specs.RunsTo.{RunsTo, step}
 use Rattle.ways.specs.Ways.{Way, no-way, wayOver, wayMade, wayOf, listOf}
-use Rattle.steps.specs.Runs.{leaks-unsafe}
+use Rattle.steps.specs.Runs.{run-runs, leaks-unsafe}
 use Rattle.decision.specs.Decides.{Says, decides}
 use Rattle.demands.specs.Refusals.{safety-numbered}
 use Rattle.demands.specs.Demand3.{Decides}
@@ -76,8 +84,9 @@ pub record SafetyRows : Type 0 where
   pub a-5 : LeaksRow A 5 1 3 2 (fields 13 1 2 0 0 ∷ fields 4 1 1 3 0 ∷ [])
   -- A, only 0 trusted: subject 1 never owns itself
   pub a-1 : SafeRow A 1 1 1 0
-  -- A, all trusted: subject 2 owns log 3 at the start
+  -- A, all trusted: subject 2 owns log 3 at the start, and the call answers so by no commands
   pub a-held : LeaksRow A 7 2 3 0 []
+  pub a-held-at-once : (out out′ : List ℕ) (r : Safety) → listRoom 5 ≤ length out → Answers A 7 2 3 0 out out′ r → r ≡ Safety.Leaks 0
   -- A, 0 untrusted: it comes to own 2 by destroying 1 ..
   pub a-6-up : LeaksRow A 6 0 2 0 (fields 13 0 1 0 0 ∷ [])
   -- .. and 2 comes to own 1, who is destroyed and created again
@@ -90,6 +99,14 @@ pub record SafetyRows : Type 0 where
 pub record Worked : Type 0 where
   pub commands : Stations
   pub safety : SafetyRows
+
+-- a list that is accepted from its first command on is empty where every subject of the record is trusted
+no-initiator : (f : Shape) (S T : State) (trusted : ℕ → Bool) (cs : List Fields) → ((i : ℕ) → i < f .n → trusted i ≡ true) → Untrusted trusted cs → RunsTo f S cs T → length cs ≡ 0
+unfolding refusalOn
+no-initiator f S T trusted [] all begun r = refl
+no-initiator f S T trusted (c ∷ cs) all begun (step a r) =
+    let bounds = taken (basicsOf f) (namesFit f c) S (rawOf f c) (a .accepted) .bounds in
+    absurd (clash (all (c .i) (names-in f c bounds .i)) (begun .0))
 
 -- rows from what is computed of a question
 module _ (b : List ℕ) (mask s o right : ℕ) (valid : recordRefusal b ≡ 0) (fits : (questionFits (shapeOf b) s o right && trustFits (shapeOf b) mask) ≡ true) where
@@ -112,6 +129,23 @@ module _ (b : List ℕ) (mask s o right : ℕ) (valid : recordRefusal b ≡ 0) (
         answers = λ out out′ r h a. let d = decision out out′ r h a in let w = d .leaks (λ e. leaks-unsafe leaks (d .safe .0 e)) in (w .0, w .1);
       }
 
+  -- where every subject of the record is trusted, what leaks is held at the start, and the answer is "leaks" by no commands
+  by-none : ((i : ℕ) → i < shapeOf b .n → trustedBy mask i ≡ true) → (cs : List Fields) → LeaksRecord b mask s o right cs
+      → (out out′ : List ℕ) (r : Safety) → listRoom (shapeOf b .n + 2) ≤ length out → Answers b mask s o right out out′ r → r ≡ Safety.Leaks 0
+  by-none all cs leaks out out′ r h a = said (a .decided (not-turned-down (length out) h))
+    where
+      said : Decided b mask s o right out out′ r → r ≡ Safety.Leaks 0
+      said (inl d) = absurd (leaks-unsafe leaks (d .2))
+      said (inr d) =
+          let w = d .2 .leaks in
+          let none = no-initiator (shapeOf b) (stateOf b) _ (trustedBy mask) _ all (w .begun) (run-runs (shapeOf b) (stateOf b) _ 0 (w .accepted)) in
+          d .1 ∙ ap Safety.Leaks (sym (d .2 .number) ∙ none)
+
+-- every subject of A is trusted by the mask 7
+all-of-A : (i : ℕ) → i < 3 → trustedBy 7 i ≡ true
+unfolding bit all
+all-of-A i h = all-each 3 (trustedBy 7) refl i h
+
 pub worked : Worked
 unfolding A B any all count least walkFrom firstFailed refusalOf refusal links next numberAt bit fromBits shapeOf cellAt bitAt stateOf climb validMatrix recordRefusal refusalOn linksOn nextOn runFrom
 worked =
@@ -123,6 +157,7 @@ worked =
             a-5 = leaks-row A 5 1 3 2 refl refl _ (record { begun = (refl, (refl, tt)); accepted = refl; whole = refl; reached = refl; few = omega arith });
             a-1 = safe-row A 1 1 1 0 refl refl (decided A 1 1 1 0 refl (omega arith) refl (omega arith) A-1);
             a-held = leaks-row A 7 2 3 0 refl refl _ (record { begun = tt; accepted = refl; whole = refl; reached = refl; few = omega arith });
+            a-held-at-once = by-none A 7 2 3 0 refl refl all-of-A [] (record { begun = tt; accepted = refl; whole = refl; reached = refl; few = omega arith });
             a-6-up = leaks-row A 6 0 2 0 refl refl _ (record { begun = (refl, tt); accepted = refl; whole = refl; reached = refl; few = omega arith });
             a-6-down = leaks-row A 6 2 1 0 refl refl _ (record { begun = (refl, (refl, (refl, tt))); accepted = refl; whole = refl; reached = refl; few = omega arith });
             b-0 = leaks-row B 0 1 2 3 refl refl _ (record { begun = (refl, (refl, (refl, tt))); accepted = refl; whole = refl; reached = refl; few = omega arith });

@@ -5,7 +5,7 @@ use crate::record::name_of_column;
 use crate::rights::{Form, Right};
 use crate::state::{Name, State};
 
-/// A command with a code of 1 to 13; its o carries its kind. A field that it does not use is 0.
+/// A command with a code of 1 to 13; its o is a name of either kind. A field that it does not use is 0.
 #[derive(Clone, Copy, Debug, PartialEq, Eq)]
 pub struct Command {
     pub code: u64,

@@ -113,7 +113,7 @@ fn refusals_of_questions() {
     }
     assert_eq!(safety(&a(), 8, 0, 0, 0, 34), Safety::Refused(7));
     assert_eq!(safety(&a(), 7, 1, 3, 2, 34), Safety::Refused(15));
-    // A with 35 bytes of buffer is answered.
+    // One byte more is enough.
     assert_eq!(safety(&a(), 7, 1, 3, 2, 35), Safety::Safe);
 }
 
@@ -181,7 +181,7 @@ fn transfer_of_own_reports_links() {
     assert_eq!(on(&a(), [3, 1, 1, 2, 0]), (0, 1));
     let mut record = a();
     command(&mut record, [3, 1, 1, 2, 0]);
-    assert_eq!(record, a(), "code 3 with s = i changes nothing");
+    assert_eq!(record, a(), "own handed to oneself");
     // The walk starts at s itself, so s = o is met after no link.
     assert_eq!(on(&a(), [3, 1, 2, 2, 0]), (13, 0));
     assert_eq!(on(&a(), [3, 1, 0, 2, 0]), (0, 0));
