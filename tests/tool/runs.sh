@@ -81,7 +81,7 @@ stat -c '%A %F' station folder/link
 hex station
 [[ -z $(ls -A | grep '\.new$') ]] || fail "a file is left over"
 # Runs at the same time: each sees what the others left.
-"$program" new shared 2 40 >/dev/null
-for log in {2..41}; do echo "10 0 0 $log 0" | "$program" run shared - >/dev/null & done
+"$program" new shared 2 12 >/dev/null
+for log in {2..13}; do echo "10 0 0 $log 0" | "$program" run shared - >/dev/null & done
 wait
 "$program" check shared

@@ -15,7 +15,7 @@ use crate::library::MOST_RECORD;
 use crate::no_answer::{Answered, NoAnswer, no_answer};
 
 /// How often another run's lock is tried, and the pause between.
-const TRIES: u32 = 100;
+const TRIES: u32 = 200;
 const PAUSE: Duration = Duration::from_millis(50);
 
 /// A record's file, locked until this value goes.
