@@ -6,10 +6,11 @@ use mathlib.Core.Bool.{Bool, true, false, cond, _&&_, _||_}
 use mathlib.Core.List.{List}
 use lib.Dec.{eqb}
 use Rattle.matrix.specs.declared.Name.{Name}
+use Rattle.matrix.specs.declared.Shape.{Shape}
 use Rattle.matrix.specs.Bounded.{any}
 use Rattle.matrix.specs.Names.{sameName, nameOf, columnOf, named}
 use Rattle.matrix.specs.State.{State, has, isCell, clear}
-use Rattle.matrix.specs.Shape.{Shape, shapeOf}
+use Rattle.matrix.specs.Shape.{shapeOf}
 use Rattle.matrix.specs.Reading.{setCell, stateOf}
 use Rattle.matrix.specs.Shaped.{Within}
 use Rattle.matrix.specs.Changes.{inColumn}

@@ -6,10 +6,11 @@ use mathlib.Core.List.{List}
 use lib.ListN.{length}
 use Rattle.matrix.specs.declared.Name.{Name}
 use Rattle.matrix.specs.declared.Right.{Right}
+use Rattle.matrix.specs.declared.Shape.{Shape}
 use Rattle.matrix.specs.Names.{nameOf, columnOf, named}
 use Rattle.matrix.specs.Rights.{codeOf}
 use Rattle.matrix.specs.State.{State, isCell, put, clear}
-use Rattle.matrix.specs.Shape.{Shape, shapeOf, bitsOf, columns, sizeOf}
+use Rattle.matrix.specs.Shape.{shapeOf, bitsOf, columns, sizeOf}
 use Rattle.matrix.specs.Reading.{cellAt, setCell, stateOf}
 use Rattle.codec.specs.Bits.{withBit}
 use Rattle.codec.specs.Cells.{shape-set, shaped-set, octets-set}

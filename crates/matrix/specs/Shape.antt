@@ -1,19 +1,14 @@
 -- The record's layout: "Byte 0: version, 1. Bytes 1 to 4: the count L of bytes after byte 4. Byte 5: n, subject names, 1 to 64.
 -- Byte 6: p, plain names, 0 to 192. Then n rows of n + p cells of 16 bits; L = 2 + 2·n·(n + p)."
+-- What a record's version and its bytes 5 and 6 fix is a Shape, which the source declares: version, n and p, the bytes of a cell (`width`), and
+-- the place of the first cell (`first`).
 use Prim.Native.Nat.{ℕ, _+_, _-_, _*_}
 use mathlib.Core.Bool.{Bool, _&&_}
 use mathlib.Core.List.{List}
 use lib.Dec.{eqb, leb}
 use lib.ListN.{length, getD}
+use Rattle.matrix.specs.declared.Shape.{Shape}
 use Rattle.matrix.specs.Bytes.{numberAt}
-
--- What a record's version and its bytes 5 and 6 fix: version, n and p, the bytes of a cell, the place of the first cell.
-pub record Shape : Type 0 where
-  pub version : ℕ
-  pub n : ℕ
-  pub p : ℕ
-  pub width : ℕ
-  pub first : ℕ
 
 abbrev pub knownVersion : ℕ → Bool
 knownVersion v = eqb v 1
@@ -24,12 +19,16 @@ mostSubjects = 64
 abbrev pub mostPlain : ℕ
 mostPlain = 192
 
+-- the bytes of the header: version, L, n and p
+abbrev pub headerBytes : ℕ
+headerBytes = 7
+
 -- the bytes of a cell, and the place of the first cell, in a version
 abbrev pub widthOf : ℕ → ℕ
 widthOf v = 2
 
 abbrev pub firstOf : ℕ → ℕ
-firstOf v = 7
+firstOf v = headerBytes
 
 unfoldable pub shapeOf : List ℕ → Shape
 shapeOf b = record { version = getD b 0 0; n = getD b 5 0; p = getD b 6 0; width = widthOf (getD b 0 0); first = firstOf (getD b 0 0) }

@@ -11,10 +11,11 @@ use borrow.Author.Tests.{eqb-true}
 use Rattle.matrix.specs.declared.Fields.{Fields}
 use Rattle.matrix.specs.declared.Answer.{Answer}
 use Rattle.matrix.specs.declared.Answer.the-variants.{Accepted, Refused}
+use Rattle.matrix.specs.declared.Shape.{Shape}
 use Rattle.matrix.specs.State.{State}
 use Rattle.matrix.specs.Numbers.{commandNumbers}
 use Rattle.matrix.specs.Step.{answer, refusal, next}
-use Rattle.matrix.specs.Shape.{Shape, shapeOf, sizeOf}
+use Rattle.matrix.specs.Shape.{shapeOf, sizeOf}
 use Rattle.matrix.specs.Reading.{stateOf}
 use Rattle.matrix.specs.CommandList.{fieldsAt, commandPlace, commandsFrom, commandsIn}
 use Rattle.matrix.specs.Calls.{refusalOn, linksOn, nextOn, Ran, runFrom, ranOn}
