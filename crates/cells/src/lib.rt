@@ -10,6 +10,7 @@ ghost use Rattle.matrix.specs.Bounded.{any, least};
 ghost use Rattle.matrix.specs.Bytes.{bit};
 ghost use Rattle.matrix.specs.Shape.{columns, bitsOf, basicsOf, cellPlace};
 ghost use Rattle.matrix.specs.Reading.{cellAt, setCell};
+ghost use Rattle.codec.specs.Bits.{wordBits};
 ghost use Rattle.codec.specs.ShapeRight.{ShapeRight};
 ghost use Rattle.cells.specs.Station.{Cell, Station};
 ghost use Rattle.cells.specs.Places.{rowBytes, lowPlace};
@@ -85,7 +86,7 @@ pub fn store(b: &mut [u8], f: Shape, r: usize, c: usize, v: usize)
 
 // Whether bit j of v is set.
 pub fn bit_of(v: usize, j: usize) -> bool
-    requires { ⌜ j < 64 ⌝ }
+    requires { ⌜ j < wordBits ⌝ }
     ensures { λ t. ⌜ t ≡ bit j v ⌝ }
 {
     (v >> j) % 2 == 1
