@@ -67,7 +67,7 @@ record-links b h s o =
     omega arith
 
 -- a record of the right form is at least as long as its head
-long : (b : List ℕ) → Shaped b → headerBytes ≤ length b
+pub long : (b : List ℕ) → Shaped b → headerBytes ≤ length b
 unfolding shapeOf
 long b s = let e : length b ≡ sizeOf (shapeOf b) = s .size in omega arith
 
