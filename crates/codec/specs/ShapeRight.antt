@@ -5,7 +5,7 @@ use native.Mathlib.Omega.{arith}
 use mathlib.Core.Path.{_≡_}
 use mathlib.Core.Bool.{true}
 use Rattle.matrix.specs.declared.Shape.{Shape}
-use Rattle.matrix.specs.Shape.{knownVersion, mostSubjects, mostPlain, widthOf, firstOf, columns, sizeOf}
+use Rattle.matrix.specs.Shape.{knownVersion, mostSubjects, mostPlain, widthOf, firstOf, bitsOf, columns, sizeOf}
 
 pub record ShapeRight (f : Shape) : Type 0 where
   pub version : knownVersion (f .version) ≡ true
@@ -15,9 +15,12 @@ pub record ShapeRight (f : Shape) : Type 0 where
   pub width : f .width ≡ widthOf (f .version)
   pub first : f .first ≡ firstOf (f .version)
 
--- bounds that hold in every version: the bytes of a cell, the place of the first cell, and so the bytes of a record
+-- bounds that hold in every version: the bytes and bits of a cell, the place of the first cell, and so the bytes of a record
 abbrev pub mostWidth : ℕ
 mostWidth = 4
+
+abbrev pub mostBits : ℕ
+mostBits = 8 * mostWidth
 
 abbrev pub mostFirst : ℕ
 mostFirst = 16
@@ -31,6 +34,9 @@ module _ (f : Shape) (g : ShapeRight f) where
 
   pub width-most : f .width ≤ mostWidth
   width-most = omega arith
+
+  pub bits-most : bitsOf f ≤ mostBits
+  bits-most = omega arith
 
   pub size-most : sizeOf f ≤ mostBytes
   size-most = most (f .first) (f .width * (f .n * columns f)) (omega arith) (mul-le-mul width-most (mul-le-mul (g .high) columns-most))

@@ -1,5 +1,5 @@
 -- The state of a record's bytes, read from the cells.
-use Prim.Native.Nat.{ℕ, _+_, _<_}
+use Prim.Native.Nat.{ℕ, _<_}
 use native.Mathlib.Omega.{arith}
 use mathlib.Core.Path.{_≡_, sym, _∙_, ap, subst}
 use mathlib.Core.Bool.{Bool, true, false, not, _&&_, and-comm}
@@ -27,7 +27,7 @@ use Rattle.codec.specs.Bits.{wordBits, any-bit}
 use Rattle.codec.specs.Cells.{cell-below}
 use Rattle.codec.specs.Codes.{codeOf-room, codeOf-rightOf}
 use Rattle.codec.specs.Columns.{named-below}
-use Rattle.codec.specs.ShapeRight.{ShapeRight, width-some, width-most}
+use Rattle.codec.specs.ShapeRight.{ShapeRight, width-some, bits-most}
 use Rattle.codec.specs.Update.{has-state, bitAt-named, bit-named}
 use Rattle.owners.specs.Framed.{valid-framed, owner-same}
 use Rattle.cells.specs.Station.{Station, right-shape}
@@ -42,7 +42,7 @@ module _ (f : Shape) (g : ShapeRight f) where
   code-in (Basic k e) h = codeOf-room (f .width) k e h
 
   pub code-small : (y : Right) → RightIn f y → codeOf y < wordBits
-  code-small y h = omega (arith, code-in y h, width-most f g)
+  code-small y h = omega (arith, code-in y h, bits-most f g)
 
 -- a basic right, taken apart
 pub basic-code : {y : Right} {k : ℕ} {f : Form} (g : Form) → y ≡ Basic k f → f ≡ g → codeOf (Basic k g) ≡ codeOf y

@@ -1,9 +1,6 @@
 // What the state of a record that is of the right form says: bits, existence, controllers and the owner walk.
 
-use matrix::Act;
-use matrix::Command;
 use matrix::Form;
-use matrix::Kind;
 use matrix::MOST_SUBJECTS;
 use matrix::Name;
 use matrix::Right;
