@@ -2,7 +2,6 @@
 use mathlib.Core.Path.{sym, _∙_, ap, subst}
 use Rattle.matrix.specs.declared.Act.{Act}
 use Rattle.matrix.specs.Reading.{stateOf}
-use Prim.Native.Nat.{_<_}
 use native.Mathlib.Omega.{arith}
 use borrow.Author.Tests.{lt-ltb}
 use Rattle.matrix.specs.Tests.{permitted}
