@@ -1,6 +1,5 @@
 -- Commands over a plain object that are accepted on a valid record: codes 7, 10 and 11.
 use Prim.Native.Nat.{ℕ, _<_}
-use native.Mathlib.Omega.{arith}
 use mathlib.Core.Path.{_≡_, refl}
 use mathlib.Core.Bool.{true, false}
 use mathlib.Core.List.{List}
