@@ -19,6 +19,10 @@ recordBytes = 6
 abbrev pub mostListBytes : ℕ
 mostListBytes = 60000
 
+-- a command's length byte: the number of bytes that follow it
+abbrev pub lengthByte : ℕ
+lengthByte = 5
+
 -- the number of commands that the list's L says, and the place of the j-th
 abbrev pub commandsIn : List ℕ → ℕ
 commandsIn l = numberAt l 1 4 / recordBytes
@@ -31,7 +35,7 @@ commandPlace j = listHead + recordBytes * j
 unfoldable pub wellFormed : List ℕ → Bool
 wellFormed l =
     leb listHead (length l) && eqb (getD l 0 0) 1 && eqb (listHead + numberAt l 1 4) (length l) && leb (numberAt l 1 4) mostListBytes
-    && eqb (numberAt l 1 4 % recordBytes) 0 && all (commandsIn l) (λ j. eqb (getD l (commandPlace j) 0) 5)
+    && eqb (numberAt l 1 4 % recordBytes) 0 && all (commandsIn l) (λ j. eqb (getD l (commandPlace j) 0) lengthByte)
 
 abbrev pub fieldsAt : List ℕ → ℕ → Fields
 fieldsAt l at =

@@ -17,6 +17,9 @@ pub const RECORD_BYTES: usize = 6;
 
 pub const MOST_LIST_BYTES: usize = 60000;
 
+// A command's length byte: the number of bytes that follow it.
+pub const LENGTH_BYTE: u8 = 5;
+
 // What a record's version and its bytes 5 and 6 fix: version, n and p, the bytes of a cell, the place of the first cell.
 pub struct Shape {
     pub version: usize,
