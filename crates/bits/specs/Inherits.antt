@@ -10,10 +10,11 @@ use lib.ListN.{getD, set}
 use borrow.Author.Tests.{eqb-true, eqb-false}
 use Rattle.matrix.specs.declared.Name.{Name}
 use Rattle.matrix.specs.declared.Right.the-variants.{Own}
+use Rattle.matrix.specs.declared.Shape.{Shape}
 use Rattle.matrix.specs.Names.{sameName, nameOf, named}
 use Rattle.matrix.specs.State.{State, put}
 use Rattle.matrix.specs.Bytes.{bit}
-use Rattle.matrix.specs.Shape.{shapeOf, bitsOf}
+use Rattle.matrix.specs.Shape.{shapeOf, columns, cellPlace, bitsOf}
 use Rattle.matrix.specs.Reading.{cellAt, setCell, stateOf}
 use Rattle.matrix.specs.Changes.{inherit}
 use Rattle.laws.specs.Same.{sameName-eq}
@@ -21,11 +22,12 @@ use Rattle.laws.specs.Tests.{way}
 use Rattle.codec.specs.Bits.{withBit}
 use Rattle.codec.specs.Update.{bit-read}
 use Rattle.codec.specs.RoundTrip.{within-read}
-use Rattle.cells.specs.Station.{Station, Cell}
+use Rattle.cells.specs.Station.{Station, Cell, right-shape}
+use Rattle.cells.specs.Places.{rowBytes}
+use Rattle.states.specs.Reads.{code-in}
 use Rattle.bits.specs.Became.{Became}
 use Rattle.bits.specs.Passed.{firstColumns, inheritPart}
-use Rattle.cells.specs.Places.{placeOf}
-use Rattle.bits.specs.OwnBytes.{ownJoined, set-same, own-read, own-stored}
+use Rattle.bits.specs.OwnBytes.{ownJoined, set-same, second-byte, own-read, own-stored}
 use Rattle.bits.specs.Steps.{became-same, became-then, became-as, became-at, became-put, cell-after, cell-row, cell-column}
 use Rattle.bits.specs.Loops.{columns-none, columns-next, columns-all}
 
@@ -90,21 +92,21 @@ module _ (n i s : ℕ) (S : State) where
       by false true o false h = refl
       by false false o a h = refl
 
-module _ {b₀ : List ℕ} {n p : ℕ} (i s : ℕ) where
-  pub inherit-none : Station b₀ n p → Became b₀ b₀ (inheritPart n i s 0 (stateOf b₀))
-  inherit-none h = became-as (became-same h) (part-none n i s (stateOf b₀))
+module _ {b₀ : List ℕ} {f : Shape} (i s : ℕ) where
+  pub inherit-none : Station b₀ f → Became b₀ b₀ (inheritPart (shapeOf b₀ .n) i s 0 (stateOf b₀))
+  inherit-none h = became-as (became-same h) (part-none (shapeOf b₀ .n) i s (stateOf b₀))
 
   -- the test of the bit of own in the cell of s in column c
-  owns-read : {b : List ℕ} {c v : ℕ} {t : Bool} → Became b₀ b (inheritPart n i s c (stateOf b₀)) → Cell b n p s c → v ≡ cellAt b s c → t ≡ bit 0 v
-      → stateOf b₀ .owns s (nameOf n c) ≡ t
+  owns-read : {b : List ℕ} {c v : ℕ} {t : Bool} → Became b₀ b (inheritPart (shapeOf b₀ .n) i s c (stateOf b₀)) → Cell b f s c → v ≡ cellAt b s c → t ≡ bit 0 v
+      → stateOf b₀ .owns s (nameOf (shapeOf b₀ .n) c) ≡ t
   owns-read {b} {c} h l e g =
       sym
       (g ∙ ap (bit 0) e ∙ sym (bit-read b s c (cell-row l) (cell-column l) Own room)
-      ∙ ap (λ (m : ℕ). stateOf b .owns s (nameOf m c)) (sym (l .station .subjects)) ∙ ap (λ (S : State). S .owns s (nameOf n c)) (h .state)
-      ∙ by (stateOf b₀ .owns s (nameOf n c)) (eqb s i && firstColumns n c (nameOf n c)))
+      ∙ ap (λ (e : Shape). stateOf b .owns s (nameOf (e .n) c)) (h .shape) ∙ ap (λ (S : State). S .owns s (nameOf (shapeOf b₀ .n) c)) (h .state)
+      ∙ by (stateOf b₀ .owns s (nameOf (shapeOf b₀ .n) c)) (eqb s i && firstColumns (shapeOf b₀ .n) c (nameOf (shapeOf b₀ .n) c)))
     where
       room : 0 < bitsOf (shapeOf b)
-      room = unfold shapeOf in omega arith
+      room = rw (← l .station .shape) (code-in f (right-shape (l .station)) Own tt)
 
       by : (o t : Bool) → (o || t && o) ≡ o
       by true t = refl
@@ -112,44 +114,53 @@ module _ {b₀ : List ℕ} {n p : ℕ} (i s : ℕ) where
       by false false = refl
 
   -- one more byte of row i is joined with that of row s
-  pub inherit-byte : {b b′ : List ℕ} {k to from u : ℕ} → Station b₀ n p → Became b₀ b (inheritPart n i s (k / 2) (stateOf b₀)) → i < n → s < n
-      → k < 2 * (n + p) → to ≡ placeOf n p i 0 + k → from ≡ placeOf n p s 0 + k → u ≡ ownJoined (getD b to 0) (getD b from 0) k → b′ ≡ set b to u
-      → Became b₀ b′ (inheritPart n i s ((k + 1) / 2) (stateOf b₀))
-  inherit-byte {b} {b′} {k} {to} {from} st h hi hs more e f g w = ⊎-elim second first (way (eqb (k % 2) 1))
+  pub inherit-byte : {b b′ : List ℕ} {k to from u : ℕ} → Station b₀ f → Became b₀ b (inheritPart (shapeOf b₀ .n) i s (k / 2) (stateOf b₀)) → i < f .n → s < f .n
+      → k < rowBytes f → to ≡ cellPlace f i 0 + k → from ≡ cellPlace f s 0 + k → u ≡ ownJoined (getD b to 0) (getD b from 0) k → b′ ≡ set b to u
+      → Became b₀ b′ (inheritPart (shapeOf b₀ .n) i s ((k + 1) / 2) (stateOf b₀))
+  inherit-byte {b} {b′} {k} {to} {from} st h hi hs more e d g w = ⊎-elim second first (way (eqb (k % 2) 1))
     where
+      half : {m : ℕ} → k < 2 * m → k / 2 < m
+      half l = omega arith
+
       -- a byte that stays
       kept : ownJoined (getD b to 0) (getD b from 0) k ≡ getD b to 0 → b′ ≡ b
       kept q = w ∙ ap (set b to) (g ∙ q) ∙ set-same b to
 
-      passed : {l : List ℕ} {m : ℕ} → m ≡ (k + 1) / 2 → Became b₀ l (inheritPart n i s m (stateOf b₀)) → Became b₀ l (inheritPart n i s ((k + 1) / 2) (stateOf b₀))
-      passed q a = became-as a (ap (λ (m : ℕ). inheritPart n i s m (stateOf b₀)) q)
+      passed : {l : List ℕ} {m : ℕ} → m ≡ (k + 1) / 2 → Became b₀ l (inheritPart (shapeOf b₀ .n) i s m (stateOf b₀)) → Became b₀ l (inheritPart (shapeOf b₀ .n) i s ((k + 1) / 2) (stateOf b₀))
+      passed q a = became-as a (ap (λ (m : ℕ). inheritPart (shapeOf b₀ .n) i s m (stateOf b₀)) q)
 
-      first : eqb (k % 2) 1 ≡ false → Became b₀ b′ (inheritPart n i s ((k + 1) / 2) (stateOf b₀))
+      first : eqb (k % 2) 1 ≡ false → Became b₀ b′ (inheritPart (shapeOf b₀ .n) i s ((k + 1) / 2) (stateOf b₀))
       first t =
           let ne = eqb-false (k % 2) 1 t in
           let q : k / 2 ≡ (k + 1) / 2 = omega (arith, ne) in
           became-at (kept (rw t refl)) (passed q h)
 
-      second : eqb (k % 2) 1 ≡ true → Became b₀ b′ (inheritPart n i s ((k + 1) / 2) (stateOf b₀))
+      second : eqb (k % 2) 1 ≡ true → Became b₀ b′ (inheritPart (shapeOf b₀ .n) i s ((k + 1) / 2) (stateOf b₀))
       second t =
           let odd = eqb-true (k % 2) 1 t in
           let q : k / 2 + 1 ≡ (k + 1) / 2 = omega arith in
-          let to-place : to ≡ placeOf n p i (k / 2) + 1 = omega arith in
-          let from-place : from ≡ placeOf n p s (k / 2) + 1 = omega arith in
-          let to-cell : Cell b n p i (k / 2) = cell-after st h hi (omega arith) in
-          let from-cell : Cell b n p s (k / 2) = cell-after st h hs (omega arith) in
-          let read : stateOf b₀ .owns s (nameOf n (k / 2)) ≡ bit 0 (getD b from 0) = owns-read h from-cell refl (sym (own-read (from-cell .station) s (k / 2) ∙ ap (λ (m : ℕ). bit 0 (getD b m 0)) (sym from-place))) in
+          let two : f .width ≡ 2 = right-shape st .width in
+          let to-place : to ≡ cellPlace f i (k / 2) + 1 = e ∙ second-byte f i k two odd in
+          let from-place : from ≡ cellPlace f s (k / 2) + 1 = d ∙ second-byte f s k two odd in
+          let column : k / 2 < columns f = half (rw two at more) in
+          let to-cell : Cell b f i (k / 2) = cell-after st h hi column in
+          let from-cell : Cell b f s (k / 2) = cell-after st h hs column in
+          let read : stateOf b₀ .owns s (nameOf (shapeOf b₀ .n) (k / 2)) ≡ bit 0 (getD b from 0) = owns-read h from-cell refl (sym (own-read (from-cell .station) s (k / 2) ∙ ap (λ (m : ℕ). bit 0 (getD b m 0)) (sym from-place))) in
           ⊎-elim
           (λ (y : bit 0 (getD b from 0) ≡ true).
           let stored : b′ ≡ setCell b i (k / 2) (withBit 0 true (cellAt b i (k / 2))) =
           w ∙ ap (set b to) (g ∙ rw (t, y) refl) ∙ ap (λ (m : ℕ). set b m (withBit 0 true (getD b m 0))) to-place ∙ sym (own-stored (to-cell .station) i (k / 2)) in
-          passed q (became-as (became-then (put Own i (nameOf n (k / 2)) true) h (became-put Own true to-cell (omega arith) refl refl refl stored)) (part-hit n i s (stateOf b₀) (k / 2) (read ∙ y))))
-          (λ (y : bit 0 (getD b from 0) ≡ false). became-at (kept (rw (t, y) refl)) (passed q (became-as h (part-miss n i s (stateOf b₀) (k / 2) (read ∙ y)))))
+          passed q (became-as (became-then (put Own i (nameOf (shapeOf b₀ .n) (k / 2)) true) h (became-as (became-put Own true to-cell tt refl refl refl stored) (ap (λ (e : Shape). put Own i (nameOf (e .n) (k / 2)) true (stateOf b)) (st .shape)))) (part-hit (shapeOf b₀ .n) i s (stateOf b₀) (k / 2) (read ∙ y))))
+          (λ (y : bit 0 (getD b from 0) ≡ false). became-at (kept (rw (t, y) refl)) (passed q (became-as h (part-miss (shapeOf b₀ .n) i s (stateOf b₀) (k / 2) (read ∙ y)))))
           (way (bit 0 (getD b from 0)))
 
-  pub inherit-all : {b : List ℕ} {c : ℕ} → Station b₀ n p → c ≡ n + p → Became b₀ b (inheritPart n i s c (stateOf b₀))
+  -- all bytes of the row are
+  pub inherit-all : {b : List ℕ} {k : ℕ} → Station b₀ f → k ≡ rowBytes f → Became b₀ b (inheritPart (shapeOf b₀ .n) i s (k / 2) (stateOf b₀))
       → Became b₀ b (inherit i s (stateOf b₀))
-  inherit-all h e k =
-      became-as k
-      (ap (λ (m : ℕ). inheritPart n i s m (stateOf b₀)) e
-      ∙ part-all n i s (stateOf b₀) p (λ x g. rw (h .subjects, h .plains) (within-read b₀ .column Own s x g)))
+  inherit-all {k = k} h e g =
+      became-as g
+      (ap (λ (m : ℕ). inheritPart (shapeOf b₀ .n) i s m (stateOf b₀)) (half (e ∙ ap (λ (w : ℕ). w * columns f) (right-shape h .width)) ∙ ap columns (h .shape))
+      ∙ part-all (shapeOf b₀ .n) i s (stateOf b₀) (shapeOf b₀ .p) (λ x g. within-read b₀ .column Own s x g))
+    where
+      half : {m : ℕ} → k ≡ 2 * m → k / 2 ≡ m
+      half e = omega arith

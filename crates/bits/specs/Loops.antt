@@ -6,10 +6,11 @@ use mathlib.Core.Bool.{Bool, true, false, cond, _&&_, _||_}
 use mathlib.Core.List.{List}
 use lib.Dec.{eqb}
 use Rattle.matrix.specs.declared.Name.{Name}
+use Rattle.matrix.specs.declared.Shape.{Shape}
 use Rattle.matrix.specs.Bounded.{any}
 use Rattle.matrix.specs.Names.{sameName, nameOf, columnOf, named}
 use Rattle.matrix.specs.State.{State, has, isCell, clear}
-use Rattle.matrix.specs.Shape.{Shape, shapeOf}
+use Rattle.matrix.specs.Shape.{shapeOf, columns}
 use Rattle.matrix.specs.Reading.{setCell, stateOf}
 use Rattle.matrix.specs.Shaped.{Within}
 use Rattle.matrix.specs.Changes.{inColumn}
@@ -87,33 +88,33 @@ clear-none : (f : ℕ → Name → Bool) (S : State) → ((w : ℕ) (x : Name) �
 clear-none f S h = same-state S (clear f S) refl (λ y w x. sym (has-clear f S y w x ∙ ap (λ (t : Bool). cond t false (has S y w x)) (h w x)))
 
 -- one more cell becomes 0
-cleared-more : {b₀ b b′ : List ℕ} {n p r c : ℕ} (f g : ℕ → Name → Bool) → Became b₀ b (clear f (stateOf b₀)) → Cell b n p r c
-    → b′ ≡ setCell b r c 0 → ((w : ℕ) (x : Name) → (f w x || isCell r (nameOf n c) w x) ≡ g w x) → Became b₀ b′ (clear g (stateOf b₀))
-cleared-more {b₀} {n = n} {r = r} {c = c} f g h l e s =
-    became-as (became-then (clear (λ w x. isCell r (nameOf n c) w x)) h (became-clear l e))
-    (clear-clear f (λ w x. isCell r (nameOf n c) w x) (stateOf b₀)
-    ∙ clear-same (λ w x. f w x || isCell r (nameOf n c) w x) g (stateOf b₀) s)
+cleared-more : {b₀ b b′ : List ℕ} {k : Shape} {r c : ℕ} (f g : ℕ → Name → Bool) → Became b₀ b (clear f (stateOf b₀)) → Cell b k r c
+    → b′ ≡ setCell b r c 0 → ((w : ℕ) (x : Name) → (f w x || isCell r (nameOf (k .n) c) w x) ≡ g w x) → Became b₀ b′ (clear g (stateOf b₀))
+cleared-more {b₀} {k = k} {r = r} {c = c} f g h l e s =
+    became-as (became-then (clear (λ w x. isCell r (nameOf (k .n) c) w x)) h (became-clear l e))
+    (clear-clear f (λ w x. isCell r (nameOf (k .n) c) w x) (stateOf b₀)
+    ∙ clear-same (λ w x. f w x || isCell r (nameOf (k .n) c) w x) g (stateOf b₀) s)
 
 -- all the record's cells that are named are cleared
-cleared-all : {b₀ b : List ℕ} {n p : ℕ} (f g : ℕ → Name → Bool) → Station b₀ n p → Became b₀ b (clear f (stateOf b₀))
-    → ((w : ℕ) (x : Name) → w < n → named n p x ≡ true → f w x ≡ g w x) → Became b₀ b (clear g (stateOf b₀))
+cleared-all : {b₀ b : List ℕ} {k : Shape} (f g : ℕ → Name → Bool) → Station b₀ k → Became b₀ b (clear f (stateOf b₀))
+    → ((w : ℕ) (x : Name) → w < k .n → named (k .n) (k .p) x ≡ true → f w x ≡ g w x) → Became b₀ b (clear g (stateOf b₀))
 cleared-all {b₀} f g s h e =
     became-as h
     (clear-within (shapeOf b₀) f g (stateOf b₀) (within-read b₀)
-    (λ w x l k. e w x (rw (s .subjects) l) (rw (s .subjects, s .plains) k)))
+    (λ w x l k. e w x (rw (s .shape) l) (rw (s .shape) k)))
 
 -- a column, from row 0 on
-module _ {b₀ : List ℕ} {n p : ℕ} (c : ℕ) where
-  pub column-none : Station b₀ n p → Became b₀ b₀ (clear (columnPart n c 0) (stateOf b₀))
+module _ {b₀ : List ℕ} {f : Shape} (c : ℕ) where
+  pub column-none : Station b₀ f → Became b₀ b₀ (clear (columnPart (f .n) c 0) (stateOf b₀))
   column-none s =
       became-as (became-same s)
-      (clear-none (columnPart n c 0) (stateOf b₀) (λ w x. ap (λ (t : Bool). t && sameName x (nameOf n c)) (rows-none w)))
+      (clear-none (columnPart (f .n) c 0) (stateOf b₀) (λ w x. ap (λ (t : Bool). t && sameName x (nameOf (f .n) c)) (rows-none w)))
 
-  pub column-next : {b b′ : List ℕ} {r : ℕ} → Became b₀ b (clear (columnPart n c r) (stateOf b₀)) → Cell b n p r c → b′ ≡ setCell b r c 0
-      → Became b₀ b′ (clear (columnPart n c (r + 1)) (stateOf b₀))
+  pub column-next : {b b′ : List ℕ} {r : ℕ} → Became b₀ b (clear (columnPart (f .n) c r) (stateOf b₀)) → Cell b f r c → b′ ≡ setCell b r c 0
+      → Became b₀ b′ (clear (columnPart (f .n) c (r + 1)) (stateOf b₀))
   column-next {r = r} h l e =
-      cleared-more (columnPart n c r) (columnPart n c (r + 1)) h l e
-      (λ w x. by (firstRows r w) (eqb w r) (sameName x (nameOf n c)) ∙ ap (λ (t : Bool). t && sameName x (nameOf n c)) (sym (rows-next r w)))
+      cleared-more (columnPart (f .n) c r) (columnPart (f .n) c (r + 1)) h l e
+      (λ w x. by (firstRows r w) (eqb w r) (sameName x (nameOf (f .n) c)) ∙ ap (λ (t : Bool). t && sameName x (nameOf (f .n) c)) (sym (rows-next r w)))
     where
       by : (t u a : Bool) → (t && a || a && u) ≡ ((t || u) && a)
       by true u true = refl
@@ -123,28 +124,28 @@ module _ {b₀ : List ℕ} {n p : ℕ} (c : ℕ) where
       by false true false = refl
       by false false false = refl
 
-  pub column-all : {b : List ℕ} {r : ℕ} → Station b₀ n p → r ≡ n → Became b₀ b (clear (columnPart n c r) (stateOf b₀))
-      → Became b₀ b (clear (inColumn (nameOf n c)) (stateOf b₀))
+  pub column-all : {b : List ℕ} {r : ℕ} → Station b₀ f → r ≡ f .n → Became b₀ b (clear (columnPart (f .n) c r) (stateOf b₀))
+      → Became b₀ b (clear (inColumn (nameOf (f .n) c)) (stateOf b₀))
   column-all {r = r} s e h =
-      cleared-all (columnPart n c r) (inColumn (nameOf n c)) s h
-      (λ w x l k. ap (λ (t : Bool). t && sameName x (nameOf n c)) (ap (λ (m : ℕ). firstRows m w) e ∙ rows-all n w l))
+      cleared-all (columnPart (f .n) c r) (inColumn (nameOf (f .n) c)) s h
+      (λ w x l k. ap (λ (t : Bool). t && sameName x (nameOf (f .n) c)) (ap (λ (m : ℕ). firstRows m w) e ∙ rows-all (f .n) w l))
 
 -- a row, from column 0 on
-module _ {b₀ : List ℕ} {n p : ℕ} (r : ℕ) where
-  pub row-none : Station b₀ n p → Became b₀ b₀ (clear (rowPart n r 0) (stateOf b₀))
+module _ {b₀ : List ℕ} {f : Shape} (r : ℕ) where
+  pub row-none : Station b₀ f → Became b₀ b₀ (clear (rowPart (f .n) r 0) (stateOf b₀))
   row-none s =
       became-as (became-same s)
-      (clear-none (rowPart n r 0) (stateOf b₀) (λ w x. ap (λ (t : Bool). eqb w r && t) (columns-none n x) ∙ by (eqb w r)))
+      (clear-none (rowPart (f .n) r 0) (stateOf b₀) (λ w x. ap (λ (t : Bool). eqb w r && t) (columns-none (f .n) x) ∙ by (eqb w r)))
     where
       by : (t : Bool) → (t && false) ≡ false
       by true = refl
       by false = refl
 
-  pub row-next : {b b′ : List ℕ} {c : ℕ} → Became b₀ b (clear (rowPart n r c) (stateOf b₀)) → Cell b n p r c → b′ ≡ setCell b r c 0
-      → Became b₀ b′ (clear (rowPart n r (c + 1)) (stateOf b₀))
+  pub row-next : {b b′ : List ℕ} {c : ℕ} → Became b₀ b (clear (rowPart (f .n) r c) (stateOf b₀)) → Cell b f r c → b′ ≡ setCell b r c 0
+      → Became b₀ b′ (clear (rowPart (f .n) r (c + 1)) (stateOf b₀))
   row-next {c = c} h l e =
-      cleared-more (rowPart n r c) (rowPart n r (c + 1)) h l e
-      (λ w x. by (eqb w r) (firstColumns n c x) (sameName x (nameOf n c)) ∙ ap (λ (t : Bool). eqb w r && t) (sym (columns-next n c x)))
+      cleared-more (rowPart (f .n) r c) (rowPart (f .n) r (c + 1)) h l e
+      (λ w x. by (eqb w r) (firstColumns (f .n) c x) (sameName x (nameOf (f .n) c)) ∙ ap (λ (t : Bool). eqb w r && t) (sym (columns-next (f .n) c x)))
     where
       by : (t u a : Bool) → (t && u || a && t) ≡ (t && (u || a))
       by true true a = refl
@@ -153,11 +154,11 @@ module _ {b₀ : List ℕ} {n p : ℕ} (r : ℕ) where
       by false u true = refl
       by false u false = refl
 
-  pub row-all : {b : List ℕ} {c : ℕ} → Station b₀ n p → c ≡ n + p → Became b₀ b (clear (rowPart n r c) (stateOf b₀))
+  pub row-all : {b : List ℕ} {c : ℕ} → Station b₀ f → c ≡ columns f → Became b₀ b (clear (rowPart (f .n) r c) (stateOf b₀))
       → Became b₀ b (clear (inRow r) (stateOf b₀))
   row-all {c = c} s e h =
-      cleared-all (rowPart n r c) (inRow r) s h
-      (λ w x l k. ap (λ (t : Bool). eqb w r && t) (ap (λ (m : ℕ). firstColumns n m x) e ∙ columns-all n p x k) ∙ by (eqb w r))
+      cleared-all (rowPart (f .n) r c) (inRow r) s h
+      (λ w x l k. ap (λ (t : Bool). eqb w r && t) (ap (λ (m : ℕ). firstColumns (f .n) m x) e ∙ columns-all (f .n) (f .p) x k) ∙ by (eqb w r))
     where
       by : (t : Bool) → (t && true) ≡ t
       by true = refl

@@ -1,6 +1,6 @@
 -- The number with one bit set or cleared, as the code computes it.
 use Prim.Native.Nat.{ℕ, _+_, _-_, _/_, _%_, _^_, _≤_, _<_}
-use native.Mathlib.Nat.{div-eq-of-lt}
+use native.Mathlib.Nat.{div-eq-of-lt, lt-of-lt-of-le}
 use native.Mathlib.Omega.{arith}
 use mathlib.Core.Path.{_≡_, refl, sym, _∙_}
 use mathlib.Core.Logic.{⊎-elim}
@@ -9,17 +9,19 @@ use mathlib.Core.List.{List}
 use lib.Dec.{ltb}
 use lib.Pow.{pow-mono}
 use borrow.Author.Tests.{eqb-true, ltb-true, ltb-false}
+use Rattle.matrix.specs.declared.Shape.{Shape}
 use Rattle.matrix.specs.Bytes.{bit}
-use Rattle.matrix.specs.Shape.{shapeOf}
+use Rattle.matrix.specs.Shape.{shapeOf, bitsOf}
 use Rattle.matrix.specs.Reading.{cellAt}
 use Rattle.laws.specs.Tests.{way}
 use Rattle.codec.specs.Bits.{withBit}
 use Rattle.codec.specs.Cells.{cell-below}
-use Rattle.cells.specs.Station.{Cell}
+use Rattle.codec.specs.ShapeRight.{mostBits, bits-most}
+use Rattle.cells.specs.Station.{Cell, right-shape}
 
 -- the bits of a cell are small numbers
-pub power-small : (j : ℕ) → j < 16 → 2 ^ j ≤ 65536
-power-small j h = pow-mono {i = j} {j = 16} (omega arith)
+pub power-small : (j : ℕ) → j < mostBits → 2 ^ j ≤ 2 ^ mostBits
+power-small j h = pow-mono {i = j} {j = mostBits} (omega arith)
 
 -- a number whose bit j is set has room to clear it
 pub bit-within : (j v : ℕ) {t : Bool} → t ≡ bit j v → t ≡ true → 2 ^ j ≤ v
@@ -38,7 +40,7 @@ pub with-bit-is : (j v : ℕ) {t on s u : Bool} → t ≡ bit j v → t ≡ s �
 unfolding withBit
 with-bit-is j v f h g = rw (sym f ∙ h, g) refl
 
--- a cell is a number of 16 bits
-pub cell-small : {b : List ℕ} {n p r c v : ℕ} → Cell b n p r c → v ≡ cellAt b r c → v < 65536
-unfolding shapeOf
-cell-small {b} {r = r} {c = c} h e = rw e (cell-below b r c (h .station .octets))
+-- a cell is a number of a cell's bits
+pub cell-small : {b : List ℕ} {f : Shape} {r c v : ℕ} → Cell b f r c → v ≡ cellAt b r c → v < 2 ^ mostBits
+cell-small {b} {f} {r = r} {c = c} h e =
+    rw e (lt-of-lt-of-le (cell-below b r c (h .station .octets)) (pow-mono {i = bitsOf (shapeOf b)} {j = mostBits} (rw (← h .station .shape) (bits-most f (right-shape (h .station))))))

@@ -1,5 +1,5 @@
 -- The bytes of a row that gains own: what the code stores is the cell with own, or the byte that stands there.
-use Prim.Native.Nat.{ℕ, zero, suc, _+_, _*_, _/_, _%_, _<_, max}
+use Prim.Native.Nat.{ℕ, zero, suc, _+_, _-_, _*_, _/_, _%_, _≤_, _<_, max}
 use native.Mathlib.Nat.{div-one}
 use native.Mathlib.Omega.{arith}
 use mathlib.Core.Path.{_≡_, refl, sym, _∙_, ap, ap₂}
@@ -10,14 +10,16 @@ use lib.Bits.{bitAnd, bitOr, and-mask, and-zero-r, or-zero-r, or-step}
 use lib.Dec.{eqb}
 use lib.ListN.{length, getD, set}
 use borrow.Author.Tests.{eqb-true, eqb-false}
+use Rattle.matrix.specs.declared.Shape.{Shape}
 use Rattle.matrix.specs.Bytes.{bit}
+use Rattle.matrix.specs.Shape.{columns, cellPlace}
 use Rattle.matrix.specs.Reading.{cellAt, setCell}
 use Rattle.laws.specs.Tests.{way}
 use Rattle.laws.specs.BitOps.{bit-count}
 use Rattle.codec.specs.Bits.{withBit, withBit-below, bit-low}
-use Rattle.cells.specs.Station.{Station}
-use Rattle.cells.specs.Places.{placeOf, cell-is, store-is}
-use Rattle.cells.specs.Rows.{row-within}
+use Rattle.codec.specs.ShapeRight.{mostBytes}
+use Rattle.cells.specs.Station.{Station, right-shape}
+use Rattle.cells.specs.Places.{rowBytes, place-small, place-below, cell-is, store-is}
 
 -- the byte x at place k of a row, with own where the byte y has it and place k is that of a cell's second byte
 abbrev pub ownJoined : ℕ → ℕ → ℕ → ℕ
@@ -62,34 +64,44 @@ set-same (x ∷ xs) zero = refl
 set-same (x ∷ xs) (suc i) = ap (λ (r : List ℕ). x ∷ r) (set-same xs i)
 
 -- a byte of a row stands within the record, which is not long
-pub byte-below : {b : List ℕ} {n p r k at : ℕ} → Station b n p → r < n → k < 2 * (n + p) → at ≡ placeOf n p r 0 → (at + k < length b) × (at + k < 65536)
-byte-below {n = n} {p = p} {r = r} {k = k} h row column e =
-    let w = row-within {c = k / 2} {at = placeOf n p r (k / 2) + 1} h row (omega arith) refl in
-    (omega (arith, w .0), omega (arith, w .1))
+pub byte-below : {b : List ℕ} {f : Shape} {r k at : ℕ} → Station b f → r < f .n → k < rowBytes f → at ≡ cellPlace f r 0 → (at + k < length b) × (at + k ≤ mostBytes)
+byte-below {b} {f} {r} {k} {at} h row more e =
+    let g = right-shape h in
+    let some : columns f ≡ suc (columns f - 1) = omega (arith, g .low) in
+    let last : columns f - 1 < columns f = omega (arith, g .low) in
+    let whole : cellPlace f r (columns f - 1) + f .width ≡ at + rowBytes f = row-end (f .first) (f .width) (r * columns f) (columns f - 1) e some in
+    (omega (arith, place-below b f h r (columns f - 1) row last), omega (arith, place-small f g r (columns f - 1) row last))
+  where
+    row-end : (a w x m : ℕ) {y : ℕ} → at ≡ a + w * (x + 0) → y ≡ suc m → a + w * (x + m) + w ≡ at + w * y
+    row-end a w x m d q = rw q (omega arith)
 
-module _ {b : List ℕ} {n p : ℕ} (h : Station b n p) (r c : ℕ) where
+-- the second byte of a cell, among the bytes of its row
+pub second-byte : (f : Shape) (r k : ℕ) → f .width ≡ 2 → k % 2 ≡ 1 → cellPlace f r 0 + k ≡ cellPlace f r (k / 2) + 1
+second-byte f r k e odd = rw e (omega arith)
+
+module _ {b : List ℕ} {f : Shape} (h : Station b f) (r c : ℕ) where
   abbrev high : ℕ
-  high = getD b (placeOf n p r c) 0
+  high = getD b (cellPlace f r c) 0
 
   abbrev low : ℕ
-  low = getD b (placeOf n p r c + 1) 0
+  low = getD b (cellPlace f r c + 1) 0
 
   -- own stands in the second byte
   pub own-read : bit 0 (cellAt b r c) ≡ bit 0 low
-  own-read = ap (bit 0) (cell-is b n p h r c) ∙ bit-low 0 7 high low
+  own-read = ap (bit 0) (cell-is b f h r c) ∙ bit-low 0 7 high low
 
   -- and a cell with own is stored there
-  pub own-stored : setCell b r c (withBit 0 true (cellAt b r c)) ≡ set b (placeOf n p r c + 1) (withBit 0 true low)
+  pub own-stored : setCell b r c (withBit 0 true (cellAt b r c)) ≡ set b (cellPlace f r c + 1) (withBit 0 true low)
   own-stored =
       let u = withBit 0 true low in
-      let small : u < 256 = withBit-below 8 0 true low (omega arith) (h .octets .octet (placeOf n p r c + 1)) in
-      let first : high < 256 = h .octets .octet (placeOf n p r c) in
-      let e : withBit 0 true (cellAt b r c) ≡ high * 256 + u = ap (withBit 0 true) (cell-is b n p h r c) ∙ with-high in
+      let small : u < 256 = withBit-below 8 0 true low (omega arith) (h .octets .octet (cellPlace f r c + 1)) in
+      let first : high < 256 = h .octets .octet (cellPlace f r c) in
+      let e : withBit 0 true (cellAt b r c) ≡ high * 256 + u = ap (withBit 0 true) (cell-is b f h r c) ∙ with-high in
       let q : (high * 256 + u) / 256 % 256 ≡ high = omega arith in
       let m : (high * 256 + u) % 256 ≡ u = omega arith in
-      ap (setCell b r c) e ∙ store-is b n p h r c (high * 256 + u)
-      ∙ ap₂ (λ (v w : ℕ). set (set b (placeOf n p r c) v) (placeOf n p r c + 1) w) q m
-      ∙ ap (λ (l : List ℕ). set l (placeOf n p r c + 1) u) (set-same b (placeOf n p r c))
+      ap (setCell b r c) e ∙ store-is b f h r c (high * 256 + u)
+      ∙ ap₂ (λ (v w : ℕ). set (set b (cellPlace f r c) v) (cellPlace f r c + 1) w) q m
+      ∙ ap (λ (l : List ℕ). set l (cellPlace f r c + 1) u) (set-same b (cellPlace f r c))
     where
       with-high : withBit 0 true (high * 256 + low) ≡ high * 256 + withBit 0 true low
       with-high = unfold withBit in rw (bit-low 0 7 high low) (by (bit 0 low))

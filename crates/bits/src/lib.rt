@@ -2,22 +2,25 @@
 
 use matrix::Name;
 use matrix::Right;
+use matrix::Shape;
 ghost use mathlib.Core.Path.{_≡_};
-ghost use Prim.Native.Nat.{_+_, _<_};
+ghost use Prim.Native.Nat.{_^_, _<_};
 ghost use Rattle.matrix.specs.Names.{nameOf};
 ghost use Rattle.matrix.specs.State.{put, clear};
+ghost use Rattle.matrix.specs.Shape.{columns};
 ghost use Rattle.matrix.specs.Reading.{stateOf};
 ghost use Rattle.matrix.specs.Changes.{inherit, inColumn};
 ghost use Rattle.codec.specs.Bits.{withBit};
+ghost use Rattle.codec.specs.ShapeRight.{mostBits};
 ghost use Rattle.cells.specs.Station.{Station, Cell};
-ghost use Rattle.states.specs.Needs.{basicOf, BitIn};
+ghost use Rattle.states.specs.Needs.{RightIn, BitIn};
 ghost use Rattle.bits.specs.Became.{Became};
 ghost use Rattle.bits.specs.Passed.{inRow};
 ghost use Rattle.bits.specs.OwnBytes.{ownJoined};
 
 // v with bit j set or cleared.
 fn with_bit(v: usize, j: usize, on: bool) -> usize
-    requires { ⌜ (v < 65536) × (j < 16) ⌝ }
+    requires { ⌜ (v < 2 ^ mostBits) × (j < mostBits) ⌝ }
     ensures { λ r. ⌜ r ≡ withBit j on v ⌝ }
 {
     if cells::bit_of(v, j) {
@@ -28,41 +31,43 @@ fn with_bit(v: usize, j: usize, on: bool) -> usize
 }
 
 // Right y is given to row w in column c, or taken from it.
-fn put_in_column(b: &mut [u8], n: usize, p: usize, y: Right, w: usize, c: usize, on: bool)
-    requires { ⌜ Cell (now b) n p w c × (basicOf y < 7) ⌝ }
-    ensures { λ _. ⌜ Became (now (b .entry)) (now (b .exit)) (put y w (nameOf n c) on (stateOf (now (b .entry)))) ⌝ }
+fn put_in_column(b: &mut [u8], f: Shape, y: Right, w: usize, c: usize, on: bool)
+    requires { ⌜ Cell (now b) f w c × RightIn f y ⌝ }
+    ensures { λ _. ⌜ Became (now (b .entry)) (now (b .exit)) (put y w (nameOf (f .n) c) on (stateOf (now (b .entry)))) ⌝ }
 {
     let j = states::code_of(y);
-    let v = with_bit(cells::cell(b, n, p, w, c), j, on);
-    cells::store(b, n, p, w, c, v);
+    let v = with_bit(cells::cell(b, f, w, c), j, on);
+    cells::store(b, f, w, c, v);
 }
 
 // Right y over x is given to row w, or taken from it.
-pub fn put_right(b: &mut [u8], n: usize, p: usize, y: Right, w: usize, x: Name, on: bool)
-    requires { ⌜ BitIn (now b) n p y w x ⌝ }
+pub fn put_right(b: &mut [u8], f: Shape, y: Right, w: usize, x: Name, on: bool)
+    requires { ⌜ BitIn (now b) f y w x ⌝ }
     ensures { λ _. ⌜ Became (now (b .entry)) (now (b .exit)) (put y w x on (stateOf (now (b .entry)))) ⌝ }
 {
     let c = states::column_of(x);
-    put_in_column(b, n, p, y, w, c, on);
+    put_in_column(b, f, y, w, c, on);
 }
 
 // Every cell of column c is cleared.
-pub fn clear_column(b: &mut [u8], n: usize, p: usize, c: usize)
-    requires { ⌜ Station (now b) n p × (c < n + p) ⌝ }
-    ensures { λ _. ⌜ Became (now (b .entry)) (now (b .exit)) (clear (inColumn (nameOf n c)) (stateOf (now (b .entry)))) ⌝ }
+pub fn clear_column(b: &mut [u8], f: Shape, c: usize)
+    requires { ⌜ Station (now b) f × (c < columns f) ⌝ }
+    ensures { λ _. ⌜ Became (now (b .entry)) (now (b .exit)) (clear (inColumn (nameOf (f .n) c)) (stateOf (now (b .entry)))) ⌝ }
 {
+    let n = f.n;
     for w in 0..n {
-        cells::store(b, n, p, w, c, 0);
+        cells::store(b, f, w, c, 0);
     }
 }
 
 // Every cell of row r is cleared.
-pub fn clear_row(b: &mut [u8], n: usize, p: usize, r: usize)
-    requires { ⌜ Station (now b) n p × (r < n) ⌝ }
+pub fn clear_row(b: &mut [u8], f: Shape, r: usize)
+    requires { ⌜ Station (now b) f × (r < f .n) ⌝ }
     ensures { λ _. ⌜ Became (now (b .entry)) (now (b .exit)) (clear (inRow r) (stateOf (now (b .entry)))) ⌝ }
 {
-    for c in 0..n + p {
-        cells::store(b, n, p, r, c, 0);
+    let all = cells::columns_of(f);
+    for c in 0..all {
+        cells::store(b, f, r, c, 0);
     }
 }
 
@@ -74,13 +79,14 @@ fn own_joined(x: u8, y: u8, k: usize) -> u8
 }
 
 // Row i gains own over all that row s owns. The rows are taken byte by byte as they lie, so that the compiler may take many at once.
-pub fn inherit_own(b: &mut [u8], n: usize, p: usize, i: usize, s: usize)
-    requires { ⌜ Station (now b) n p × (i < n) × (s < n) ⌝ }
+pub fn inherit_own(b: &mut [u8], f: Shape, i: usize, s: usize)
+    requires { ⌜ Station (now b) f × (i < f .n) × (s < f .n) ⌝ }
     ensures { λ _. ⌜ Became (now (b .entry)) (now (b .exit)) (inherit i s (stateOf (now (b .entry)))) ⌝ }
 {
-    let to = cells::place(n, p, i, 0);
-    let from = cells::place(n, p, s, 0);
-    for k in 0..2 * (n + p) {
+    let to = cells::place(f, i, 0);
+    let from = cells::place(f, s, 0);
+    let bytes = cells::row_bytes(f);
+    for k in 0..bytes {
         b[to + k] = own_joined(b[to + k], b[from + k], k);
     }
 }

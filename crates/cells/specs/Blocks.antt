@@ -1,20 +1,19 @@
 -- Blocks of four rows, whose bytes in a column are tested together.
 use Prim.Native.Nat.{ℕ, _+_, _*_, _/_, _%_, _<_}
-use native.Mathlib.Nat.{add-mul, mul-left-comm}
 use native.Mathlib.Omega.{arith}
 use mathlib.Core.Path.{_≡_, sym, _∙_, ap, ap₂, subst}
 use mathlib.Core.Bool.{Bool, false, _||_}
 use mathlib.Core.List.{List}
 use lib.Bits.{bitOr}
 use lib.ListN.{getD}
+use Rattle.matrix.specs.declared.Shape.{Shape}
 use Rattle.matrix.specs.Bounded.{any}
 use Rattle.matrix.specs.Bytes.{bit}
 use Rattle.matrix.specs.Reading.{cellAt}
 use Rattle.laws.specs.BitOps.{bit-or}
 use Rattle.laws.specs.Bounded.{any-none, any-same}
 use Rattle.cells.specs.Station.{Station}
-use Rattle.cells.specs.Places.{placeOf, cell-is}
-use Rattle.cells.specs.Rows.{low-bit}
+use Rattle.cells.specs.Places.{rowBytes, lowPlace, low-apart, low-bit}
 
 -- one of the four rows of block q has bit j in column c
 unfoldable pub blockHas : List ℕ → ℕ → ℕ → ℕ → Bool
@@ -33,24 +32,17 @@ one-joined b j at stride =
     ∙ ap (λ (t : Bool). t || bit j (getD b (at + 2 * stride) 0))
     (bit-or j (getD b at 0) (getD b (at + stride) 0) ∙ ap₂ (λ (x y : ℕ). bit j (getD b x 0) || bit j (getD b y 0)) e f))
 
--- the low bytes of a block's cells stand a row apart
-pub block-place : (n p q c i : ℕ) → placeOf n p (4 * q) c + 1 + i * (2 * (n + p)) ≡ placeOf n p (4 * q + i) c + 1
-block-place n p q c i =
-    let e : (4 * q + i) * (n + p) ≡ 4 * q * (n + p) + i * (n + p) = add-mul (4 * q) i (n + p) in
-    let d : i * (2 * (n + p)) ≡ 2 * (i * (n + p)) = mul-left-comm i 2 (n + p) in
-    omega arith
-
--- the answer t of the test of bit j in those bytes, the first of them at the place `at`
-pub block-tested : {b : List ℕ} {n p j at : ℕ} {t : Bool} (c q : ℕ) → Station b n p → j < 8 → at ≡ placeOf n p (4 * q) c + 1
-    → t ≡ any 4 (λ i. bit j (getD b (at + i * (2 * (n + p))) 0)) → blockHas b c j q ≡ t
+-- the answer t of the test of bit j in the lowest bytes of the block's cells, the first of them at the place `at`
+pub block-tested : {b : List ℕ} {f : Shape} {j at : ℕ} {t : Bool} (c q : ℕ) → Station b f → j < 8 → at ≡ lowPlace f (4 * q) c
+    → t ≡ any 4 (λ i. bit j (getD b (at + i * rowBytes f) 0)) → blockHas b c j q ≡ t
 unfolding blockHas
-block-tested {b} {n} {p} {j} {at} c q s k e f =
-    any-same 4 (λ i. bit j (cellAt b (4 * q + i) c)) (λ i. bit j (getD b (at + i * (2 * (n + p))) 0)) each ∙ sym f
+block-tested {b} {f} {j} {at} c q s k e g =
+    any-same 4 (λ i. bit j (cellAt b (4 * q + i) c)) (λ i. bit j (getD b (at + i * rowBytes f) 0)) each ∙ sym g
   where
-    each : (i : ℕ) → i < 4 → bit j (cellAt b (4 * q + i) c) ≡ bit j (getD b (at + i * (2 * (n + p))) 0)
+    each : (i : ℕ) → i < 4 → bit j (cellAt b (4 * q + i) c) ≡ bit j (getD b (at + i * rowBytes f) 0)
     each i l =
-        ap (bit j) (cell-is b n p s (4 * q + i) c) ∙ low-bit j _ (getD b (placeOf n p (4 * q + i) c + 1) 0) k
-        ∙ ap (λ (x : ℕ). bit j (getD b x 0)) (sym (ap (λ (x : ℕ). x + i * (2 * (n + p))) e ∙ block-place n p q c i))
+        low-bit b f s j (4 * q + i) c k
+        ∙ ap (λ (x : ℕ). bit j (getD b x 0)) (sym (ap (λ (x : ℕ). x + i * rowBytes f) e ∙ low-apart f (4 * q) i c))
 
 -- where no block below q has the bit, no row of theirs has it
 pub blocks-clear : (b : List ℕ) (c j q : ℕ) → any q (blockHas b c j) ≡ false → (r : ℕ) → r < 4 * q → bit j (cellAt b r c) ≡ false

@@ -1,59 +1,95 @@
--- Where the cells of a record stand, in numbers: what the code computes is what the definitions say.
-use Prim.Native.Nat.{ℕ, _+_, _*_, _/_, _%_, _≤_, _<_}
-use native.Mathlib.Nat.{add-zero, zero-add, add-mul, le-trans, mul-le-mul-left, mul-le-mul-right}
+-- Where the cells of a record stand, in numbers: what the code computes is what the definitions say. That a cell has two bytes is known here
+-- alone, where they are read and stored.
+use Prim.Native.Nat.{ℕ, suc, _+_, _-_, _*_, _/_, _%_, _^_, _≤_, _<_}
+use native.Mathlib.Nat.{add-zero, zero-add, le-trans, mul-le-mul, mul-le-mul-right}
 use native.Mathlib.Omega.{arith}
-use mathlib.Core.Path.{_≡_, refl, sym, _∙_, ap₂, subst}
+use mathlib.Core.Path.{_≡_, refl, sym, _∙_, ap, ap₂, subst}
 use mathlib.Core.List.{List}
 use lib.ListN.{length, getD, set}
-use lib.Arith.{digits-lt}
-use Rattle.matrix.specs.Bytes.{numberAt, setNumber}
-use Rattle.matrix.specs.Shape.{shapeOf}
+use Rattle.matrix.specs.declared.Shape.{Shape}
+use Rattle.matrix.specs.Bytes.{numberAt, setNumber, bit}
+use Rattle.matrix.specs.Shape.{mostSubjects, mostPlain, columns, cellPlace, sizeOf}
 use Rattle.matrix.specs.Reading.{cellAt, setCell}
-use Rattle.cells.specs.Station.{Station}
+use Rattle.codec.specs.Bits.{bit-low}
+use Rattle.codec.specs.ShapeRight.{ShapeRight, mostWidth, mostBytes, width-some, width-most, size-most}
+use Rattle.codec.specs.Cells.{place-inside}
+use Rattle.cells.specs.Station.{Station, right-shape}
 
--- the place of a cell in a record of n subject names and p plain names
-abbrev pub placeOf : ℕ → ℕ → ℕ → ℕ → ℕ
-placeOf n p r c = 7 + 2 * (r * (n + p) + c)
+-- the bytes of a row, and the place of a cell's lowest byte, which is its last
+abbrev pub rowBytes : Shape → ℕ
+rowBytes f = f .width * columns f
 
--- a column's cells stand a row apart
-pub place-next : (n p r c : ℕ) → placeOf n p (r + 1) c ≡ placeOf n p r c + 2 * (n + p)
-place-next n p r c = let e : (r + 1) * (n + p) ≡ r * (n + p) + (n + p) = omega (arith, add-mul r 1 (n + p)) in omega arith
+abbrev pub lowPlace : Shape → ℕ → ℕ → ℕ
+lowPlace f r c = cellPlace f r c + (f .width - 1)
 
--- a cell's number among the cells of n rows of m is below n * m
-pub cell-index : {n m r c : ℕ} → r < n → c < m → r * m + c < n * m
-cell-index = digits-lt
+-- bits 0 to 7 of a number are those of its lowest byte
+low-byte : (j high low : ℕ) → j < 8 → bit j (high * 256 + low) ≡ bit j low
+low-byte j high low h =
+    let e : suc (7 - j) + j ≡ 8 = omega arith in
+    subst (λ (m : ℕ). bit j (high * 2 ^ m + low) ≡ bit j low) e (bit-low j (7 - j) high low)
 
-pub few-cells : {n m : ℕ} → n ≤ 64 → m ≤ 256 → n * m ≤ 16384
-few-cells {n} {m} h k = le-trans (mul-le-mul-right m h) (mul-le-mul-left 64 k)
+-- a column's cells stand a row apart: the place `at` that is come to from the first row's, row by row
+pub low-apart : (f : Shape) (r i c : ℕ) → lowPlace f r c + i * rowBytes f ≡ lowPlace f (r + i) c
+low-apart f r i c = omega arith
 
-pub index-small : (n p r c : ℕ) → n < 65 → p < 193 → r < n → c < n + p → r * (n + p) + c < 16384
-index-small n p r c hn hp hr hc =
-    let a : r * (n + p) + c < n * (n + p) = cell-index hr hc in
-    let e : n * (n + p) ≤ 16384 = few-cells {n = n} {m = n + p} (omega arith) (omega arith) in
-    omega arith
+pub low-reached : {at from stride : ℕ} (f : Shape) (r c : ℕ) → from ≡ lowPlace f 0 c → stride ≡ rowBytes f → at ≡ from + r * stride → at ≡ lowPlace f r c
+low-reached f r c e g h = h ∙ ap₂ (λ (x y : ℕ). x + r * y) e g ∙ low-apart f 0 r c ∙ ap (λ (i : ℕ). lowPlace f i c) (zero-add r)
 
-module _ (b : List ℕ) (n p : ℕ) (h : Station b n p) where
-  pub subjects-few : n ≤ 64
-  subjects-few = subst (λ (x : ℕ). x ≤ 64) (sym (h .subjects)) (h .shaped .high)
+-- the numbers that the code computes on its way to a cell of a right shape, and those of the next row, are small
+module _ (f : Shape) (g : ShapeRight f) where
+  pub row-small : rowBytes f ≤ mostBytes
+  row-small = less (mul-le-mul (width-most f g) columns-most)
+    where
+      columns-most : f .n + f .p ≤ mostSubjects + mostPlain
+      columns-most = omega arith
 
-  pub plains-few : p ≤ 192
-  plains-few = subst (λ (x : ℕ). x ≤ 192) (sym (h .plains)) (h .shaped .plain)
+      less : {x : ℕ} → x ≤ mostWidth * (mostSubjects + mostPlain) → x ≤ mostBytes
+      less h = omega arith
 
-  pub length-is : length b ≡ 7 + 2 * (n * (n + p))
-  unfolding shapeOf
-  length-is = h .shaped .size ∙ ap₂ (λ (x y : ℕ). 7 + 2 * (x * (x + y))) (sym (h .subjects)) (sym (h .plains))
+  pub place-small : (r c : ℕ) → r < f .n → c < columns f → cellPlace f r c + f .width ≤ mostBytes
+  place-small r c hr hc = le-trans (place-inside f r c hr hc) (size-most f g)
 
-  pub place-below : (r c : ℕ) → r < n → c < n + p → placeOf n p r c + 1 < length b
-  place-below r c hr hc =
-      let i : r * (n + p) + c < n * (n + p) = cell-index hr hc in
-      let l : length b ≡ 7 + 2 * (n * (n + p)) = length-is in
-      omega arith
+  pub index-small : (r c : ℕ) → r < f .n → c < columns f → r * columns f + c ≤ mostBytes
+  index-small r c hr hc = at-most (f .width) (r * columns f + c) (width-some f g) (place-small r c hr hc)
+    where
+      at-most : (w x : ℕ) → 1 ≤ w → f .first + w * x + f .width ≤ mostBytes → x ≤ mostBytes
+      at-most w x h l = omega (arith, mul-le-mul-right x h)
+
+module _ (b : List ℕ) (f : Shape) (h : Station b f) where
+  -- a cell stands within the record
+  pub place-below : (r c : ℕ) → r < f .n → c < columns f → cellPlace f r c + f .width ≤ length b
+  place-below r c hr hc = subst (λ (m : ℕ). cellPlace f r c + f .width ≤ m) size (place-inside f r c hr hc)
+    where
+      size : sizeOf f ≡ length b
+      size = ap sizeOf (h .shape) ∙ sym (h .shaped .size)
+
+  -- and is the number there
+  cell-number : (r c : ℕ) → cellAt b r c ≡ numberAt b (cellPlace f r c) (f .width)
+  unfolding cellAt
+  cell-number r c = ap (λ (e : Shape). numberAt b (cellPlace e r c) (e .width)) (sym (h .shape))
+
+  -- bits 0 to 7 of a cell are those of its lowest byte
+  pub low-bit : (j r c : ℕ) → j < 8 → bit j (cellAt b r c) ≡ bit j (getD b (lowPlace f r c) 0)
+  low-bit j r c l = ap (bit j) (cell-number r c ∙ ap (numberAt b (cellPlace f r c)) more) ∙ last (cellPlace f r c) (f .width - 1)
+    where
+      more : f .width ≡ suc (f .width - 1)
+      more = omega (arith, width-some f (right-shape h))
+
+      last : (at w : ℕ) → bit j (numberAt b at (suc w)) ≡ bit j (getD b (at + w) 0)
+      last at w = unfold numberAt in low-byte j (numberAt b at w) (getD b (at + w) 0) l
 
   -- the cell's two bytes, read and stored
-  pub cell-is : (r c : ℕ) → cellAt b r c ≡ getD b (placeOf n p r c) 0 * 256 + getD b (placeOf n p r c + 1) 0
-  unfolding cellAt shapeOf numberAt
-  cell-is r c = rw (h .subjects, h .plains, add-zero) (simp zero-add)
+  pub cell-is : (r c : ℕ) → cellAt b r c ≡ getD b (cellPlace f r c) 0 * 256 + getD b (cellPlace f r c + 1) 0
+  cell-is r c = cell-number r c ∙ ap (numberAt b (cellPlace f r c)) (right-shape h .width) ∙ two (cellPlace f r c)
+    where
+      two : (at : ℕ) → numberAt b at 2 ≡ getD b at 0 * 256 + getD b (at + 1) 0
+      two at = unfold numberAt in rw add-zero (simp zero-add)
 
-  pub store-is : (r c v : ℕ) → setCell b r c v ≡ set (set b (placeOf n p r c) (v / 256 % 256)) (placeOf n p r c + 1) (v % 256)
-  unfolding setCell shapeOf setNumber
-  store-is r c v = rw (h .subjects, h .plains, add-zero) refl
+  pub store-is : (r c v : ℕ) → setCell b r c v ≡ set (set b (cellPlace f r c) (v / 256 % 256)) (cellPlace f r c + 1) (v % 256)
+  unfolding setCell
+  store-is r c v =
+      ap (λ (e : Shape). setNumber b (cellPlace e r c) (e .width) v) (sym (h .shape))
+      ∙ ap (λ (w : ℕ). setNumber b (cellPlace f r c) w v) (right-shape h .width) ∙ two (cellPlace f r c)
+    where
+      two : (at : ℕ) → setNumber b at 2 v ≡ set (set b at (v / 256 % 256)) (at + 1) (v % 256)
+      two at = unfold setNumber in rw add-zero refl

@@ -1,5 +1,6 @@
-// The cells of a record's bytes: reading one, storing one, and the searches over the rows of a column.
+// The cells of a record's bytes: where one stands, reading and storing one, and the searches over the rows of a column.
 
+use matrix::Shape;
 ghost use mathlib.Core.Path.{_≡_};
 ghost use mathlib.Core.Bool.{cond};
 ghost use Prim.Native.Nat.{_+_, _*_, _/_, _<_};
@@ -7,57 +8,99 @@ ghost use lib.Dec.{eqb};
 ghost use lib.ListN.{length, getD};
 ghost use Rattle.matrix.specs.Bounded.{any, least};
 ghost use Rattle.matrix.specs.Bytes.{bit};
+ghost use Rattle.matrix.specs.Shape.{columns, bitsOf, basicsOf, cellPlace};
 ghost use Rattle.matrix.specs.Reading.{cellAt, setCell};
+ghost use Rattle.codec.specs.Bits.{wordBits};
+ghost use Rattle.codec.specs.ShapeRight.{ShapeRight};
 ghost use Rattle.cells.specs.Station.{Cell, Station};
-ghost use Rattle.cells.specs.Places.{placeOf};
+ghost use Rattle.cells.specs.Places.{rowBytes, lowPlace};
 ghost use Rattle.cells.specs.Rows.{rowHas};
 ghost use Rattle.cells.specs.Blocks.{blockHas};
 
-// The place of the first byte of the cell of row r and column c.
-pub fn place(n: usize, p: usize, r: usize, c: usize) -> usize
-    requires { ⌜ (n < 65) × (p < 193) × (r < n) × (c < n + p) ⌝ }
-    ensures { λ x. ⌜ x ≡ placeOf n p r c ⌝ }
+// The number of columns, the bits of a cell, and the number of basic rights that they have room for.
+pub fn columns_of(f: Shape) -> usize
+    requires { ⌜ ShapeRight f ⌝ }
+    ensures { λ m. ⌜ m ≡ columns f ⌝ }
 {
-    7 + 2 * (r * (n + p) + c)
+    f.n + f.p
+}
+
+pub fn bits_of(f: Shape) -> usize
+    requires { ⌜ ShapeRight f ⌝ }
+    ensures { λ m. ⌜ m ≡ bitsOf f ⌝ }
+{
+    8 * f.width
+}
+
+pub fn basics_of(f: Shape) -> usize
+    requires { ⌜ ShapeRight f ⌝ }
+    ensures { λ m. ⌜ m ≡ basicsOf f ⌝ }
+{
+    4 * f.width - 1
+}
+
+// The bytes of a row.
+pub fn row_bytes(f: Shape) -> usize
+    requires { ⌜ ShapeRight f ⌝ }
+    ensures { λ x. ⌜ x ≡ rowBytes f ⌝ }
+{
+    f.width * (f.n + f.p)
+}
+
+// The place of the first byte of the cell of row r and column c.
+pub fn place(f: Shape, r: usize, c: usize) -> usize
+    requires { ⌜ ShapeRight f × (r < f .n) × (c < columns f) ⌝ }
+    ensures { λ x. ⌜ x ≡ cellPlace f r c ⌝ }
+{
+    f.first + f.width * (r * (f.n + f.p) + c)
+}
+
+// The place of the lowest byte of the first row's cell in column c.
+fn low_place(f: Shape, c: usize) -> usize
+    requires { ⌜ ShapeRight f × (c < columns f) ⌝ }
+    ensures { λ x. ⌜ x ≡ lowPlace f 0 c ⌝ }
+{
+    place(f, 0, c) + (f.width - 1)
 }
 
 // The cell of row r and column c.
-pub fn cell(b: &[u8], n: usize, p: usize, r: usize, c: usize) -> usize
-    requires { ⌜ Cell (now b) n p r c ⌝ }
+pub fn cell(b: &[u8], f: Shape, r: usize, c: usize) -> usize
+    requires { ⌜ Cell (now b) f r c ⌝ }
     ensures { λ v. ⌜ v ≡ cellAt (now (b .entry)) r c ⌝ }
 {
-    let at = place(n, p, r, c);
+    let at = place(f, r, c);
     let high = b[at] as usize;
     let low = b[at + 1] as usize;
     high * 256 + low
 }
 
 // The cell of row r and column c becomes v.
-pub fn store(b: &mut [u8], n: usize, p: usize, r: usize, c: usize, v: usize)
-    requires { ⌜ Cell (now b) n p r c ⌝ }
+pub fn store(b: &mut [u8], f: Shape, r: usize, c: usize, v: usize)
+    requires { ⌜ Cell (now b) f r c ⌝ }
     ensures { λ _. ⌜ now (b .exit) ≡ setCell (now (b .entry)) r c v ⌝ }
 {
-    let at = place(n, p, r, c);
+    let at = place(f, r, c);
     b[at] = (v / 256 % 256) as u8;
     b[at + 1] = (v % 256) as u8;
 }
 
 // Whether bit j of v is set.
 pub fn bit_of(v: usize, j: usize) -> bool
-    requires { ⌜ j < 64 ⌝ }
+    requires { ⌜ j < wordBits ⌝ }
     ensures { λ t. ⌜ t ≡ bit j v ⌝ }
 {
     (v >> j) % 2 == 1
 }
 
-// The lowest row that has bit j in column c, or n if there is none. Bits 0 to 7 stand in a cell's low byte, so that alone is read; `at` is
+// The lowest row that has bit j in column c, or n if there is none. Bits 0 to 7 stand in a cell's lowest byte, so that alone is read; `at` is
 // its place in row r.
-pub fn first_row(b: &[u8], n: usize, p: usize, c: usize, j: usize) -> usize
-    requires { ⌜ Station (now b) n p × (c < n + p) × (j < 8) ⌝ }
-    ensures { λ w. ⌜ w ≡ least n (rowHas (now (b .entry)) c j n) ⌝ }
+pub fn first_row(b: &[u8], f: Shape, c: usize, j: usize) -> usize
+    requires { ⌜ Station (now b) f × (c < columns f) × (j < 8) ⌝ }
+    ensures { λ w. ⌜ w ≡ least (f .n) (rowHas (now (b .entry)) c j (f .n)) ⌝ }
 {
-    let stride = 2 * (n + p);
-    let mut at = 8 + 2 * c;
+    let n = f.n;
+    let stride = row_bytes(f);
+    let mut at = low_place(f, c);
     for r in 0..n {
         if bit_of(b[at] as usize, j) {
             return r;
@@ -74,13 +117,14 @@ fn unless_skipped(v: usize, r: usize, skip: usize) -> usize
     if r == skip { 0 } else { v }
 }
 
-// Whether a row but `skip` has bit j in column c. It reads the low bytes of all rows, without a branch, and asks at the end.
-pub fn some_row(b: &[u8], n: usize, p: usize, c: usize, j: usize, skip: usize) -> bool
-    requires { ⌜ Station (now b) n p × (c < n + p) × (j < 8) ⌝ }
-    ensures { λ t. ⌜ t ≡ any n (rowHas (now (b .entry)) c j skip) ⌝ }
+// Whether a row but `skip` has bit j in column c. It reads the lowest bytes of all rows, without a branch, and asks at the end.
+pub fn some_row(b: &[u8], f: Shape, c: usize, j: usize, skip: usize) -> bool
+    requires { ⌜ Station (now b) f × (c < columns f) × (j < 8) ⌝ }
+    ensures { λ t. ⌜ t ≡ any (f .n) (rowHas (now (b .entry)) c j skip) ⌝ }
 {
-    let stride = 2 * (n + p);
-    let mut low = 8 + 2 * c;
+    let n = f.n;
+    let stride = row_bytes(f);
+    let mut low = low_place(f, c);
     let mut seen = 0;
     for r in 0..n {
         seen = seen | unless_skipped(b[low] as usize, r, skip);
@@ -99,14 +143,14 @@ fn one_of_four(b: &[u8], at: usize, stride: usize, j: usize) -> bool
 }
 
 // The lowest block of four rows of which one has bit j, of 0 to 7, in column c, or the number of whole blocks if there is none. The rows of
-// block q are 4 q to 4 q + 3; their low bytes are tested together, the first of them at `low`.
-pub fn first_block(b: &[u8], n: usize, p: usize, c: usize, j: usize) -> usize
-    requires { ⌜ Station (now b) n p × (c < n + p) × (j < 8) ⌝ }
-    ensures { λ q. ⌜ q ≡ least (n / 4) (blockHas (now (b .entry)) c j) ⌝ }
+// block q are 4 q to 4 q + 3; their lowest bytes are tested together, the first of them at `low`.
+pub fn first_block(b: &[u8], f: Shape, c: usize, j: usize) -> usize
+    requires { ⌜ Station (now b) f × (c < columns f) × (j < 8) ⌝ }
+    ensures { λ q. ⌜ q ≡ least (f .n / 4) (blockHas (now (b .entry)) c j) ⌝ }
 {
-    let stride = 2 * (n + p);
-    let blocks = n / 4;
-    let mut low = 8 + 2 * c;
+    let stride = row_bytes(f);
+    let blocks = f.n / 4;
+    let mut low = low_place(f, c);
     for q in 0..blocks {
         if one_of_four(b, low, stride, j) {
             return q;

@@ -10,13 +10,13 @@ use borrow.Author.Tests.{eqb-true, ltb-true}
 use Rattle.matrix.specs.declared.Name.{Name}
 use Rattle.matrix.specs.declared.Name.the-variants.{Subject}
 use Rattle.matrix.specs.declared.Right.the-variants.{Own}
+use Rattle.matrix.specs.declared.Shape.{Shape}
 use Rattle.matrix.specs.Names.{sameName, columnOf}
 use Rattle.matrix.specs.State.{State, exists, existsName, clear}
 use Rattle.matrix.specs.Owners.{Above, owner, higher, walk, meets}
 use Rattle.matrix.specs.Valid.{Valid}
 use Rattle.matrix.specs.Changes.{inherit, inCross}
 use Rattle.matrix.specs.Tests.{otherController}
-use Rattle.matrix.specs.Shape.{Shape}
 use Rattle.matrix.specs.Shaped.{Within}
 use Rattle.laws.specs.Tests.{clash, fails, and-left, and-both, or-cases, or-left, or-right}
 use Rattle.laws.specs.Same.{eqb-same, sameName-eq}

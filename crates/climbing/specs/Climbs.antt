@@ -5,6 +5,7 @@ use mathlib.Core.Bool.{Bool, true, false}
 use mathlib.Core.List.{List, []}
 use lib.ListN.{length, getD}
 use Rattle.matrix.specs.declared.Name.{Name}
+use Rattle.matrix.specs.Shape.{mostSubjects}
 use Rattle.matrix.specs.Reading.{stateOf}
 use Rattle.route.specs.Rise.{Risen, meets-at, none}
 use Rattle.chain.specs.Rising.{riseIn}
@@ -30,18 +31,18 @@ pub record Found (n : ℕ) (path : List ℕ) (r : Climbed) : Type 0 where
 -- the answer to the way up from subject w
 pub record Rises (b : List ℕ) (n : ℕ) (trusted : ℕ → Bool) (w : ℕ) (path : List ℕ) (r : Climbed) : Type 0 where
   pub risen : riseIn (stateOf b) trusted (stateOf b .top) w [] ≡ risenTo path r
-  pub size : length path ≡ 64
+  pub size : length path ≡ mostSubjects
   pub found : Found n path r
 
 -- the answer to the way up from subject w, where that owns x
 pub record OwnerRises (b : List ℕ) (n : ℕ) (trusted : ℕ → Bool) (x : Name) (w : ℕ) (path : List ℕ) (r : Climbed) : Type 0 where
   pub met : (v m : ℕ) → r ≡ At v m → (stateOf b .owns w x ≡ true) × (riseIn (stateOf b) trusted (stateOf b .top) w [] ≡ risenTo path r)
   pub missed : r ≡ None → riser (stateOf b) trusted x w ≡ false
-  pub size : length path ≡ 64
+  pub size : length path ≡ mostSubjects
   pub found : Found n path r
 
 -- the answer to the way over an existing name x
 pub record Climbs (b : List ℕ) (n : ℕ) (trusted : ℕ → Bool) (x : Name) (path : List ℕ) (r : Climbed) : Type 0 where
   pub way : wayOver (stateOf b) trusted x ≡ climbedTo path r
-  pub size : length path ≡ 64
+  pub size : length path ≡ mostSubjects
   pub found : Found n path r

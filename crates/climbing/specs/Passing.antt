@@ -10,7 +10,7 @@ use Rattle.matrix.specs.Bounded.{any, least}
 use Rattle.matrix.specs.Bytes.{bit}
 use Rattle.laws.specs.Tests.{way, clash, or-cases, or-none-left, or-none-right}
 use Rattle.laws.specs.Bounded.{any-none, none-any, least-hit, least-none, least-passes}
-use Rattle.masks.specs.Marks.{Added}
+use Rattle.masks.specs.Marks.{maskBits, Added}
 use Rattle.climbing.specs.Lowest.{least-before, none-lower}
 
 -- nobody outside the set is trusted, and no member of it is an untrusted subject with the star
@@ -29,11 +29,11 @@ pub passed-trusted : (trust : ℕ) (star : ℕ → Bool) → Passed (λ j. bit j
 passed-trusted trust star = record { outside = λ j h. h; members = λ j h. trusted-not (star j) h }
 
 -- v is the lowest subject outside the set
-module _ {trusted star : ℕ → Bool} {set v : ℕ} (h : Passed trusted star set) (e : v ≡ least 64 (λ j. not (bit j set))) where
+module _ {trusted star : ℕ → Bool} {set v : ℕ} (h : Passed trusted star set) (e : v ≡ least maskBits (λ j. not (bit j set))) where
   below-member : (j : ℕ) → j < v → bit j set ≡ true
   below-member j l =
       not-false (bit j set)
-      (any-none v (λ j. not (bit j set)) j (subst (λ (m : ℕ). any m (λ j. not (bit j set)) ≡ false) (sym e) (least-before 64 (λ j. not (bit j set)))) l)
+      (any-none v (λ j. not (bit j set)) j (subst (λ (m : ℕ). any m (λ j. not (bit j set)) ≡ false) (sym e) (least-before maskBits (λ j. not (bit j set)))) l)
 
   none-below : any v (λ j. not (trusted j) && star j) ≡ false
   none-below = none-any v (λ j. not (trusted j) && star j) (λ j l. h .members j (below-member j l))
@@ -41,12 +41,12 @@ module _ {trusted star : ℕ → Bool} {set v : ℕ} (h : Passed trusted star se
   pub star-none : {n : ℕ} → n ≤ v → n ≡ least n (λ j. not (trusted j) && star j)
   star-none {n} l = sym (least-none n (λ j. not (trusted j) && star j) (none-lower (λ j. not (trusted j) && star j) l none-below))
 
-  module _ (low : v < 64) where
+  module _ (low : v < maskBits) where
     untrusted-here : trusted v ≡ false
     untrusted-here =
         h .outside v
         (not-true (bit v set)
-        (subst (λ (m : ℕ). not (bit m set) ≡ true) (sym e) (least-passes 64 (λ j. not (bit j set)) (subst (λ (m : ℕ). m < 64) e low))))
+        (subst (λ (m : ℕ). not (bit m set) ≡ true) (sym e) (least-passes maskBits (λ j. not (bit j set)) (subst (λ (m : ℕ). m < maskBits) e low))))
 
     -- t is the answer whether v has the star
     pub star-found : {n : ℕ} {t : Bool} → v < n → t ≡ star v → t ≡ true → v ≡ least n (λ j. not (trusted j) && star j)
@@ -64,7 +64,7 @@ module _ {trusted star : ℕ → Bool} {set v : ℕ} (h : Passed trusted star se
           }
 
       -- the next is higher
-      pub passed-higher : {next : ℕ} → next ≡ least 64 (λ j. not (bit j more)) → v < next
+      pub passed-higher : {next : ℕ} → next ≡ least maskBits (λ j. not (bit j more)) → v < next
       passed-higher {next} q =
           ⊎-elim (λ (t : ltb v next ≡ true). ltb-true v next t) (λ (t : ltb v next ≡ false). absurd (lower (ltb-false v next t))) (way (ltb v next))
         where
@@ -72,7 +72,7 @@ module _ {trusted star : ℕ → Bool} {set v : ℕ} (h : Passed trusted star se
           lower l =
               let z : bit next more ≡ false =
               not-true (bit next more)
-              (subst (λ (m : ℕ). not (bit m more) ≡ true) (sym q) (least-passes 64 (λ j. not (bit j more)) (subst (λ (m : ℕ). m < 64) q (omega arith)))) in
+              (subst (λ (m : ℕ). not (bit m more) ≡ true) (sym q) (least-passes maskBits (λ j. not (bit j more)) (subst (λ (m : ℕ). m < maskBits) q (omega arith)))) in
               let d : bit next set ≡ false = or-none-left (bit next set) (eqb next v) (sym (g .marks next) ∙ z) in
               let ne : next ≡ v → ⊥ = λ k. clash (eq-eqb next v k) (or-none-right (bit next set) (eqb next v) (sym (g .marks next) ∙ z)) in
               clash (below-member next (omega arith)) d

@@ -10,7 +10,9 @@ use mathlib.Core.List.{List, [], _∷_}
 use lib.ListN.{length, getD, set, length-set}
 use lib.Seq.{getD-set-same, getD-set-other}
 use borrow.Author.Tests.{lt-ltb, ne-eqb}
+use Rattle.matrix.specs.declared.Shape.{Shape}
 use Rattle.matrix.specs.Owners.{ownerOf}
+use Rattle.matrix.specs.Shape.{mostSubjects}
 use Rattle.matrix.specs.Reading.{stateOf}
 use Rattle.laws.specs.Bounded.{below-suc}
 use Rattle.cells.specs.Station.{Station}
@@ -73,15 +75,15 @@ found-none n path = found-by n path None tt
 -- The way up has come to subject `at`, may visit `left` more subjects, and has passed the first m of the path.
 pub record Rising (b : List ℕ) (n : ℕ) (trusted : ℕ → Bool) (w : ℕ) (path : List ℕ) (at m left : ℕ) : Type 0 where
   pub rest : riseIn (stateOf b) trusted left at (listed path m) ≡ riseIn (stateOf b) trusted (stateOf b .top) w []
-  pub size : length path ≡ 64
+  pub size : length path ≡ mostSubjects
   pub entries : (j : ℕ) → j < m → getD path j 0 < n
 
-pub rising-none : {b : List ℕ} {n p : ℕ} (trusted : ℕ → Bool) (w : ℕ) (path : List ℕ) → Station b n p → length path ≡ 64
-    → Rising b n trusted w path w 0 n
+pub rising-none : {b : List ℕ} {f : Shape} (trusted : ℕ → Bool) (w : ℕ) (path : List ℕ) → Station b f → length path ≡ mostSubjects
+    → Rising b (f .n) trusted w path w 0 (f .n)
 unfolding listed
-rising-none {b} {n} {p} trusted w path h e =
+rising-none {b} {f} trusted w path h e =
     record {
-      rest = ap (λ (m : ℕ). riseIn (stateOf b) trusted m w []) (sym (top-is b n p h));
+      rest = ap (λ (m : ℕ). riseIn (stateOf b) trusted m w []) (sym (top-is b f h));
       size = e;
       entries = λ j l. absurd (not-suc-le-zero l);
     }
@@ -108,10 +110,10 @@ module _ {b : List ℕ} {n : ℕ} {trusted : ℕ → Bool} {w : ℕ} {path : Lis
         ended (At at m) (la, lm, h .entries) (one-more more ∙ rise-here (stateOf b .top) (stateOf b .owns) trusted (left - 1) at (listed path m) t)
 
     -- r is what the way up goes on to
-    pub rising-up : {closed r : ℕ} → trusted at ≡ true → Next (stateOf b) closed at r → stateOf b .top ≡ n → r < n → at < n → m < 64
+    pub rising-up : {closed r : ℕ} → trusted at ≡ true → Next (stateOf b) closed at r → stateOf b .top ≡ n → r < n → at < n → m < mostSubjects
         → Rising b n trusted w (set path m at) r (m + 1) (left - 1)
     rising-up {r = r} t next bound l la lm =
-        let e : length path ≡ 64 = h .size in
+        let e : length path ≡ mostSubjects = h .size in
         let lp : m < length path = omega arith in
         let lr : r < stateOf b .top = omega arith in
         let o : r ≡ ownerOf (stateOf b .top) (stateOf b .owns) at = next .up lr in

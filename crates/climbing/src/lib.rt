@@ -2,16 +2,19 @@
 // with the star, whether a target is possible, and whether o is to be destroyed and created again.
 
 use matrix::Form;
+use matrix::MOST_SUBJECTS;
 use matrix::Name;
 use matrix::Right;
+use matrix::Shape;
 use matrix::Walked;
 ghost use mathlib.Core.Path.{_≡_};
 ghost use Prim.Native.Nat.{_<_};
 ghost use lib.ListN.{length};
 ghost use Rattle.matrix.specs.Bounded.{least};
 ghost use Rattle.matrix.specs.Owners.{walk, meets};
+ghost use Rattle.matrix.specs.Shape.{mostSubjects, basicsOf};
 ghost use Rattle.matrix.specs.Reading.{stateOf};
-ghost use Rattle.states.specs.Needs.{basicOf, NameIn, Guessed};
+ghost use Rattle.states.specs.Needs.{RightIn, NameIn, Guessed};
 ghost use Rattle.question.specs.Trust.{trustedBy};
 ghost use Rattle.safe.specs.Possible.{possible};
 ghost use Rattle.finish.specs.Finish.{againNeeded};
@@ -26,17 +29,17 @@ pub enum Climbed {
 }
 
 // The owner to whom the way up goes on from subject v, or n where it ends: at U, at a member of `closed`, and without an owner.
-fn next_up(b: &[u8], n: usize, p: usize, owners: &[u8; 64], closed: u64, v: usize) -> usize
-    requires { ⌜ Guessed (now b) n p (now owners) × (v < n) ⌝ }
+fn next_up(b: &[u8], f: Shape, owners: &[u8; MOST_SUBJECTS], closed: u64, v: usize) -> usize
+    requires { ⌜ Guessed (now b) f (now owners) × (v < f .n) ⌝ }
     ensures { λ r. ⌜ Next (stateOf (now (b .entry))) closed v r ⌝ }
 {
     if v == 0 {
-        return n;
+        return f.n;
     }
     if masks::has(closed, v) {
-        return n;
+        return f.n;
     }
-    states::owner_of(b, n, p, owners, v)
+    states::owner_of(b, f, owners, v)
 }
 
 // The way up from subject w. The trusted subjects passed are kept in `path`, in the order in which they are met. `closed` are subjects from
@@ -44,17 +47,17 @@ fn next_up(b: &[u8], n: usize, p: usize, owners: &[u8; 64], closed: u64, v: usiz
 // join them. Where it may visit no more subjects, they don't: the owners may form a cycle.
 fn rise_from(
     b: &[u8],
-    n: usize,
-    p: usize,
+    f: Shape,
     trust: u64,
     w: usize,
-    owners: &[u8; 64],
+    owners: &[u8; MOST_SUBJECTS],
     closed: &mut u64,
-    path: &mut [u8; 64],
+    path: &mut [u8; MOST_SUBJECTS],
 ) -> Climbed
-    requires { ⌜ Guessed (now b) n p (now owners) × (w < n) × ShutAll (stateOf (now b)) (trustedBy trust) (now closed) × (length (now path) ≡ 64) ⌝ }
-    ensures { λ r. ⌜ Rises (now (b .entry)) n (trustedBy trust) w (now (path .exit)) r × ShutAll (stateOf (now (b .entry))) (trustedBy trust) (now (closed .exit)) ⌝ }
+    requires { ⌜ Guessed (now b) f (now owners) × (w < f .n) × ShutAll (stateOf (now b)) (trustedBy trust) (now closed) × (length (now path) ≡ mostSubjects) ⌝ }
+    ensures { λ r. ⌜ Rises (now (b .entry)) (f .n) (trustedBy trust) w (now (path .exit)) r × ShutAll (stateOf (now (b .entry))) (trustedBy trust) (now (closed .exit)) ⌝ }
 {
+    let n = f.n;
     let mut at = w;
     let mut m = 0;
     let mut left = n;
@@ -66,7 +69,7 @@ fn rise_from(
         if !masks::is_trusted(trust, at) {
             break 'up Climbed::At(at, m);
         }
-        let owner = next_up(b, n, p, owners, *closed, at);
+        let owner = next_up(b, f, owners, *closed, at);
         if n <= owner {
             *closed = seen;
             break 'up Climbed::None;
@@ -82,63 +85,61 @@ fn rise_from(
 // The way up from subject w where it owns x, and none where it doesn't.
 fn owner_rise(
     b: &[u8],
-    n: usize,
-    p: usize,
+    f: Shape,
     trust: u64,
     x: Name,
     w: usize,
-    owners: &[u8; 64],
+    owners: &[u8; MOST_SUBJECTS],
     closed: &mut u64,
-    path: &mut [u8; 64],
+    path: &mut [u8; MOST_SUBJECTS],
 ) -> Climbed
-    requires { ⌜ NameIn (now b) n p x × Guessed (now b) n p (now owners) × (w < n) × ShutAll (stateOf (now b)) (trustedBy trust) (now closed) × (length (now path) ≡ 64) ⌝ }
-    ensures { λ r. ⌜ OwnerRises (now (b .entry)) n (trustedBy trust) x w (now (path .exit)) r × ShutAll (stateOf (now (b .entry))) (trustedBy trust) (now (closed .exit)) ⌝ }
+    requires { ⌜ NameIn (now b) f x × Guessed (now b) f (now owners) × (w < f .n) × ShutAll (stateOf (now b)) (trustedBy trust) (now closed) × (length (now path) ≡ mostSubjects) ⌝ }
+    ensures { λ r. ⌜ OwnerRises (now (b .entry)) (f .n) (trustedBy trust) x w (now (path .exit)) r × ShutAll (stateOf (now (b .entry))) (trustedBy trust) (now (closed .exit)) ⌝ }
 {
-    if !states::has_bit(b, n, p, Right::Own, w, x) {
+    if !states::has_bit(b, f, Right::Own, w, x) {
         return Climbed::None;
     }
-    rise_from(b, n, p, trust, w, owners, closed, path)
+    rise_from(b, f, trust, w, owners, closed, path)
 }
 
 // The way over subject v of a valid record: that of its owner, since it has no other.
 fn way_over_subject(
     b: &[u8],
-    n: usize,
-    p: usize,
+    f: Shape,
     trust: u64,
     v: usize,
-    owners: &[u8; 64],
-    path: &mut [u8; 64],
+    owners: &[u8; MOST_SUBJECTS],
+    path: &mut [u8; MOST_SUBJECTS],
 ) -> Climbed
-    requires { ⌜ Guessed (now b) n p (now owners) × (v < n) × (length (now path) ≡ 64) ⌝ }
-    ensures { λ r. ⌜ Climbs (now (b .entry)) n (trustedBy trust) (Name.Subject v) (now (path .exit)) r ⌝ }
+    requires { ⌜ Guessed (now b) f (now owners) × (v < f .n) × (length (now path) ≡ mostSubjects) ⌝ }
+    ensures { λ r. ⌜ Climbs (now (b .entry)) (f .n) (trustedBy trust) (Name.Subject v) (now (path .exit)) r ⌝ }
 {
-    let w = states::owner_of(b, n, p, owners, v);
-    if n <= w {
+    let w = states::owner_of(b, f, owners, v);
+    if f.n <= w {
         return Climbed::None;
     }
     let mut closed: u64 = 0;
-    rise_from(b, n, p, trust, w, owners, &mut closed, path)
+    rise_from(b, f, trust, w, owners, &mut closed, path)
 }
 
 // The way over plain object o: that of its lowest owner whose way up meets an untrusted subject. The rows below the first block of rows with
 // an owner are left out. `closed` gathers the subjects passed by ways up that met none, so that no later way passes them again.
 fn way_over_plain(
     b: &[u8],
-    n: usize,
-    p: usize,
+    f: Shape,
     trust: u64,
     o: usize,
-    owners: &[u8; 64],
-    path: &mut [u8; 64],
+    owners: &[u8; MOST_SUBJECTS],
+    path: &mut [u8; MOST_SUBJECTS],
 ) -> Climbed
-    requires { ⌜ NameIn (now b) n p (Name.Plain o) × Guessed (now b) n p (now owners) × (length (now path) ≡ 64) ⌝ }
-    ensures { λ r. ⌜ Climbs (now (b .entry)) n (trustedBy trust) (Name.Plain o) (now (path .exit)) r ⌝ }
+    requires { ⌜ NameIn (now b) f (Name.Plain o) × Guessed (now b) f (now owners) × (length (now path) ≡ mostSubjects) ⌝ }
+    ensures { λ r. ⌜ Climbs (now (b .entry)) (f .n) (trustedBy trust) (Name.Plain o) (now (path .exit)) r ⌝ }
 {
-    let first = 4 * cells::first_block(b, n, p, o, 0);
+    let n = f.n;
+    let first = 4 * cells::first_block(b, f, o, 0);
     let mut closed: u64 = 0;
     for w in first..n {
-        let r = owner_rise(b, n, p, trust, Name::Plain(o), w, owners, &mut closed, path);
+        let r = owner_rise(b, f, trust, Name::Plain(o), w, owners, &mut closed, path);
         let Climbed::None = r else {
             return r;
         };
@@ -149,32 +150,32 @@ fn way_over_plain(
 // The way over an existing name x of a valid record.
 pub fn way_up(
     b: &[u8],
-    n: usize,
-    p: usize,
+    f: Shape,
     trust: u64,
     x: Name,
-    owners: &[u8; 64],
-    path: &mut [u8; 64],
+    owners: &[u8; MOST_SUBJECTS],
+    path: &mut [u8; MOST_SUBJECTS],
 ) -> Climbed
-    requires { ⌜ NameIn (now b) n p x × Guessed (now b) n p (now owners) × (length (now path) ≡ 64) ⌝ }
-    ensures { λ r. ⌜ Climbs (now (b .entry)) n (trustedBy trust) x (now (path .exit)) r ⌝ }
+    requires { ⌜ NameIn (now b) f x × Guessed (now b) f (now owners) × (length (now path) ≡ mostSubjects) ⌝ }
+    ensures { λ r. ⌜ Climbs (now (b .entry)) (f .n) (trustedBy trust) x (now (path .exit)) r ⌝ }
 {
     match x {
-        Name::Subject(v) => way_over_subject(b, n, p, trust, v, owners, path),
-        Name::Plain(o) => way_over_plain(b, n, p, trust, o, owners, path),
+        Name::Subject(v) => way_over_subject(b, f, trust, v, owners, path),
+        Name::Plain(o) => way_over_plain(b, f, trust, o, owners, path),
     }
 }
 
 // The lowest untrusted subject that has basic right k starred over x, or n if there is none. `passed` are the trusted subjects and those
 // whose cell was looked at, so that the search goes from one untrusted subject to the next.
-fn star_row(b: &[u8], n: usize, p: usize, trust: u64, k: usize, x: Name) -> usize
-    requires { ⌜ NameIn (now b) n p x × (k < 7) ⌝ }
-    ensures { λ i. ⌜ i ≡ least n (starHolder (stateOf (now (b .entry))) (trustedBy trust) x (Right.Basic k Form.Starred)) ⌝ }
+fn star_row(b: &[u8], f: Shape, trust: u64, k: usize, x: Name) -> usize
+    requires { ⌜ NameIn (now b) f x × (k < basicsOf f) ⌝ }
+    ensures { λ i. ⌜ i ≡ least (f .n) (starHolder (stateOf (now (b .entry))) (trustedBy trust) x (Right.Basic k Form.Starred)) ⌝ }
 {
+    let n = f.n;
     let mut passed = trust;
     let mut v = masks::lowest_outside(passed);
     while v < n {
-        if states::has_bit(b, n, p, Right::Basic(k, Form::Starred), v, x) {
+        if states::has_bit(b, f, Right::Basic(k, Form::Starred), v, x) {
             return v;
         }
         passed = masks::added(passed, v);
@@ -184,14 +185,14 @@ fn star_row(b: &[u8], n: usize, p: usize, trust: u64, k: usize, x: Name) -> usiz
 }
 
 // The lowest untrusted subject with the star of right y over x, or n if there is none. Own and control have no star.
-pub fn star_holder(b: &[u8], n: usize, p: usize, trust: u64, y: Right, x: Name) -> usize
-    requires { ⌜ NameIn (now b) n p x × (basicOf y < 7) ⌝ }
-    ensures { λ i. ⌜ i ≡ least n (starHolder (stateOf (now (b .entry))) (trustedBy trust) x y) ⌝ }
+pub fn star_holder(b: &[u8], f: Shape, trust: u64, y: Right, x: Name) -> usize
+    requires { ⌜ NameIn (now b) f x × RightIn f y ⌝ }
+    ensures { λ i. ⌜ i ≡ least (f .n) (starHolder (stateOf (now (b .entry))) (trustedBy trust) x y) ⌝ }
 {
     match y {
-        Right::Own => n,
-        Right::Control => n,
-        Right::Basic(k, _) => star_row(b, n, p, trust, k, x),
+        Right::Own => f.n,
+        Right::Control => f.n,
+        Right::Basic(k, _) => star_row(b, f, trust, k, x),
     }
 }
 
@@ -214,11 +215,11 @@ pub fn is_possible(s: usize, x: Name, y: Right) -> bool
 }
 
 // Whether the owner walk from s meets subject o.
-fn walk_meets(b: &[u8], n: usize, p: usize, owners: &[u8; 64], s: usize, o: usize) -> bool
-    requires { ⌜ Guessed (now b) n p (now owners) × (s < n) ⌝ }
+fn walk_meets(b: &[u8], f: Shape, owners: &[u8; MOST_SUBJECTS], s: usize, o: usize) -> bool
+    requires { ⌜ Guessed (now b) f (now owners) × (s < f .n) ⌝ }
     ensures { λ t. ⌜ t ≡ meets (walk (stateOf (now (b .entry))) s (Name.Subject o)) ⌝ }
 {
-    let found = states::owner_walk(b, n, p, owners, s, o);
+    let found = states::owner_walk(b, f, owners, s, o);
     match found {
         Walked::Meets(_) => true,
         Walked::Root(_) => false,
@@ -230,20 +231,19 @@ fn walk_meets(b: &[u8], n: usize, p: usize, owners: &[u8; 64], s: usize, o: usiz
 // control of a subject that another controls.
 pub fn again_needed(
     b: &[u8],
-    n: usize,
-    p: usize,
-    owners: &[u8; 64],
+    f: Shape,
+    owners: &[u8; MOST_SUBJECTS],
     s: usize,
     x: Name,
     y: Right,
 ) -> bool
-    requires { ⌜ NameIn (now b) n p x × Guessed (now b) n p (now owners) × (s < n) ⌝ }
+    requires { ⌜ NameIn (now b) f x × Guessed (now b) f (now owners) × (s < f .n) ⌝ }
     ensures { λ t. ⌜ t ≡ againNeeded (stateOf (now (b .entry))) s x y ⌝ }
 {
     match x {
         Name::Subject(o) => match y {
-            Right::Own => walk_meets(b, n, p, owners, s, o),
-            Right::Control => states::controlled(b, n, p, o),
+            Right::Own => walk_meets(b, f, owners, s, o),
+            Right::Control => states::controlled(b, f, o),
             Right::Basic(_, _) => false,
         },
         Name::Plain(_) => false,

@@ -19,8 +19,11 @@ use Rattle.laws.specs.Bounded.{below-suc, any-none, none-any}
 unfoldable pub withBit : ℕ → Bool → ℕ → ℕ
 withBit j on v = cond (bit j v) (cond on v (v - 2 ^ j)) (cond on (v + 2 ^ j) v)
 
--- a one shifted left by less than the width of a word
-pub one-shifted : (j : ℕ) → j < 64 → 1 * 2 ^ j % 18446744073709551616 ≡ 2 ^ j
+-- the bits of a machine's word, and a one shifted left by less than those
+abbrev pub wordBits : ℕ
+wordBits = 64
+
+pub one-shifted : (j : ℕ) → j < wordBits → 1 * 2 ^ j % 18446744073709551616 ≡ 2 ^ j
 one-shifted j h = omega (arith, pow-mono {i = suc j} {j = 64} (omega arith), pow-succ' 2 j)
 
 pub bit-zero : (j : ℕ) → bit j 0 ≡ false

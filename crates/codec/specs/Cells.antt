@@ -6,8 +6,9 @@ use mathlib.Core.Path.{_≡_, refl, sym, _∙_, ap}
 use mathlib.Core.List.{List}
 use lib.ListN.{length, getD}
 use lib.Arith.{digits-lt, digits-div, digits-mod}
+use Rattle.matrix.specs.declared.Shape.{Shape}
 use Rattle.matrix.specs.Bytes.{numberAt}
-use Rattle.matrix.specs.Shape.{Shape, shapeOf, bitsOf, columns, cellPlace, sizeOf}
+use Rattle.matrix.specs.Shape.{shapeOf, headerBytes, bitsOf, columns, cellPlace, sizeOf}
 use Rattle.matrix.specs.Reading.{cellAt, setCell}
 use Rattle.matrix.specs.Shaped.{Shaped, Octets}
 use Rattle.codec.specs.Numbers.{length-setNumber, getD-setNumber-other, numberAt-set-other, numberAt-set-same, octets-setNumber, numberAt-below, pow-bytes}
@@ -52,7 +53,7 @@ place-apart f r c w d h l ne a b = ne row column
     column = sym (digits-mod r h) ∙ ap (λ (x : ℕ). x % columns f) same ∙ digits-mod w l
 
 -- a cell is after the header
-pub cell-after : (b : List ℕ) (r c : ℕ) → 7 ≤ cellPlace (shapeOf b) r c
+pub cell-after : (b : List ℕ) (r c : ℕ) → headerBytes ≤ cellPlace (shapeOf b) r c
 unfolding shapeOf
 cell-after b r c = omega arith
 
@@ -64,7 +65,7 @@ module _ (b : List ℕ) (r c v : ℕ) where
   length-set-cell = length-setNumber b (cellPlace (shapeOf b) r c) (shapeOf b .width) v
 
   -- the bytes before the first cell stay
-  pub header-set : (i : ℕ) → i < 7 → getD (setCell b r c v) i 0 ≡ getD b i 0
+  pub header-set : (i : ℕ) → i < headerBytes → getD (setCell b r c v) i 0 ≡ getD b i 0
   unfolding setCell
   header-set i h = getD-setNumber-other b (cellPlace (shapeOf b) r c) (shapeOf b .width) v i (λ l u. omega (arith, cell-after b r c))
 

@@ -11,11 +11,12 @@ use lib.Seq.{take-suc, take-add, take-all}
 use borrow.Author.Tests.{ltb-true}
 use Rattle.matrix.specs.declared.Name.{Name}
 use Rattle.matrix.specs.declared.Right.{Right}
+use Rattle.matrix.specs.declared.Shape.{Shape}
 use Rattle.matrix.specs.Names.{nameOf, columnOf, named}
 use Rattle.matrix.specs.Rights.{codeOf, rightOf}
 use Rattle.matrix.specs.State.{State, has}
 use Rattle.matrix.specs.Bytes.{bytesOfNumber, bit, joined}
-use Rattle.matrix.specs.Shape.{Shape, shapeOf, columns, cellPlace, bitsOf}
+use Rattle.matrix.specs.Shape.{Shape, shapeOf, headerBytes, columns, cellPlace, bitsOf}
 use Rattle.matrix.specs.Reading.{cellAt, content, contentOf, cellOf, rowOf, header, bitAt, stateOf, bytesOf}
 use Rattle.matrix.specs.Shaped.{Shaped, Octets, Within}
 use Rattle.laws.specs.Tests.{same-test, and-left, and-right}
@@ -120,10 +121,10 @@ module _ (b : List ℕ) (s : Shaped b) (o : Octets b) where
       ∙ sym parts
     where
       -- the header's bytes are there
-      long : (i : ℕ) → i ≤ 7 → i ≤ length b
+      long : (i : ℕ) → i ≤ headerBytes → i ≤ length b
       long i h = rw (s .size) (omega arith)
 
-      parts : take 7 b ≡ getD b 0 0 ∷ take 4 (drop 1 b) ++ (getD b 5 0 ∷ getD b 6 0 ∷ [])
+      parts : take headerBytes b ≡ getD b 0 0 ∷ take 4 (drop 1 b) ++ (getD b 5 0 ∷ getD b 6 0 ∷ [])
       parts =
           take-suc b 6 0 (long 7 (omega arith)) ∙ ap (λ (x : List ℕ). x ++ (getD b 6 0 ∷ [])) (take-suc b 5 0 (long 6 (omega arith)))
           ∙ append-assoc (take 5 b) (getD b 5 0 ∷ []) (getD b 6 0 ∷ [])

@@ -11,11 +11,12 @@ use borrow.Author.Tests.{lt-ltb, ltb-true, ltb-false}
 use Rattle.matrix.specs.declared.Name.{Name}
 use Rattle.matrix.specs.declared.Right.{Right}
 use Rattle.matrix.specs.declared.Right.the-variants.{Own, Control, Basic}
+use Rattle.matrix.specs.declared.Shape.{Shape}
 use Rattle.matrix.specs.Names.{nameOf, columnOf, named}
 use Rattle.matrix.specs.Rights.{codeOf}
 use Rattle.matrix.specs.State.{has, isCell, put, clear}
 use Rattle.matrix.specs.Bytes.{bit}
-use Rattle.matrix.specs.Shape.{Shape, shapeOf, bitsOf, columns}
+use Rattle.matrix.specs.Shape.{shapeOf, bitsOf, columns}
 use Rattle.matrix.specs.Reading.{cellAt, setCell, bitAt, stateOf}
 use Rattle.matrix.specs.Shaped.{Shaped, Octets}
 use Rattle.laws.specs.Tests.{way, clash}

@@ -1,6 +1,6 @@
 -- The bytes that a state is written as: they have the shape's header and length, and each cell holds the state's bits.
 use Prim.Native.Nat.{ℕ, suc, _+_, _-_, _*_, _^_, _≤_, _<_}
-use native.Mathlib.Nat.{mul-le-mul, zero-add}
+use native.Mathlib.Nat.{zero-add}
 use native.Mathlib.Omega.{arith}
 use mathlib.Core.Path.{_≡_, refl, sym, _∙_, ap, ap₂, subst}
 use mathlib.Core.List.{List, [], _∷_, append-nil, append-assoc}
@@ -8,14 +8,15 @@ use lib.ListN.{length, getD, length-append}
 use lib.Seq.{getD-append-add}
 use lib.Arith.{digits-lt}
 use borrow.Author.Tests.{eqb-true}
+use Rattle.matrix.specs.declared.Shape.{Shape}
 use Rattle.matrix.specs.Rights.{rightOf}
 use Rattle.matrix.specs.Names.{nameOf}
 use Rattle.matrix.specs.State.{State, has}
 use Rattle.matrix.specs.Bytes.{numberAt, bytesOfNumber, joined}
-use Rattle.matrix.specs.Shape.{Shape, shapeOf, columns, countOf, bitsOf, mostSubjects, mostPlain, sizeOf, cellPlace}
+use Rattle.matrix.specs.Shape.{shapeOf, columns, countOf, bitsOf, sizeOf, cellPlace}
 use Rattle.matrix.specs.Reading.{cellAt, content, cellOf, rowOf, header, bytesOf}
 use Rattle.matrix.specs.Shaped.{Shaped, Octets}
-use Rattle.codec.specs.ShapeRight.{ShapeRight}
+use Rattle.codec.specs.ShapeRight.{ShapeRight, mostBytes, size-most}
 use Rattle.codec.specs.Bits.{fromBits-below}
 use Rattle.codec.specs.Numbers.{numberAt-agree, numberAt-bytes, length-bytesOfNumber, octets-bytesOfNumber, pow-bytes}
 use Rattle.codec.specs.Blocks.{length-joined, getD-joined, octets-nil, octets-cons, octets-append, octets-joined}
@@ -61,16 +62,10 @@ module _ (f : Shape) (S : State) where
 
   -- the count is one of four bytes
   count-fits : ShapeRight f → countOf f < 256 ^ 4
-  count-fits g = most (f .first) (f .width * (f .n * columns f)) (omega arith) (mul-le-mul width (mul-le-mul (g .high) columns-most))
+  count-fits g = few (sizeOf f) (size-most f g)
     where
-      width : f .width ≤ 4
-      width = omega arith
-
-      columns-most : f .n + f .p ≤ mostSubjects + mostPlain
-      columns-most = omega arith
-
-      most : (a x : ℕ) → a ≤ 16 → x ≤ 4 * (mostSubjects * (mostSubjects + mostPlain)) → a + x - 5 < 256 ^ 4
-      most a x h l = omega arith
+      few : (x : ℕ) → x ≤ mostBytes → x - 5 < 256 ^ 4
+      few x h = omega arith
 
   pub count-write : ShapeRight f → numberAt (bytesOf (content f S)) 1 4 ≡ countOf f
   unfolding bytesOf

@@ -15,18 +15,21 @@ use Rattle.matrix.specs.declared.Act.the-variants.{Transfer, Grant, Delete}
 use Rattle.matrix.specs.declared.Rule.{Rule}
 use Rattle.matrix.specs.declared.Fields.{Fields}
 use Rattle.matrix.specs.declared.Answer.the-variants.{Accepted}
+use Rattle.matrix.specs.declared.Shape.{Shape}
 use Rattle.matrix.specs.Names.{nameOf}
 use Rattle.matrix.specs.State.{State, has, exists, existsName, put}
 use Rattle.matrix.specs.Commands.{ruleOf, fieldsFit}
 use Rattle.matrix.specs.Tests.{commandTests}
 use Rattle.matrix.specs.Changes.{change}
 use Rattle.matrix.specs.Step.{walkLinks}
+use Rattle.matrix.specs.Shape.{basicsOf}
 use Rattle.matrix.specs.Reading.{stateOf}
+use Rattle.matrix.specs.Calls.{namesFit}
 use Rattle.matrix.specs.Valid.{Valid}
 use Rattle.laws.specs.Tests.{and-both, or-left}
 use Rattle.laws.specs.Passed.{Passed}
 use Rattle.cells.specs.Station.{Station}
-use Rattle.decoding.specs.Decoded.{formFrom, withinNames}
+use Rattle.decoding.specs.Decoded.{formFrom}
 use Rattle.decoding.specs.Arms.{basicRule, of-pair}
 use Rattle.bits.specs.Became.{Became}
 use Rattle.bits.specs.Steps.{became-as}
@@ -58,7 +61,7 @@ pub record Allowed (b b′ : List ℕ) (n : ℕ) (c : Fields) (y : Right) (f : F
 pub at-name : (f : Name → Bool) {x z : Name} {t u : Bool} → x ≡ z → t ≡ f x → t ≡ u → f z ≡ u
 at-name f e g h = ap f (sym e) ∙ sym g ∙ h
 
-module _ {b : List ℕ} {n p : ℕ} (c : Fields) (station : Station b n p) (v : Valid (stateOf b)) (names : withinNames n p c ≡ true) (right : c .k < 7) where
+module _ {b : List ℕ} {f : Shape} (c : Fields) (station : Station b f) (v : Valid (stateOf b)) (names : namesFit f c ≡ true) (right : c .k < basicsOf f) where
   abbrev S : State
   S = stateOf b
 
@@ -70,28 +73,28 @@ module _ {b : List ℕ} {n p : ℕ} (c : Fields) (station : Station b n p) (v : 
   answered : (act : Right → Act) (first : ℕ) {y : Right} {on : Bool} {b′ : List ℕ}
       → ruleOf (c .code) (c .k) ≡ basicRule act (c .k) (formFrom (c .code) first)
       → 1 ≤ c .code → c .code ≤ 13
-      → (exists S (c .i) ≡ true → (exists S (c .s) && existsName S (nameOf n (c .o))) ≡ true → Passed (commandTests S (doing n c (acting act first))))
-      → walkLinks S (doing n c (acting act first)) (acting act first) ≡ 0
-      → put (Basic (c .k) (formFrom (c .code) first)) (c .s) (nameOf n (c .o)) on S ≡ change S (doing n c (acting act first)) (acting act first)
-      → Allowed b b′ n c y (formFrom (c .code) first) on → Answered b b′ c (Accepted 0)
+      → (exists S (c .i) ≡ true → (exists S (c .s) && existsName S (nameOf (f .n) (c .o))) ≡ true → Passed (commandTests S (doing (f .n) c (acting act first))))
+      → walkLinks S (doing (f .n) c (acting act first)) (acting act first) ≡ 0
+      → put (Basic (c .k) (formFrom (c .code) first)) (c .s) (nameOf (f .n) (c .o)) on S ≡ change S (doing (f .n) c (acting act first)) (acting act first)
+      → Allowed b b′ (f .n) c y (formFrom (c .code) first) on → Answered b b′ c (Accepted 0)
   answered act first {y} row low high passed none changed a =
-      let i : exists S (c .i) ≡ true = v .row y (c .i) (nameOf n (c .o)) (a .held) in
-      let o : existsName S (nameOf n (c .o)) ≡ true = v .column y (c .i) (nameOf n (c .o)) (a .held) in
+      let i : exists S (c .i) ≡ true = v .row y (c .i) (nameOf (f .n) (c .o)) (a .held) in
+      let o : existsName S (nameOf (f .n) (c .o)) ≡ true = v .column y (c .i) (nameOf (f .n) (c .o)) (a .held) in
       answered-accepted c station names (acting act first) (ap (λ (r : Rule). r .act) row) (and-both (le-leb 1 (c .code) low) (le-leb (c .code) 13 high))
-      (ap (λ (r : Rule). fieldsFit 7 r (c .s) (c .o) (c .k)) row ∙ lt-ltb (c .k) 7 right) (passed i (and-both (a .there) o)) none (became-as (a .became) changed)
+      (ap (λ (r : Rule). fieldsFit (basicsOf f) r (c .s) (c .o) (c .k)) row ∙ lt-ltb (c .k) (basicsOf f) right) (passed i (and-both (a .there) o)) none (became-as (a .became) changed)
 
   row-of : (act : Right → Act) (first : ℕ) → first ≤ c .code → c .code < first + 2 → basicRule act (c .k) Plain ≡ ruleOf first (c .k)
       → basicRule act (c .k) Starred ≡ ruleOf (first + 1) (c .k) → ruleOf (c .code) (c .k) ≡ basicRule act (c .k) (formFrom (c .code) first)
   row-of act first l u g h = sym (of-pair (basicRule act (c .k)) (λ (m : ℕ). ruleOf m (c .k)) first (c .code) l u g h)
 
-  pub answered-transfer : {b′ : List ℕ} → 1 ≤ c .code → c .code < 3 → Allowed b b′ n c (Basic (c .k) Starred) (formFrom (c .code) 1) true → Answered b b′ c (Accepted 0)
+  pub answered-transfer : {b′ : List ℕ} → 1 ≤ c .code → c .code < 3 → Allowed b b′ (f .n) c (Basic (c .k) Starred) (formFrom (c .code) 1) true → Answered b b′ c (Accepted 0)
   answered-transfer l u a =
       answered Transfer 1 (row-of Transfer 1 l u refl refl) (omega arith) (omega arith) (λ i o. (i, (refl, (o, (refl, (a .held, (refl, (refl, tt)))))))) refl refl a
 
-  pub answered-grant : {b′ : List ℕ} → 4 ≤ c .code → c .code < 6 → Allowed b b′ n c Own (formFrom (c .code) 4) true → Answered b b′ c (Accepted 0)
+  pub answered-grant : {b′ : List ℕ} → 4 ≤ c .code → c .code < 6 → Allowed b b′ (f .n) c Own (formFrom (c .code) 4) true → Answered b b′ c (Accepted 0)
   answered-grant l u a =
       answered Grant 4 (row-of Grant 4 l u refl refl) (omega arith) (omega arith) (λ i o. (i, (refl, (o, (refl, (a .held, (refl, (refl, tt)))))))) refl refl a
 
-  pub answered-delete : {b′ : List ℕ} → 8 ≤ c .code → c .code < 10 → Allowed b b′ n c Own (formFrom (c .code) 8) false → Answered b b′ c (Accepted 0)
+  pub answered-delete : {b′ : List ℕ} → 8 ≤ c .code → c .code < 10 → Allowed b b′ (f .n) c Own (formFrom (c .code) 8) false → Answered b b′ c (Accepted 0)
   answered-delete l u a =
       answered Delete 8 (row-of Delete 8 l u refl refl) (omega arith) (omega arith) (λ i o. (i, (refl, (o, (refl, (or-left _ (a .held), (refl, (refl, tt)))))))) refl refl a

@@ -7,6 +7,7 @@ use lib.Dec.{eqb}
 use borrow.Author.Tests.{eq-eqb, ne-eqb}
 use Rattle.matrix.specs.declared.Command.{Command}
 use Rattle.matrix.specs.declared.Answer.the-variants.{Accepted, Refused}
+use Rattle.matrix.specs.declared.Shape.{Shape}
 use Rattle.matrix.specs.State.{State}
 use Rattle.matrix.specs.Changes.{change}
 use Rattle.matrix.specs.Step.{refusalOf, linksWith, answer}
@@ -21,7 +22,7 @@ use Rattle.commands.specs.Answered.{Carried}
 replied : {S : State} {d : Command} {v : Verdict} {t : Bool} → Judged S d v → eqb (v .refusal) 0 ≡ t → cond t (Accepted (v .links)) (Refused (v .refusal) (v .links)) ≡ answer (refusalOf S d) (linksWith (refusalOf S d) S d)
 replied {v = v} j e = sym (ap (λ (t : Bool). cond t (Accepted (v .links)) (Refused (v .refusal) (v .links))) e) ∙ (λ i. answer (j .refusal i) (j .links i))
 
-pub carried-refused : {b : List ℕ} {n p : ℕ} {d : Command} {v : Verdict} → CommandIn b n p d → Judged (stateOf b) d v → (v .refusal ≡ 0 → ⊥) → Carried b b d (Refused (v .refusal) (v .links))
+pub carried-refused : {b : List ℕ} {f : Shape} {d : Command} {v : Verdict} → CommandIn b f d → Judged (stateOf b) d v → (v .refusal ≡ 0 → ⊥) → Carried b b d (Refused (v .refusal) (v .links))
 carried-refused {b} {d = d} {v = v} h j ne =
     let e : eqb (v .refusal) 0 ≡ false = ne-eqb (v .refusal) 0 ne in
     let f : eqb (refusalOf (stateOf b) d) 0 ≡ false = ap (λ (m : ℕ). eqb m 0) (sym (j .refusal)) ∙ e in

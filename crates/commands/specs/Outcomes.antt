@@ -1,5 +1,5 @@
 -- The definition's refusal, links and next state of a command, from how it is decoded.
-use Prim.Native.Nat.{ℕ, _<_}
+use Prim.Native.Nat.{ℕ}
 use mathlib.Core.Path.{_≡_, refl, sym, _∙_, ap, ap₂, subst}
 use mathlib.Core.Logic.{⊎-elim}
 use mathlib.Core.Bool.{Bool, true, false, cond, _&&_, _||_}
@@ -11,6 +11,7 @@ use Rattle.matrix.specs.declared.Fields.{Fields}
 use Rattle.matrix.specs.declared.Command.{Command}
 use Rattle.matrix.specs.declared.Answer.{Answer}
 use Rattle.matrix.specs.declared.Answer.the-variants.{Refused}
+use Rattle.matrix.specs.declared.Shape.{Shape}
 use Rattle.matrix.specs.Names.{nameOf, columnOf}
 use Rattle.matrix.specs.State.{State}
 use Rattle.matrix.specs.Commands.{known, ruleOf, fieldsFit, decode}
@@ -23,10 +24,9 @@ use Rattle.matrix.specs.Calls.{rawOf, namesFit, refusalOn, linksOn, nextOn}
 use Rattle.laws.specs.Tests.{way, clash, and-right, and-both}
 use Rattle.codec.specs.Columns.{columnOf-nameOf}
 use Rattle.cells.specs.Station.{Station}
-use Rattle.rules.specs.Needs.{CommandIn, basicOfAct}
-use Rattle.decoding.specs.Decoded.{withinNames}
+use Rattle.rules.specs.Needs.{ActIn, CommandIn}
 use Rattle.commands.specs.Answered.{Answered, Carried}
-use Rattle.commands.specs.Rows.{row-basic}
+use Rattle.commands.specs.Rows.{row-right}
 use Rattle.commands.specs.Ready.{row-i, row-s, name-o, commandOf, DecodedTo, fitsAll, RefusedBy}
 
 itself : (m : ℕ) → cond (eqb m 0) 0 m ≡ m
@@ -57,23 +57,22 @@ refused-links : {A : Type 0} (t : Bool) (x y : A) → cond (eqb (cond t 7 6) 0 |
 refused-links true x y = refl
 refused-links false x y = refl
 
-module _ (b : List ℕ) (n p : ℕ) (station : Station b n p) (c : Fields) where
+module _ (b : List ℕ) (f : Shape) (station : Station b f) (c : Fields) where
   abbrev S : State
   S = stateOf b
 
   abbrev d : Command
   d = decode (rawOf (shapeOf b) c)
 
-  same-command : d ≡ commandOf n c
-  same-command = ap (λ (m : ℕ). commandOf m c) (sym (station .subjects))
+  same-command : d ≡ commandOf (f .n) c
+  same-command = ap (λ (e : Shape). commandOf (e .n) c) (sym (station .shape))
 
-  fits-same : (namesFit (shapeOf b) c && fieldsFit (basicsOf (shapeOf b)) (ruleOf (c .code) (c .k)) (c .s) (columnOf (nameOf (shapeOf b .n) (c .o))) (c .k)) ≡ fitsAll n p c
-  unfolding shapeOf
+  fits-same : (namesFit (shapeOf b) c && fieldsFit (basicsOf (shapeOf b)) (ruleOf (c .code) (c .k)) (c .s) (columnOf (nameOf (shapeOf b .n) (c .o))) (c .k)) ≡ fitsAll f c
   fits-same =
-      ap₂ (λ (x y : Bool). x && y) (ap₂ (λ (m q : ℕ). withinNames m q c) (sym (station .subjects)) (sym (station .plains)))
-      (ap (λ (o : ℕ). fieldsFit 7 (ruleOf (c .code) (c .k)) (c .s) o (c .k)) (columnOf-nameOf (shapeOf b .n) (c .o)))
+      ap (λ (o : ℕ). namesFit (shapeOf b) c && fieldsFit (basicsOf (shapeOf b)) (ruleOf (c .code) (c .k)) (c .s) o (c .k)) (columnOf-nameOf (shapeOf b .n) (c .o))
+      ∙ ap (λ (e : Shape). fitsAll e c) (sym (station .shape))
 
-  refusal-is : refusalOn (shapeOf b) S c ≡ cond (known (c .code)) (cond (fitsAll n p c) (refusalOf S d) 7) 6
+  refusal-is : refusalOn (shapeOf b) S c ≡ cond (known (c .code)) (cond (fitsAll f c) (refusalOf S d) 7) 6
   unfolding refusalOn refusal
   refusal-is = three-tests (known (c .code)) _ (refusalOf S d) ∙ ap (λ (u : Bool). cond (known (c .code)) (cond u (refusalOf S d) 7) 6) fits-same
 
@@ -86,9 +85,9 @@ module _ (b : List ℕ) (n p : ℕ) (station : Station b n p) (c : Fields) where
   next-is = refl
 
   -- a command that is not decoded
-  pub answered-refused : {m : ℕ} → RefusedBy n p c m → Answered b b c (Refused m 0)
+  pub answered-refused : {m : ℕ} → RefusedBy f c m → Answered b b c (Refused m 0)
   answered-refused {m} w =
-      let e : refusalOn (shapeOf b) S c ≡ cond (known (c .code)) 7 6 = refusal-is ∙ unfit (known (c .code)) (fitsAll n p c) (refusalOf S d) (w .unfit) in
+      let e : refusalOn (shapeOf b) S c ≡ cond (known (c .code)) 7 6 = refusal-is ∙ unfit (known (c .code)) (fitsAll f c) (refusalOf S d) (w .unfit) in
       let l : linksOn (shapeOf b) S c ≡ 0 = links-are ∙ ap (λ (r : ℕ). linksWith r S d) e ∙ refused-links (known (c .code)) (walkLinks S d (d .act)) 0 in
       let s : nextOn (shapeOf b) S c ≡ S = next-is ∙ ap (λ (r : ℕ). cond (eqb r 0) (change S d (d .act)) S) e ∙ refused-none (known (c .code)) (change S d (d .act)) S in
       record {
@@ -97,32 +96,32 @@ module _ (b : List ℕ) (n p : ℕ) (station : Station b n p) (c : Fields) where
       }
 
   -- a decoded command
-  pub answered-decoded : {b′ : List ℕ} {d′ : Command} {kind : Kind} {r : Answer} → DecodedTo n p c d′ kind → Carried b b′ d′ r → Answered b b′ c r
+  pub answered-decoded : {b′ : List ℕ} {d′ : Command} {kind : Kind} {r : Answer} → DecodedTo f c d′ kind → Carried b b′ d′ r → Answered b b′ c r
   answered-decoded {b′} {d′} {r = r} w h =
       let q : d′ ≡ d = w .command ∙ sym same-command in
       let k : known (c .code) ≡ true = w .fits .code in
-      let g : fitsAll n p c ≡ true = and-both (w .fits .names) (w .fits .fields) in
+      let g : fitsAll f c ≡ true = and-both (w .fits .names) (w .fits .fields) in
       let e : refusalOn (shapeOf b) S c ≡ refusalOf S d = refusal-is ∙ rw (k, g) refl in
       let l : linksOn (shapeOf b) S c ≡ linksWith (refusalOf S d) S d = links-are ∙ ap (λ (r : ℕ). linksWith r S d) e in
       let s : nextOn (shapeOf b) S c ≡ cond (eqb (refusalOf S d) 0) (change S d (d .act)) S = next-is ∙ ap (λ (r : ℕ). cond (eqb r 0) (change S d (d .act)) S) e in
       let a : r ≡ answer (refusalOf S d) (linksWith (refusalOf S d) S d) = h .reply ∙ ap (λ (d : Command). answer (refusalOf S d) (linksWith (refusalOf S d) S d)) q in
-      let f : stateOf b′ ≡ cond (eqb (refusalOf S d) 0) (change S d (d .act)) S = h .became .state ∙ ap (λ (d : Command). cond (eqb (refusalOf S d) 0) (change S d (d .act)) S) q in
+      let t : stateOf b′ ≡ cond (eqb (refusalOf S d) 0) (change S d (d .act)) S = h .became .state ∙ ap (λ (d : Command). cond (eqb (refusalOf S d) 0) (change S d (d .act)) S) q in
       record {
         reply = a ∙ sym (ap₂ (λ (r l : ℕ). answer r l) e l);
-        became = record { shaped = h .became .shaped; octets = h .became .octets; shape = h .became .shape; state = f ∙ sym s };
+        became = record { shaped = h .became .shaped; octets = h .became .octets; shape = h .became .shape; state = t ∙ sym s };
       }
 
   -- a decoded command is on names and rights of the record
-  pub command-in : {d′ : Command} {kind : Kind} → DecodedTo n p c d′ kind → CommandIn b n p d′
+  pub command-in : {d′ : Command} {kind : Kind} → DecodedTo f c d′ kind → CommandIn b f d′
   command-in {d′} w =
       let names = w .fits .names in
-      let k : basicOfAct (ruleOf (c .code) (c .k) .act) < 7 = row-basic (c .code) (c .k) (and-right ((ruleOf (c .code) (c .k) .s || eqb (c .s) 0) && (ruleOf (c .code) (c .k) .o || eqb (c .o) 0)) _ (w .fits .fields)) in
-      let whole : CommandIn b n p (commandOf n c) =
+      let k : ActIn f (ruleOf (c .code) (c .k) .act) = row-right f (c .code) (c .k) (and-right ((ruleOf (c .code) (c .k) .s || eqb (c .s) 0) && (ruleOf (c .code) (c .k) .o || eqb (c .o) 0)) _ (w .fits .fields)) in
+      let whole : CommandIn b f (commandOf (f .n) c) =
       record {
         station = station;
-        initiator = row-i n p c names;
-        subject = row-s n p c names;
-        object = name-o n p c names;
-        basic = k;
+        initiator = row-i f c names;
+        subject = row-s f c names;
+        object = name-o f c names;
+        right = k;
       } in
-      subst (λ (d : Command). CommandIn b n p d) (sym (w .command)) whole
+      subst (λ (d : Command). CommandIn b f d) (sym (w .command)) whole

@@ -13,10 +13,10 @@ use Rattle.matrix.specs.declared.Name.the-variants.{Subject}
 use Rattle.matrix.specs.declared.Right.{Right}
 use Rattle.matrix.specs.declared.Right.the-variants.{Own, Control, Basic}
 use Rattle.matrix.specs.declared.Fields.{Fields}
+use Rattle.matrix.specs.declared.Shape.{Shape}
 use Rattle.matrix.specs.Names.{isSubject}
 use Rattle.matrix.specs.State.{State, held, exists, existsName}
 use Rattle.matrix.specs.Owners.{walk, meets}
-use Rattle.matrix.specs.Shape.{Shape}
 use Rattle.laws.specs.Tests.{way, clash, or-left, or-none-left}
 use Rattle.question.specs.Leaks.{Untrusted, LeaksBy}
 use Rattle.route.specs.Parts.{finish, destroysAll, among}

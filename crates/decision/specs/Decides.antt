@@ -10,11 +10,12 @@ use Rattle.matrix.specs.declared.Name.{Name}
 use Rattle.matrix.specs.declared.Form.the-variants.{Starred}
 use Rattle.matrix.specs.declared.Right.{Right}
 use Rattle.matrix.specs.declared.Right.the-variants.{Own, Basic}
+use Rattle.matrix.specs.declared.Shape.{Shape}
 use Rattle.matrix.specs.Bounded.{least}
 use Rattle.matrix.specs.Names.{named}
 use Rattle.matrix.specs.State.{State, held, exists, existsName}
 use Rattle.matrix.specs.Valid.{Valid}
-use Rattle.matrix.specs.Shape.{Shape, basicsOf}
+use Rattle.matrix.specs.Shape.{basicsOf}
 use Rattle.matrix.specs.Shaped.{Within}
 use Rattle.laws.specs.Tests.{clash, fails, holds, and-left, and-right, and-both}
 use Rattle.laws.specs.Bounded.{least-passes, least-found}

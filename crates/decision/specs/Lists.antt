@@ -12,9 +12,9 @@ use Rattle.matrix.specs.declared.Name.{Name}
 use Rattle.matrix.specs.declared.Name.the-variants.{Subject}
 use Rattle.matrix.specs.declared.Right.{Right}
 use Rattle.matrix.specs.declared.Right.the-variants.{Own, Control, Basic}
+use Rattle.matrix.specs.declared.Shape.{Shape}
 use Rattle.matrix.specs.Names.{named, sameName}
 use Rattle.matrix.specs.State.{State, exists, existsName}
-use Rattle.matrix.specs.Shape.{Shape}
 use Rattle.laws.specs.Tests.{way, or-cases}
 use Rattle.laws.specs.Same.{sameName-eq}
 use Rattle.question.specs.Leaks.{LeaksBy}

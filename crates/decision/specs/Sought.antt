@@ -9,11 +9,12 @@ use Rattle.matrix.specs.declared.Name.{Name}
 use Rattle.matrix.specs.declared.Name.the-variants.{Subject}
 use Rattle.matrix.specs.declared.Right.{Right}
 use Rattle.matrix.specs.declared.Right.the-variants.{Own, Control, Basic}
+use Rattle.matrix.specs.declared.Shape.{Shape}
 use Rattle.matrix.specs.Names.{named}
 use Rattle.matrix.specs.State.{State, held, exists}
 use Rattle.matrix.specs.Owners.{walk, meets, Above, owner, higher}
 use Rattle.matrix.specs.Valid.{Valid}
-use Rattle.matrix.specs.Shape.{Shape, basicsOf}
+use Rattle.matrix.specs.Shape.{basicsOf}
 use Rattle.matrix.specs.Shaped.{Within}
 use Rattle.laws.specs.Tests.{clash, fails, and-left}
 use Rattle.owners.specs.Walk.{walk-found}

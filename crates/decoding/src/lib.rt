@@ -8,13 +8,15 @@ use matrix::Kind;
 use matrix::Name;
 use matrix::Right;
 use matrix::Rule;
+use matrix::Shape;
 ghost use mathlib.Core.Path.{_≡_};
 ghost use mathlib.Core.Bool.{_||_};
 ghost use Prim.Native.Nat.{_≤_};
 ghost use lib.Dec.{eqb};
-ghost use Rattle.matrix.specs.Shape.{mostSubjects, mostPlain};
 ghost use Rattle.matrix.specs.Commands.{fieldsFit};
-ghost use Rattle.decoding.specs.Decoded.{formFrom, ruledOf, basicFits, withinNames, decodedOf};
+ghost use Rattle.matrix.specs.Calls.{namesFit};
+ghost use Rattle.codec.specs.ShapeRight.{ShapeRight};
+ghost use Rattle.decoding.specs.Decoded.{formFrom, ruledOf, basicFits, decodedOf};
 
 // The row of a code in the table of commands, if there is one.
 pub enum Ruled {
@@ -134,17 +136,17 @@ fn rule_of(code: usize, k: usize) -> Ruled
 }
 
 // Whether a command's names are the record's.
-pub fn names_fit(n: usize, p: usize, c: Fields) -> bool
-    requires { ⌜ (n ≤ mostSubjects) × (p ≤ mostPlain) ⌝ }
-    ensures { λ t. ⌜ t ≡ withinNames n p c ⌝ }
+pub fn names_fit(f: Shape, c: Fields) -> bool
+    requires { ⌜ ShapeRight f ⌝ }
+    ensures { λ t. ⌜ t ≡ namesFit f c ⌝ }
 {
-    if n <= c.i {
+    if f.n <= c.i {
         return false;
     }
-    if n <= c.s {
+    if f.n <= c.s {
         return false;
     }
-    c.o < n + p
+    c.o < cells::columns_of(f)
 }
 
 // Whether a field is used or 0.
@@ -158,18 +160,18 @@ fn used_or_zero(used: bool, v: usize) -> bool
 }
 
 // Whether the number of the basic right is in range where it is used, and else 0.
-fn basic_fits(used: bool, k: usize) -> bool
-    ensures { λ t. ⌜ t ≡ basicFits used k ⌝ }
+fn basic_fits(basics: usize, used: bool, k: usize) -> bool
+    ensures { λ t. ⌜ t ≡ basicFits basics used k ⌝ }
 {
     if used {
-        return k < 7;
+        return k < basics;
     }
     k == 0
 }
 
-// Whether the fields are what the rule uses.
-fn fields_fit(r: Rule, c: Fields) -> bool
-    ensures { λ t. ⌜ t ≡ fieldsFit 7 r (c .s) (c .o) (c .k) ⌝ }
+// Whether the fields are what the rule uses, for so many basic rights.
+fn fields_fit(basics: usize, r: Rule, c: Fields) -> bool
+    ensures { λ t. ⌜ t ≡ fieldsFit basics r (c .s) (c .o) (c .k) ⌝ }
 {
     if !used_or_zero(r.s, c.s) {
         return false;
@@ -177,27 +179,27 @@ fn fields_fit(r: Rule, c: Fields) -> bool
     if !used_or_zero(r.o, c.o) {
         return false;
     }
-    basic_fits(r.k, c.k)
+    basic_fits(basics, r.k, c.k)
 }
 
-// A command decoded for a record of n subject names and p plain names.
-pub fn decode(n: usize, p: usize, c: Fields) -> Decoded
-    requires { ⌜ (n ≤ mostSubjects) × (p ≤ mostPlain) ⌝ }
-    ensures { λ r. ⌜ r ≡ decodedOf n p c ⌝ }
+// A command decoded for a record of a shape.
+pub fn decode(f: Shape, c: Fields) -> Decoded
+    requires { ⌜ ShapeRight f ⌝ }
+    ensures { λ r. ⌜ r ≡ decodedOf f c ⌝ }
 {
     let ruled = rule_of(c.code, c.k);
     let Ruled::Known(r) = ruled else {
         return Decoded::Refused(6);
     };
-    if !names_fit(n, p, c) {
+    if !names_fit(f, c) {
         return Decoded::Refused(7);
     }
-    if !fields_fit(r, c) {
+    if !fields_fit(cells::basics_of(f), r, c) {
         return Decoded::Refused(7);
     }
     let act = r.act;
     let kind = r.kind;
-    let o = states::name_of(n, c.o);
+    let o = states::name_of(f.n, c.o);
     Decoded::Ready(
         Command {
             i: c.i,

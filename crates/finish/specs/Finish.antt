@@ -12,11 +12,12 @@ use Rattle.matrix.specs.declared.Form.{Form}
 use Rattle.matrix.specs.declared.Form.the-variants.{Starred}
 use Rattle.matrix.specs.declared.Right.{Right}
 use Rattle.matrix.specs.declared.Right.the-variants.{Own, Control, Basic}
+use Rattle.matrix.specs.declared.Shape.{Shape}
 use Rattle.matrix.specs.Names.{sameName, columnOf, named}
 use Rattle.matrix.specs.State.{State, exists, existsName}
 use Rattle.matrix.specs.Owners.{owner, walk, meets}
 use Rattle.matrix.specs.Tests.{otherController}
-use Rattle.matrix.specs.Shape.{Shape, basicsOf}
+use Rattle.matrix.specs.Shape.{basicsOf}
 use Rattle.matrix.specs.Valid.{Valid}
 use Rattle.laws.specs.Tests.{clash, fails}
 use Rattle.kept.specs.Subjects.{destroyed-keeps}

@@ -9,8 +9,8 @@ use Rattle.matrix.specs.declared.Name.{Name}
 use Rattle.matrix.specs.declared.Name.the-variants.{Subject}
 use Rattle.matrix.specs.declared.Right.{Right}
 use Rattle.matrix.specs.declared.Fields.{Fields}
+use Rattle.matrix.specs.declared.Shape.{Shape}
 use Rattle.matrix.specs.State.{State, exists, held}
-use Rattle.matrix.specs.Shape.{Shape}
 use Rattle.question.specs.Leaks.{LeaksBy, Untrusted}
 use Rattle.route.specs.Parts.{creates}
 use Rattle.route.specs.RunsTo.{Accepts, RunsTo, done, step}

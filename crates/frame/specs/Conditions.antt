@@ -7,9 +7,10 @@ use Rattle.matrix.specs.declared.Right.{Right}
 use Rattle.matrix.specs.declared.Act.{Act}
 use Rattle.matrix.specs.declared.Act.the-variants.{Transfer, Grant, Delete, CreateObject, DestroyObject, CreateSubject, DestroySubject}
 use Rattle.matrix.specs.declared.Command.{Command}
+use Rattle.matrix.specs.declared.Shape.{Shape}
 use Rattle.matrix.specs.Names.{named}
 use Rattle.matrix.specs.Rights.{codeOf}
-use Rattle.matrix.specs.Shape.{Shape, bitsOf}
+use Rattle.matrix.specs.Shape.{bitsOf}
 
 -- the bit of right z in the cell of row w and column x is one of the record's
 pub record Inside (f : Shape) (z : Right) (w : ℕ) (x : Name) : Type 0 where

@@ -18,13 +18,14 @@ use Rattle.matrix.specs.declared.Act.the-variants.{Transfer, Grant, Delete, Cre
 use Rattle.matrix.specs.declared.Rule.{Rule}
 use Rattle.matrix.specs.declared.Command.{Command}
 use Rattle.matrix.specs.declared.Fields.{Fields}
+use Rattle.matrix.specs.declared.Shape.{Shape}
 use Rattle.matrix.specs.Names.{nameOf, named, columnOf}
 use Rattle.matrix.specs.Rights.{codeOf}
 use Rattle.matrix.specs.State.{State, has, put, clear}
 use Rattle.matrix.specs.Commands.{ruleOf, rules, decode}
 use Rattle.matrix.specs.Changes.{change, admit, inherit, inColumn, inCross}
 use Rattle.matrix.specs.Step.{refusal, next}
-use Rattle.matrix.specs.Shape.{Shape, bitsOf, basicsOf, columns}
+use Rattle.matrix.specs.Shape.{bitsOf, basicsOf, columns}
 use Rattle.matrix.specs.Shaped.{Within}
 use Rattle.matrix.specs.Calls.{rawOf, namesFit, refusalOn, nextOn, runFrom}
 use Rattle.laws.specs.Tests.{way, and-left, and-right}

@@ -1,5 +1,5 @@
 -- A held question, step by step; and its answer on a whole record, where the tests 1 to 5 come first.
-use Prim.Native.Nat.{ℕ, zero, suc, _+_, _<_}
+use Prim.Native.Nat.{ℕ, zero, suc, _<_}
 use native.Mathlib.Omega.{arith}
 use mathlib.Core.Path.{_≡_, refl, sym, _∙_, ap, ap₂, subst}
 use mathlib.Core.Bool.{Bool, true, false, cond, _&&_}
@@ -10,57 +10,57 @@ use Rattle.matrix.specs.declared.Name.{Name}
 use Rattle.matrix.specs.declared.Right.{Right}
 use Rattle.matrix.specs.declared.Holding.{Holding}
 use Rattle.matrix.specs.declared.Holding.the-variants.{Yes, No, Refused}
+use Rattle.matrix.specs.declared.Shape.{Shape}
 use Rattle.matrix.specs.Names.{nameOf, named}
 use Rattle.matrix.specs.Rights.{rightOf}
 use Rattle.matrix.specs.State.{held}
 use Rattle.matrix.specs.Tests.{firstFailed}
-use Rattle.matrix.specs.Shape.{shapeOf}
+use Rattle.matrix.specs.Shape.{shapeOf, bitsOf, columns}
 use Rattle.matrix.specs.Reading.{stateOf}
 use Rattle.matrix.specs.Record.{recordRefusal}
 use Rattle.matrix.specs.Calls.{questionFits, heldRefusal, heldAnswer}
 use Rattle.laws.specs.Tests.{and-left, and-right}
 use Rattle.codec.specs.Columns.{named-nameOf}
 use Rattle.cells.specs.Station.{Station}
-use Rattle.states.specs.Needs.{basicOf, BitIn}
-use Rattle.holding.specs.Held.{withinQuestion, heldOn}
+use Rattle.states.specs.Needs.{RightIn, BitIn}
+use Rattle.holding.specs.Held.{heldOn}
 
--- the number of the basic right of a code below 16
-right-small : (code : ℕ) → code < 16 → basicOf (rightOf code) < 7
-right-small zero h = omega arith
-right-small (suc zero) h = omega arith
-right-small (suc (suc j)) h = omega arith
+-- the right of a code that is one of a cell's bits
+right-in : (f : Shape) (code : ℕ) → code < bitsOf f → RightIn f (rightOf code)
+right-in f zero h = tt
+right-in f (suc zero) h = tt
+right-in f (suc (suc j)) h = omega arith
 
 -- t is whether the numbers of the question fit, y and x are the right and the name that it asks for
-module _ (b : List ℕ) (n p s o right : ℕ) (station : Station b n p) where
-  fits-same : questionFits (shapeOf b) s o right ≡ withinQuestion n p s o right
-  unfolding shapeOf
-  fits-same = ap₂ (λ (m q : ℕ). withinQuestion m q s o right) (sym (station .subjects)) (sym (station .plains))
+module _ (b : List ℕ) (f : Shape) (s o right : ℕ) (station : Station b f) where
+  fits-same : questionFits (shapeOf b) s o right ≡ questionFits f s o right
+  fits-same = ap (λ (e : Shape). questionFits e s o right) (sym (station .shape))
 
   -- the numbers do not fit
-  pub held-unfit : {t : Bool} → t ≡ withinQuestion n p s o right → t ≡ false → Refused 7 ≡ heldOn b s o right
+  pub held-unfit : {t : Bool} → t ≡ questionFits f s o right → t ≡ false → Refused 7 ≡ heldOn b s o right
   unfolding heldOn
-  held-unfit e h = let f : questionFits (shapeOf b) s o right ≡ false = fits-same ∙ sym e ∙ h in rw f refl
+  held-unfit e h = let g : questionFits (shapeOf b) s o right ≡ false = fits-same ∙ sym e ∙ h in rw g refl
 
   -- they do, and v is whether the right is held
-  pub held-fit : {t u : Bool} {y : Right} {x : Name} (v : Bool) → t ≡ withinQuestion n p s o right → t ≡ true → y ≡ rightOf right → x ≡ nameOf n o → u ≡ held (stateOf b) y s x → u ≡ v → cond v Yes No ≡ heldOn b s o right
+  pub held-fit : {t u : Bool} {y : Right} {x : Name} (v : Bool) → t ≡ questionFits f s o right → t ≡ true → y ≡ rightOf right → x ≡ nameOf (f .n) o → u ≡ held (stateOf b) y s x → u ≡ v → cond v Yes No ≡ heldOn b s o right
   unfolding heldOn
-  held-fit v e h f g d w =
+  held-fit v e h i g d w =
       let q : questionFits (shapeOf b) s o right ≡ true = fits-same ∙ sym e ∙ h in
       let r : v ≡ held (stateOf b) (rightOf right) s (nameOf (shapeOf b .n) o) =
-      sym w ∙ d ∙ ap₂ (λ (y : Right) (x : Name). held (stateOf b) y s x) f (g ∙ ap (λ (m : ℕ). nameOf m o) (station .subjects)) in
+      sym w ∙ d ∙ ap₂ (λ (y : Right) (x : Name). held (stateOf b) y s x) i (g ∙ ap (λ (e : Shape). nameOf (e .n) o) (station .shape)) in
       rw q (ap (λ (v : Bool). cond v Yes No) r)
 
   -- the bit that is asked for is one of the record
-  pub asked-in : {t : Bool} {y : Right} {x : Name} → t ≡ withinQuestion n p s o right → t ≡ true → y ≡ rightOf right → x ≡ nameOf n o → BitIn b n p y s x
-  asked-in {y = y} {x = x} e h f g =
-      let q : withinQuestion n p s o right ≡ true = sym e ∙ h in
-      let names : (ltb s n && ltb o (n + p)) ≡ true = and-left (ltb s n && ltb o (n + p)) (ltb right 16) q in
-      let l : right < 16 = ltb-true right 16 (and-right (ltb s n && ltb o (n + p)) (ltb right 16) q) in
+  pub asked-in : {t : Bool} {y : Right} {x : Name} → t ≡ questionFits f s o right → t ≡ true → y ≡ rightOf right → x ≡ nameOf (f .n) o → BitIn b f y s x
+  asked-in {y = y} {x = x} e h i g =
+      let q : questionFits f s o right ≡ true = sym e ∙ h in
+      let names : (ltb s (f .n) && ltb o (columns f)) ≡ true = and-left (ltb s (f .n) && ltb o (columns f)) (ltb right (bitsOf f)) q in
+      let l : right < bitsOf f = ltb-true right (bitsOf f) (and-right (ltb s (f .n) && ltb o (columns f)) (ltb right (bitsOf f)) q) in
       record {
         station = station;
-        right = subst (λ (y : Right). basicOf y < 7) (sym f) (right-small right l);
-        row = ltb-true s n (and-left (ltb s n) (ltb o (n + p)) names);
-        column = ap (λ (x : Name). named n p x) g ∙ named-nameOf n p o (ltb-true o (n + p) (and-right (ltb s n) (ltb o (n + p)) names));
+        right = subst (RightIn f) (sym i) (right-in f right l);
+        row = ltb-true s (f .n) (and-left (ltb s (f .n)) (ltb o (columns f)) names);
+        column = ap (λ (x : Name). named (f .n) (f .p) x) g ∙ named-nameOf (f .n) (f .p) o (ltb-true o (columns f) (and-right (ltb s (f .n)) (ltb o (columns f)) names));
       }
 
 -- ---- the answer on a whole record

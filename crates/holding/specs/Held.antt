@@ -1,8 +1,7 @@
 -- What a held question on a record of the right form comes to.
-use Prim.Native.Nat.{ℕ, _+_}
-use mathlib.Core.Bool.{Bool, cond, _&&_}
+use Prim.Native.Nat.{ℕ}
+use mathlib.Core.Bool.{cond}
 use mathlib.Core.List.{List}
-use lib.Dec.{ltb}
 use Rattle.matrix.specs.declared.Holding.{Holding}
 use Rattle.matrix.specs.declared.Holding.the-variants.{Yes, No, Refused}
 use Rattle.matrix.specs.Names.{nameOf}
@@ -11,10 +10,6 @@ use Rattle.matrix.specs.State.{held}
 use Rattle.matrix.specs.Shape.{shapeOf}
 use Rattle.matrix.specs.Reading.{stateOf}
 use Rattle.matrix.specs.Calls.{questionFits}
-
--- test 7 of a held question on a record of n subject names and p plain names (Manual 7.2)
-abbrev pub withinQuestion : ℕ → ℕ → ℕ → ℕ → ℕ → Bool
-withinQuestion n p s o right = ltb s n && ltb o (n + p) && ltb right 16
 
 -- 7, then yes or no
 unfoldable pub heldOn : List ℕ → ℕ → ℕ → ℕ → Holding

@@ -11,11 +11,12 @@ use Rattle.matrix.specs.declared.Form.{Form}
 use Rattle.matrix.specs.declared.Form.the-variants.{Plain, Starred}
 use Rattle.matrix.specs.declared.Right.{Right}
 use Rattle.matrix.specs.declared.Right.the-variants.{Basic}
+use Rattle.matrix.specs.declared.Shape.{Shape}
 use Rattle.matrix.specs.Rights.{rightOf, heldBy}
 use Rattle.matrix.specs.State.{State, has, hasOne, held}
 use Rattle.laws.specs.Tests.{or-stop, or-next}
 use Rattle.states.specs.Needs.{BitIn}
-use Rattle.states.specs.Reads.{basic-small}
+use Rattle.states.specs.Reads.{basic-in}
 
 -- a basic right, taken apart down to its form
 pub basic-form : {y : Right} {k : ℕ} {f : Form} (g : Form) → y ≡ Basic k f → f ≡ g → y ≡ Basic k g
@@ -34,8 +35,8 @@ pub rightOf-starred : (code : ℕ) → (code ≡ 0 → ⊥) → (code ≡ 1 → 
 rightOf-starred code h g e = rightOf-basic code Starred h g (ap (λ (t : Bool). cond t Plain Starred) (ne-eqb ((code - 2) % 2) 0 e))
 
 -- a basic right of either form is a right of the record where it is one in the other
-pub basic-in : {b : List ℕ} {n p : ℕ} {y : Right} {w : ℕ} {x : Name} {k : ℕ} {f g : Form} → BitIn b n p y w x → y ≡ Basic k f → BitIn b n p (Basic k g) w x
-basic-in h e = record { station = h .station; right = basic-small e (h .right); row = h .row; column = h .column }
+pub either-form : {b : List ℕ} {f : Shape} {y : Right} {w : ℕ} {x : Name} {k : ℕ} {g e : Form} → BitIn b f y w x → y ≡ Basic k g → BitIn b f (Basic k e) w x
+either-form {f = f} h e = record { station = h .station; right = basic-in f e (h .right); row = h .row; column = h .column }
 
 module _ (S : State) (w : ℕ) (x : Name) where
   same-held : {y z : Right} → y ≡ z → held S z w x ≡ held S y w x

@@ -11,11 +11,12 @@ use Rattle.matrix.specs.declared.Act.{Act}
 use Rattle.matrix.specs.declared.Act.the-variants.{Transfer, Grant, Delete, CreateObject, DestroyObject, CreateSubject, DestroySubject}
 use Rattle.matrix.specs.declared.Command.{Command}
 use Rattle.matrix.specs.declared.Fields.{Fields}
+use Rattle.matrix.specs.declared.Shape.{Shape}
 use Rattle.matrix.specs.State.{State, exists, existsName}
 use Rattle.matrix.specs.Commands.{Raw, decode}
 use Rattle.matrix.specs.Changes.{change}
 use Rattle.matrix.specs.Step.{refusalOf, refusal, next}
-use Rattle.matrix.specs.Shape.{Shape, basicsOf}
+use Rattle.matrix.specs.Shape.{basicsOf}
 use Rattle.matrix.specs.Calls.{rawOf, namesFit, refusalOn, nextOn, runFrom}
 use Rattle.matrix.specs.Valid.{Valid}
 use Rattle.laws.specs.Tests.{way, and-left}

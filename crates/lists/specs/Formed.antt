@@ -7,12 +7,12 @@ use lib.Dec.{eqb, leb}
 use lib.ListN.{length, getD}
 use borrow.Author.Tests.{leb-true, eqb-true}
 use Rattle.matrix.specs.Bytes.{numberAt}
-use Rattle.matrix.specs.CommandList.{wellFormed, commandsFrom, mostListBytes, recordBytes}
+use Rattle.matrix.specs.CommandList.{listHead, recordBytes, mostListBytes, wellFormed, commandsFrom}
 use Rattle.laws.specs.Tests.{and-left, and-right}
 
 pub record Formed (l : List ℕ) : Type 0 where
-  pub long : 5 ≤ length l
-  pub size : 5 + numberAt l 1 4 ≡ length l
+  pub long : listHead ≤ length l
+  pub size : listHead + numberAt l 1 4 ≡ length l
   pub bounded : numberAt l 1 4 ≤ mostListBytes
   pub whole : numberAt l 1 4 % recordBytes ≡ 0
 
@@ -27,8 +27,8 @@ parts a b c d e f h =
 pub formed : (l : List ℕ) → wellFormed l ≡ true → Formed l
 unfolding wellFormed
 formed l h =
-    let w = parts (leb 5 (length l)) (eqb (getD l 0 0) 1) (eqb (5 + numberAt l 1 4) (length l)) (leb (numberAt l 1 4) mostListBytes) (eqb (numberAt l 1 4 % recordBytes) 0) _ h in
-    record { long = leb-true 5 (length l) (w .0); size = eqb-true (5 + numberAt l 1 4) (length l) (w .1); bounded = leb-true (numberAt l 1 4) mostListBytes (w .2); whole = eqb-true (numberAt l 1 4 % recordBytes) 0 (w .3) }
+    let w = parts (leb listHead (length l)) (eqb (getD l 0 0) 1) (eqb (listHead + numberAt l 1 4) (length l)) (leb (numberAt l 1 4) mostListBytes) (eqb (numberAt l 1 4 % recordBytes) 0) _ h in
+    record { long = leb-true listHead (length l) (w .0); size = eqb-true (listHead + numberAt l 1 4) (length l) (w .1); bounded = leb-true (numberAt l 1 4) mostListBytes (w .2); whole = eqb-true (numberAt l 1 4 % recordBytes) 0 (w .3) }
 
 -- the number of commands that are read
 pub length-commands : (l : List ℕ) (j m : ℕ) → length (commandsFrom l j m) ≡ m

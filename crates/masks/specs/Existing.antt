@@ -15,7 +15,7 @@ use Rattle.matrix.specs.State.{exists}
 use Rattle.matrix.specs.Reading.{stateOf}
 use Rattle.laws.specs.Tests.{way}
 use Rattle.codec.specs.Bits.{fromBits-below, bit-fromBits, bit-beyond, one-shifted}
-use Rattle.masks.specs.Marks.{MarksOf}
+use Rattle.masks.specs.Marks.{maskBits, MarksOf}
 
 -- m has the bits of the existing subjects below s, and no other
 pub record Upto (b : List ℕ) (s m : ℕ) : Type 0 where
@@ -27,14 +27,14 @@ upto-none b = record { is = refl }
 
 module _ {b : List ℕ} {s m : ℕ} (h : Upto b s m) where
   -- there is room for one bit more
-  pub room : s < 64 → m + 1 * 2 ^ s % 18446744073709551616 < 18446744073709551616
+  pub room : s < maskBits → m + 1 * 2 ^ s % 18446744073709551616 < 18446744073709551616
   room l =
       let f : fromBits s (exists (stateOf b)) < 2 ^ s = fromBits-below s (exists (stateOf b)) in
       let e : m ≡ fromBits s (exists (stateOf b)) = h .is in
-      omega (arith, one-shifted s l, pow-mono {i = suc s} {j = 64} (omega arith), pow-succ' 2 s)
+      omega (arith, one-shifted s l, pow-mono {i = suc s} {j = maskBits} (omega arith), pow-succ' 2 s)
 
   -- t is the answer whether s exists, and v the mask after it
-  pub upto-more : {t : Bool} {v : ℕ} → s < 64 → t ≡ exists (stateOf b) s → t ≡ true → v ≡ m + 1 * 2 ^ s % 18446744073709551616 → Upto b (s + 1) v
+  pub upto-more : {t : Bool} {v : ℕ} → s < maskBits → t ≡ exists (stateOf b) s → t ≡ true → v ≡ m + 1 * 2 ^ s % 18446744073709551616 → Upto b (s + 1) v
   unfolding fromBits
   upto-more l f e q = record { is = q ∙ ap₂ (λ (x y : ℕ). x + y) (h .is) (one-shifted s l) ∙ rw (add-one, ← f, e) refl }
 

@@ -10,6 +10,7 @@ use Rattle.matrix.specs.declared.Holding.{Holding}
 use Rattle.matrix.specs.declared.Holding.the-variants.{Yes, No}
 use Rattle.matrix.specs.declared.Outcome.{Outcome}
 use Rattle.matrix.specs.declared.Numbers.{Numbers}
+use Rattle.matrix.specs.declared.Shape.{Shape}
 use Rattle.matrix.specs.Names.{nameOf}
 use Rattle.matrix.specs.Numbers.{truth, numbers}
 use Rattle.matrix.specs.Rights.{rightOf}
@@ -17,7 +18,7 @@ use Rattle.matrix.specs.State.{State, held}
 use Rattle.matrix.specs.Commands.{Raw}
 use Rattle.matrix.specs.Tests.{test, firstFailed}
 use Rattle.matrix.specs.Step.{refusal, links, next, answer}
-use Rattle.matrix.specs.Shape.{Shape, shapeOf, bitsOf, basicsOf, columns}
+use Rattle.matrix.specs.Shape.{shapeOf, bitsOf, basicsOf, columns}
 use Rattle.matrix.specs.Reading.{stateOf, content, bytesOf}
 use Rattle.matrix.specs.Record.{recordRefusal}
 use Rattle.matrix.specs.CommandList.{wellFormed, commandsOf}

@@ -8,25 +8,32 @@ use Rattle.matrix.specs.declared.Fields.{Fields}
 use Rattle.matrix.specs.Bounded.{all}
 use Rattle.matrix.specs.Bytes.{numberAt}
 
--- the bytes of one command in a list, and the most that may follow the list's head of 5 bytes
+-- the bytes of a list's head, of one command in a list, and the most that may follow the head
+abbrev pub listHead : ℕ
+listHead = 5
+
 abbrev pub recordBytes : ℕ
 recordBytes = 6
 
 abbrev pub mostListBytes : ℕ
 mostListBytes = 60000
 
+-- a command's length byte: the number of bytes that follow it
+abbrev pub lengthByte : ℕ
+lengthByte = 5
+
 -- the number of commands that the list's L says, and the place of the j-th
 abbrev pub commandsIn : List ℕ → ℕ
 commandsIn l = numberAt l 1 4 / recordBytes
 
 abbrev pub commandPlace : ℕ → ℕ
-commandPlace j = 5 + recordBytes * j
+commandPlace j = listHead + recordBytes * j
 
 -- The list has the right form; refusal 16 where this fails (Manual 7.1).
 unfoldable pub wellFormed : List ℕ → Bool
 wellFormed l =
-    leb 5 (length l) && eqb (getD l 0 0) 1 && eqb (5 + numberAt l 1 4) (length l) && leb (numberAt l 1 4) mostListBytes
-    && eqb (numberAt l 1 4 % recordBytes) 0 && all (commandsIn l) (λ j. eqb (getD l (commandPlace j) 0) 5)
+    leb listHead (length l) && eqb (getD l 0 0) 1 && eqb (listHead + numberAt l 1 4) (length l) && leb (numberAt l 1 4) mostListBytes
+    && eqb (numberAt l 1 4 % recordBytes) 0 && all (commandsIn l) (λ j. eqb (getD l (commandPlace j) 0) lengthByte)
 
 abbrev pub fieldsAt : List ℕ → ℕ → Fields
 fieldsAt l at =

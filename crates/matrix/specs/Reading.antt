@@ -5,11 +5,12 @@ use mathlib.Core.List.{List, [], _∷_, _++_}
 use lib.Dec.{ltb}
 use Rattle.matrix.specs.declared.Name.{Name}
 use Rattle.matrix.specs.declared.Right.the-variants.{Own, Control, Basic}
+use Rattle.matrix.specs.declared.Shape.{Shape}
 use Rattle.matrix.specs.Names.{nameOf, columnOf, named}
 use Rattle.matrix.specs.Rights.{codeOf, rightOf}
 use Rattle.matrix.specs.State.{State, has}
 use Rattle.matrix.specs.Bytes.{numberAt, setNumber, bytesOfNumber, bit, fromBits, joined}
-use Rattle.matrix.specs.Shape.{Shape, shapeOf, bitsOf, columns, cellPlace, countOf}
+use Rattle.matrix.specs.Shape.{shapeOf, bitsOf, columns, cellPlace, countOf}
 
 -- the cell of row r and column c, as a number; the bytes with another number there
 unfoldable pub cellAt : List ℕ → ℕ → ℕ → ℕ

@@ -7,13 +7,14 @@ use lib.Dec.{eqb, ltb, leb}
 use lib.ListN.{length}
 use Rattle.matrix.specs.declared.Name.{Name}
 use Rattle.matrix.specs.declared.Name.the-variants.{Subject, Plain}
+use Rattle.matrix.specs.declared.Shape.{Shape}
 use Rattle.matrix.specs.Bounded.{any, all, count}
 use Rattle.matrix.specs.Names.{U, nameOf}
 use Rattle.matrix.specs.Rights.{rightOf}
 use Rattle.matrix.specs.State.{State, has, exists, existsName}
 use Rattle.matrix.specs.Owners.{ownerOf}
 use Rattle.matrix.specs.Tests.{test, firstFailed}
-use Rattle.matrix.specs.Shape.{Shape, shapeOf, knownVersion, inRange, sized, bitsOf, columns}
+use Rattle.matrix.specs.Shape.{shapeOf, headerBytes, knownVersion, inRange, sized, bitsOf, columns}
 use Rattle.matrix.specs.Reading.{stateOf}
 
 -- the cell of row w and column x has no bit set
@@ -53,7 +54,7 @@ validMatrix f S = absentZero f S && plainUncontrolled f S && rootRight f S && on
 -- The refusals 1 to 5 (Manual 7.1): too few bytes, the version, n and p, L and the length, the five conditions.
 unfoldable pub recordRefusal : List ℕ → ℕ
 recordRefusal b =
-    firstFailed (test 1 (leb 7 (length b)) ∷
+    firstFailed (test 1 (leb headerBytes (length b)) ∷
     test 2 (knownVersion (shapeOf b .version)) ∷
     test 3 (inRange (shapeOf b)) ∷
     test 4 (sized b) ∷

@@ -1,18 +1,12 @@
--- The record's layout (Manual 2.1): the version, L, n and p in the first 7 bytes, then the cells, row after row.
+-- The record's layout (Manual 2.1): the version, L, n and p in the first 7 bytes, then the cells, row after row. What the version and the bytes 5
+-- and 6 fix is a Shape, which the source declares: version, n and p, the bytes of a cell (`width`), and the place of the first cell (`first`).
 use Prim.Native.Nat.{ℕ, _+_, _-_, _*_}
 use mathlib.Core.Bool.{Bool, _&&_}
 use mathlib.Core.List.{List}
 use lib.Dec.{eqb, leb}
 use lib.ListN.{length, getD}
+use Rattle.matrix.specs.declared.Shape.{Shape}
 use Rattle.matrix.specs.Bytes.{numberAt}
-
--- What a record's version and its bytes 5 and 6 fix: version, n and p, the bytes of a cell, the place of the first cell.
-pub record Shape : Type 0 where
-  pub version : ℕ
-  pub n : ℕ
-  pub p : ℕ
-  pub width : ℕ
-  pub first : ℕ
 
 abbrev pub knownVersion : ℕ → Bool
 knownVersion v = eqb v 1
@@ -23,12 +17,16 @@ mostSubjects = 64
 abbrev pub mostPlain : ℕ
 mostPlain = 192
 
+-- the bytes of the header: version, L, n and p
+abbrev pub headerBytes : ℕ
+headerBytes = 7
+
 -- the bytes of a cell, and the place of the first cell, in a version
 abbrev pub widthOf : ℕ → ℕ
 widthOf v = 2
 
 abbrev pub firstOf : ℕ → ℕ
-firstOf v = 7
+firstOf v = headerBytes
 
 unfoldable pub shapeOf : List ℕ → Shape
 shapeOf b = record { version = getD b 0 0; n = getD b 5 0; p = getD b 6 0; width = widthOf (getD b 0 0); first = firstOf (getD b 0 0) }

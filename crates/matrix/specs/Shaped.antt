@@ -6,11 +6,12 @@ use mathlib.Core.List.{List}
 use lib.ListN.{length, getD}
 use Rattle.matrix.specs.declared.Name.{Name}
 use Rattle.matrix.specs.declared.Right.{Right}
+use Rattle.matrix.specs.declared.Shape.{Shape}
 use Rattle.matrix.specs.Names.{named}
 use Rattle.matrix.specs.Rights.{codeOf}
 use Rattle.matrix.specs.State.{State, has}
 use Rattle.matrix.specs.Bytes.{numberAt}
-use Rattle.matrix.specs.Shape.{Shape, shapeOf, knownVersion, mostSubjects, mostPlain, countOf, sizeOf, bitsOf}
+use Rattle.matrix.specs.Shape.{shapeOf, knownVersion, mostSubjects, mostPlain, countOf, sizeOf, bitsOf}
 
 pub record Shaped (b : List ℕ) : Type 0 where
   pub version : knownVersion (shapeOf b .version) ≡ true

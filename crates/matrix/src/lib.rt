@@ -1,5 +1,34 @@
 // The types that the definitions and the code share. The definitions are in specs/.
 
+// The most subject names and plain names that a record has, and so the most columns.
+pub const MOST_SUBJECTS: usize = 64;
+
+pub const MOST_PLAIN: usize = 192;
+
+pub const MOST_COLUMNS: usize = MOST_SUBJECTS + MOST_PLAIN;
+
+// The bytes of a record's header: version, L, n and p.
+pub const HEADER_BYTES: usize = 7;
+
+// The bytes of a list's head, of one command in a list, and the most that may follow the head.
+pub const LIST_HEAD: usize = 5;
+
+pub const RECORD_BYTES: usize = 6;
+
+pub const MOST_LIST_BYTES: usize = 60000;
+
+// A command's length byte: the number of bytes that follow it.
+pub const LENGTH_BYTE: u8 = 5;
+
+// What a record's version and its bytes 5 and 6 fix: version, n and p, the bytes of a cell, the place of the first cell.
+pub struct Shape {
+    pub version: usize,
+    pub n: usize,
+    pub p: usize,
+    pub width: usize,
+    pub first: usize,
+}
+
 // A name: subjects (logins) and plain objects (logs) are two separate kinds.
 pub enum Name {
     Subject(usize),

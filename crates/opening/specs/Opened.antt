@@ -1,20 +1,18 @@
 -- What holds of a record that is not turned down.
-use Prim.Native.Nat.{ℕ, _+_, _*_, _<_}
-use native.Mathlib.Omega.{arith}
+use Prim.Native.Nat.{ℕ, _≤_}
 use mathlib.Core.Path.{_≡_}
 use mathlib.Core.List.{List}
-use lib.ListN.{length, getD}
-use Rattle.matrix.specs.Shape.{shapeOf}
+use lib.ListN.{length}
+use Rattle.matrix.specs.declared.Shape.{Shape}
+use Rattle.matrix.specs.Shape.{headerBytes, shapeOf}
 use Rattle.matrix.specs.Record.{recordRefusal}
 use Rattle.matrix.specs.Shaped.{Octets}
-use Rattle.owners.specs.Read.{record-shaped}
+use Rattle.owners.specs.Read.{record-shaped, long}
 use Rattle.cells.specs.Station.{Station}
 
 -- a record that is not turned down is of the right form
-pub station-of : {b : List ℕ} {n p : ℕ} → Octets b → recordRefusal b ≡ 0 → n ≡ getD b 5 0 → p ≡ getD b 6 0 → Station b n p
-unfolding shapeOf
-station-of {b} o h e f = record { shaped = record-shaped b h; octets = o; subjects = e; plains = f }
+pub station-of : {b : List ℕ} {f : Shape} → Octets b → recordRefusal b ≡ 0 → f ≡ shapeOf b → Station b f
+station-of {b} o h e = record { shaped = record-shaped b h; octets = o; shape = e }
 
-pub long-enough : (b : List ℕ) → recordRefusal b ≡ 0 → 6 < length b
-unfolding shapeOf
-long-enough b h = let e : length b ≡ 7 + 2 * (getD b 5 0 * (getD b 5 0 + getD b 6 0)) = record-shaped b h .size in omega arith
+pub long-enough : (b : List ℕ) → recordRefusal b ≡ 0 → headerBytes ≤ length b
+long-enough b h = long b (record-shaped b h)

@@ -1,8 +1,11 @@
-// Opening a record that is not turned down: its n and p are its bytes 5 and 6.
+// Opening a record that is not turned down: what its version and its bytes 5 and 6 fix is its shape, made here and handed on as one value.
 
+use matrix::HEADER_BYTES;
+use matrix::Shape;
 ghost use mathlib.Core.Path.{_≡_};
-ghost use Prim.Native.Nat.{_<_};
+ghost use Prim.Native.Nat.{_≤_, _<_};
 ghost use lib.ListN.{length, getD};
+ghost use Rattle.matrix.specs.Shape.{headerBytes, widthOf, firstOf, shapeOf};
 
 // The byte at a place, as a number.
 pub fn byte(b: &[u8], j: usize) -> usize
@@ -10,4 +13,33 @@ pub fn byte(b: &[u8], j: usize) -> usize
     ensures { λ r. ⌜ r ≡ getD (now (b .entry)) j 0 ⌝ }
 {
     b[j] as usize
+}
+
+// The bytes of a cell in a version.
+fn width_of(version: usize) -> usize
+    ensures { λ w. ⌜ w ≡ widthOf version ⌝ }
+{
+    2
+}
+
+// The place of the first cell in a version.
+fn first_of(version: usize) -> usize
+    ensures { λ x. ⌜ x ≡ firstOf version ⌝ }
+{
+    HEADER_BYTES
+}
+
+// The shape that a record's bytes say.
+pub fn shape(b: &[u8]) -> Shape
+    requires { ⌜ headerBytes ≤ length (now b) ⌝ }
+    ensures { λ f. ⌜ f ≡ shapeOf (now (b .entry)) ⌝ }
+{
+    let version = byte(b, 0);
+    Shape {
+        version,
+        n: byte(b, 5),
+        p: byte(b, 6),
+        width: width_of(version),
+        first: first_of(version),
+    }
 }

@@ -8,11 +8,12 @@ use lib.Dec.{eqb, leb}
 use lib.ListN.{length}
 use borrow.Author.Tests.{eqb-true, eq-eqb, leb-true, le-leb}
 use Rattle.matrix.specs.declared.Name.{Name}
+use Rattle.matrix.specs.declared.Shape.{Shape}
 use Rattle.matrix.specs.Owners.{walk, linksOf}
 use Rattle.matrix.specs.Valid.{Valid}
 use Rattle.matrix.specs.Tests.{Test, test}
 use Rattle.matrix.specs.Bytes.{numberAt}
-use Rattle.matrix.specs.Shape.{Shape, shapeOf, knownVersion, inRange, sized, mostSubjects, mostPlain, countOf, sizeOf}
+use Rattle.matrix.specs.Shape.{shapeOf, headerBytes, knownVersion, inRange, sized, mostSubjects, mostPlain, countOf, sizeOf}
 use Rattle.matrix.specs.Reading.{stateOf}
 use Rattle.matrix.specs.Shaped.{Shaped}
 use Rattle.matrix.specs.Record.{validMatrix, recordRefusal}
@@ -25,7 +26,7 @@ use Rattle.owners.specs.Test.{valid-of-test, test-of-valid}
 -- the tests of a record, in their order
 abbrev pub recordTests : List ℕ → List Test
 recordTests b =
-    test 1 (leb 7 (length b)) ∷
+    test 1 (leb headerBytes (length b)) ∷
     test 2 (knownVersion (shapeOf b .version)) ∷
     test 3 (inRange (shapeOf b)) ∷
     test 4 (sized b) ∷
@@ -66,7 +67,7 @@ record-links b h s o =
     omega arith
 
 -- a record of the right form is at least as long as its head
-long : (b : List ℕ) → Shaped b → 7 ≤ length b
+pub long : (b : List ℕ) → Shaped b → headerBytes ≤ length b
 unfolding shapeOf
 long b s = let e : length b ≡ sizeOf (shapeOf b) = s .size in omega arith
 
@@ -79,4 +80,4 @@ record-valid b s h =
     let range : inRange f ≡ true = and-both subjects (le-leb (f .p) mostPlain (s .plain)) in
     let size : sized b ≡ true = and-both (eq-eqb (numberAt b 1 4) (countOf f) (s .count)) (eq-eqb (length b) (sizeOf f) (s .size)) in
     let matrix : validMatrix f (stateOf b) ≡ true = test-of-valid f (stateOf b) (within-read b) h in
-    all-passed (recordTests b) (le-leb 7 (length b) (long b s), (s .version, (range, (size, (matrix, tt)))))
+    all-passed (recordTests b) (le-leb headerBytes (length b) (long b s), (s .version, (range, (size, (matrix, tt)))))

@@ -10,13 +10,14 @@ use Rattle.matrix.specs.declared.Name.{Name}
 use Rattle.matrix.specs.declared.Name.the-variants.{Subject, Plain}
 use Rattle.matrix.specs.declared.Right.{Right}
 use Rattle.matrix.specs.declared.Right.the-variants.{Own, Control}
+use Rattle.matrix.specs.declared.Shape.{Shape}
 use Rattle.matrix.specs.Bounded.{any, all, count}
 use Rattle.matrix.specs.Names.{U, nameOf, columnOf, named}
 use Rattle.matrix.specs.Rights.{codeOf, rightOf}
 use Rattle.matrix.specs.State.{State, has, exists, existsName}
 use Rattle.matrix.specs.Owners.{Above}
 use Rattle.matrix.specs.Valid.{Valid}
-use Rattle.matrix.specs.Shape.{Shape, bitsOf, columns}
+use Rattle.matrix.specs.Shape.{bitsOf, columns}
 use Rattle.matrix.specs.Shaped.{Within}
 use Rattle.matrix.specs.Record.{emptyCell, absentZero, plainUncontrolled, rootRight, oneOwnerEach, climb, allRooted, validMatrix}
 use Rattle.codec.specs.Codes.{rightOf-codeOf}

@@ -7,13 +7,14 @@ use mathlib.Core.List.{List, [], _∷_}
 use lib.Dec.{eqb, ltb, leb}
 use lib.ListN.{length, take, drop}
 use Rattle.matrix.specs.declared.Fields.{Fields}
+use Rattle.matrix.specs.declared.Shape.{Shape}
 use Rattle.matrix.specs.Names.{nameOf}
 use Rattle.matrix.specs.Rights.{rightOf}
 use Rattle.matrix.specs.Tests.{test, firstFailed}
-use Rattle.matrix.specs.Shape.{Shape, shapeOf, basicsOf}
+use Rattle.matrix.specs.Shape.{shapeOf, basicsOf}
 use Rattle.matrix.specs.Reading.{stateOf}
 use Rattle.matrix.specs.Record.{recordRefusal}
-use Rattle.matrix.specs.CommandList.{recordBytes, wellFormed, commandsOf}
+use Rattle.matrix.specs.CommandList.{listHead, recordBytes, wellFormed, commandsOf}
 use Rattle.matrix.specs.Calls.{questionFits}
 use Rattle.question.specs.declared.Safety.{Safety}
 use Rattle.question.specs.Numbers.{safetyNumbers}
@@ -27,7 +28,7 @@ trustFits f mask = ltb mask (2 ^ f .n)
 
 -- the bytes of a list of so many commands; a buffer without room for n + 2 is refused by 15
 abbrev pub listRoom : ℕ → ℕ
-listRoom commands = 5 + recordBytes * commands
+listRoom commands = listHead + recordBytes * commands
 
 unfoldable pub safetyRefusal : List ℕ → ℕ → ℕ → ℕ → ℕ → ℕ → ℕ
 safetyRefusal b mask s o right room =

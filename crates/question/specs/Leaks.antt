@@ -7,8 +7,8 @@ use lib.ListN.{length}
 use Rattle.matrix.specs.declared.Name.{Name}
 use Rattle.matrix.specs.declared.Right.{Right}
 use Rattle.matrix.specs.declared.Fields.{Fields}
+use Rattle.matrix.specs.declared.Shape.{Shape}
 use Rattle.matrix.specs.State.{State, held}
-use Rattle.matrix.specs.Shape.{Shape}
 use Rattle.matrix.specs.Calls.{runFrom}
 
 -- no initiator is trusted

@@ -2,11 +2,13 @@
 // over it takes it apart, and leaves the work to `command_at`, which takes the list and the position.
 
 use matrix::Fields;
+use matrix::LIST_HEAD;
+use matrix::RECORD_BYTES;
 ghost use mathlib.Core.Path.{_≡_};
 ghost use mathlib.Core.Bool.{true};
 ghost use Prim.Native.Nat.{_+_, _≤_};
 ghost use lib.ListN.{length};
-ghost use Rattle.matrix.specs.CommandList.{wellFormed, fieldsAt, commandPlace};
+ghost use Rattle.matrix.specs.CommandList.{recordBytes, commandPlace, wellFormed, fieldsAt};
 ghost use Rattle.reader.specs.Left.{readAt};
 
 // A list, and the number of the command in it that is read next.
@@ -23,10 +25,10 @@ pub enum Read {
 
 // The fields of the command numbered j.
 fn fields(l: &[u8], j: usize) -> Fields
-    requires { ⌜ commandPlace j + 6 ≤ length (now l) ⌝ }
+    requires { ⌜ commandPlace j + recordBytes ≤ length (now l) ⌝ }
     ensures { λ c. ⌜ c ≡ fieldsAt (now (l .entry)) (commandPlace j) ⌝ }
 {
-    let at = 5 + 6 * j;
+    let at = LIST_HEAD + RECORD_BYTES * j;
     let code = lists::wide(l[at + 1]);
     let i = lists::wide(l[at + 2]);
     let s = lists::wide(l[at + 3]);
@@ -40,7 +42,7 @@ fn command_at(l: &[u8], at: usize) -> Read
     requires { ⌜ wellFormed (now l) ≡ true ⌝ }
     ensures { λ r. ⌜ r ≡ readAt (now (l .entry)) at ⌝ }
 {
-    if at < (l.len() - 5) / 6 {
+    if at < (l.len() - LIST_HEAD) / RECORD_BYTES {
         let c = fields(l, at);
         Read::Command(c, at + 1)
     } else {

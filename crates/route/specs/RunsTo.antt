@@ -2,8 +2,8 @@
 use mathlib.Core.Path.{_≡_}
 use mathlib.Core.List.{List, [], _∷_}
 use Rattle.matrix.specs.declared.Fields.{Fields}
+use Rattle.matrix.specs.declared.Shape.{Shape}
 use Rattle.matrix.specs.State.{State}
-use Rattle.matrix.specs.Shape.{Shape}
 use Rattle.matrix.specs.Calls.{refusalOn, nextOn}
 
 -- the command is accepted on S, and leaves the state T

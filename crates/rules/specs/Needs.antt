@@ -6,24 +6,25 @@ use mathlib.Core.List.{List}
 use Rattle.matrix.specs.declared.Act.{Act}
 use Rattle.matrix.specs.declared.Act.the-variants.{Transfer, Grant, Delete, CreateObject, DestroyObject, CreateSubject, DestroySubject}
 use Rattle.matrix.specs.declared.Command.{Command}
+use Rattle.matrix.specs.declared.Shape.{Shape}
 use Rattle.matrix.specs.Names.{named}
 use Rattle.cells.specs.Station.{Station}
-use Rattle.states.specs.Needs.{basicOf}
+use Rattle.states.specs.Needs.{RightIn}
 
--- the number of the basic right of the right that a command names; 0 where there is none
-abbrev pub basicOfAct : Act → ℕ
-basicOfAct (Transfer y) = basicOf y
-basicOfAct (Grant y) = basicOf y
-basicOfAct (Delete y) = basicOf y
-basicOfAct CreateObject = 0
-basicOfAct DestroyObject = 0
-basicOfAct CreateSubject = 0
-basicOfAct DestroySubject = 0
+-- the right that a command names, if any, is one of the shape's
+abbrev pub ActIn : Shape → Act → Type 0
+ActIn f (Transfer y) = RightIn f y
+ActIn f (Grant y) = RightIn f y
+ActIn f (Delete y) = RightIn f y
+ActIn f CreateObject = Unit
+ActIn f DestroyObject = Unit
+ActIn f CreateSubject = Unit
+ActIn f DestroySubject = Unit
 
 -- a command on names and rights of the record
-pub record CommandIn (b : List ℕ) (n p : ℕ) (c : Command) : Type 0 where
-  pub station : Station b n p
-  pub initiator : c .i < n
-  pub subject : c .s < n
-  pub object : named n p (c .o) ≡ true
-  pub basic : basicOfAct (c .act) < 7
+pub record CommandIn (b : List ℕ) (f : Shape) (c : Command) : Type 0 where
+  pub station : Station b f
+  pub initiator : c .i < f .n
+  pub subject : c .s < f .n
+  pub object : named (f .n) (f .p) (c .o) ≡ true
+  pub right : ActIn f (c .act)

@@ -4,6 +4,7 @@ use mathlib.Core.Path.{_≡_}
 use mathlib.Core.List.{List}
 use lib.ListN.{length}
 use Rattle.matrix.specs.declared.Outcome.{Outcome}
+use Rattle.matrix.specs.declared.Shape.{Shape}
 use Rattle.matrix.specs.Shape.{shapeOf}
 use Rattle.matrix.specs.Valid.{Valid}
 use Rattle.matrix.specs.Reading.{stateOf}
@@ -18,8 +19,8 @@ pub record RunOn (b b′ l : List ℕ) (r : Outcome) : Type 0 where
   pub became : Became b b′ (ranOn b l .state)
 
 -- After j of m commands: the bytes b are still valid, and what is left of the run on them ends as the whole run on the bytes b₀ does.
-pub record Reached (b₀ b l : List ℕ) (n p m j : ℕ) : Type 0 where
-  pub station : Station b n p
+pub record Reached (b₀ b l : List ℕ) (f : Shape) (m j : ℕ) : Type 0 where
+  pub station : Station b f
   pub valid : Valid (stateOf b)
   pub shape : shapeOf b ≡ shapeOf b₀
   pub size : length b ≡ length b₀

@@ -6,14 +6,15 @@ use mathlib.Core.Logic.{⊎-elim}
 use mathlib.Core.Bool.{Bool, true, false, cond}
 use mathlib.Core.List.{List, _∷_}
 use lib.Dec.{eqb}
-use lib.ListN.{length}
+use borrow.Author.Tests.{eqb-true}
 use Rattle.matrix.specs.declared.Fields.{Fields}
 use Rattle.matrix.specs.declared.Answer.{Answer}
 use Rattle.matrix.specs.declared.Answer.the-variants.{Accepted, Refused}
+use Rattle.matrix.specs.declared.Shape.{Shape}
 use Rattle.matrix.specs.State.{State}
 use Rattle.matrix.specs.Numbers.{commandNumbers}
 use Rattle.matrix.specs.Step.{answer, refusal, next}
-use Rattle.matrix.specs.Shape.{Shape, shapeOf, sizeOf}
+use Rattle.matrix.specs.Shape.{shapeOf}
 use Rattle.matrix.specs.Reading.{stateOf}
 use Rattle.matrix.specs.CommandList.{fieldsAt, commandPlace, commandsFrom, commandsIn}
 use Rattle.matrix.specs.Calls.{refusalOn, linksOn, nextOn, Ran, runFrom, ranOn}
@@ -21,10 +22,9 @@ use Rattle.matrix.specs.Valid.{Valid}
 use Rattle.laws.specs.Tests.{way}
 use Rattle.laws.specs.Numbers.{answer-number}
 use Rattle.kept.specs.Keeps.{on-keeps}
-use Rattle.cells.specs.Station.{Station}
 use Rattle.states.specs.Needs.{Guessed}
 use Rattle.commands.specs.Answered.{Answered}
-use Rattle.bits.specs.Became.{Became}
+use Rattle.bits.specs.Steps.{station-after, length-after}
 use Rattle.runs.specs.Reached.{RunOn, Reached}
 
 -- the next command of those that are left
@@ -53,21 +53,8 @@ refused-state : (f : Shape) (S : State) (c : Fields) → eqb (refusalOn f S c) 0
 unfolding nextOn next refusalOn
 refused-state f S c h = rw h refl
 
--- bytes of the same shape and of the right form are of the same length
-same-size : {b b′ : List ℕ} {n p : ℕ} {S : State} → Station b n p → Became b b′ S → length b′ ≡ length b
-same-size h w = w .shaped .size ∙ ap sizeOf (w .shape) ∙ sym (h .shaped .size)
-
-same-station : {b b′ : List ℕ} {n p : ℕ} {S : State} → Station b n p → Became b b′ S → Station b′ n p
-same-station h w =
-    record {
-      shaped = w .shaped;
-      octets = w .octets;
-      subjects = h .subjects ∙ ap (λ (f : Shape). f .n) (sym (w .shape));
-      plains = h .plains ∙ ap (λ (f : Shape). f .p) (sym (w .shape));
-    }
-
 -- before the first command
-pub reached-none : {b owners l : List ℕ} {n p m : ℕ} → Guessed b n p owners → m ≡ commandsIn l → Reached b b l n p m 0
+pub reached-none : {b owners l : List ℕ} {f : Shape} {m : ℕ} → Guessed b f owners → m ≡ commandsIn l → Reached b b l f m 0
 reached-none {b} {l = l} {m = m} h e =
     let z : m - 0 ≡ commandsIn l = omega arith in
     record { station = h .station; valid = h .valid; shape = refl; size = refl; rest = ap (λ (k : ℕ). runFrom 0 (shapeOf b) (stateOf b) (commandsFrom l 0 k)) z }
@@ -82,7 +69,7 @@ refused-number r l {k} {x} h = ⊎-elim (λ t. absurd (never t)) (λ t. t) (way 
         let z : _≡_ {A = ℕ} 0 1 = cc in
         omega arith
 
-module _ {b₀ b b′ l : List ℕ} {n p m j : ℕ} {c : Fields} {r : Answer} (h : Reached b₀ b l n p m j) (more : j < m) (read : c ≡ fieldsAt l (commandPlace j)) (w : Answered b b′ c r) where
+module _ {b₀ b b′ l : List ℕ} {f : Shape} {m j : ℕ} {c : Fields} {r : Answer} (h : Reached b₀ b l f m j) (more : j < m) (read : c ≡ fieldsAt l (commandPlace j)) (w : Answered b b′ c r) where
   -- the run from here, with the next command in front
   here : runFrom j (shapeOf b₀) (stateOf b) (c ∷ commandsFrom l (j + 1) (m - (j + 1))) ≡ ranOn b₀ l
   here =
@@ -97,14 +84,14 @@ module _ {b₀ b b′ l : List ℕ} {n p m j : ℕ} {c : Fields} {r : Answer} (h
   after : stateOf b′ ≡ nextOn (shapeOf b₀) (stateOf b) c
   after = w .became .state ∙ ap (λ (f : Shape). nextOn f (stateOf b) c) (h .shape)
 
-  pub reached-more : {x : ℕ} → r ≡ Accepted x → Reached b₀ b′ l n p m (j + 1)
+  pub reached-more : {x : ℕ} → r ≡ Accepted x → Reached b₀ b′ l f m (j + 1)
   reached-more e =
       let z : refusalOn (shapeOf b₀) (stateOf b) c ≡ 0 = sym (answer-number (refusalOn (shapeOf b₀) (stateOf b) c) (linksOn (shapeOf b) (stateOf b) c)) ∙ ap (λ (a : Answer). commandNumbers a .refusal) (sym reply ∙ e) in
       record {
-        station = same-station (h .station) (w .became);
+        station = station-after (h .station) (w .became);
         valid = subst Valid (sym after) (on-keeps (shapeOf b₀) (stateOf b) c (h .valid));
         shape = w .became .shape ∙ h .shape;
-        size = same-size (h .station) (w .became) ∙ h .size;
+        size = length-after (h .station) (w .became) ∙ h .size;
         rest =
             ap (λ (S : State). runFrom (j + 1) (shapeOf b₀) S (commandsFrom l (j + 1) (m - (j + 1)))) after
             ∙ sym (run-accepts (shapeOf b₀) (stateOf b) c _ j z)
@@ -112,9 +99,9 @@ module _ {b₀ b b′ l : List ℕ} {n p m j : ℕ} {c : Fields} {r : Answer} (h
       }
 
   pub ran-refused : {x k number : ℕ} → r ≡ Refused k x → number ≡ commandNumbers r .refusal → RunOn b₀ b′ l (record { accepted = j; refusal = number })
-  ran-refused {number = number} e f =
+  ran-refused {number = number} e d =
       let t : eqb (refusalOn (shapeOf b₀) (stateOf b) c) 0 ≡ false = refused-number (refusalOn (shapeOf b₀) (stateOf b) c) (linksOn (shapeOf b) (stateOf b) c) (sym reply ∙ e) in
-      let q : number ≡ refusalOn (shapeOf b₀) (stateOf b) c = f ∙ ap (λ (a : Answer). commandNumbers a .refusal) reply ∙ answer-number (refusalOn (shapeOf b₀) (stateOf b) c) (linksOn (shapeOf b) (stateOf b) c) in
+      let q : number ≡ refusalOn (shapeOf b₀) (stateOf b) c = d ∙ ap (λ (a : Answer). commandNumbers a .refusal) reply ∙ answer-number (refusalOn (shapeOf b₀) (stateOf b) c) (linksOn (shapeOf b) (stateOf b) c) in
       let g : record { accepted = j; refusal = refusalOn (shapeOf b₀) (stateOf b) c; state = stateOf b } ≡ ranOn b₀ l = sym (run-refuses (shapeOf b₀) (stateOf b) c _ j t) ∙ here in
       record {
         outcome = λ i. record { accepted = g i .accepted; refusal = (q ∙ ap (λ (x : Ran). x .refusal) g) i };
@@ -128,7 +115,7 @@ module _ {b₀ b b′ l : List ℕ} {n p m j : ℕ} {c : Fields} {r : Answer} (h
       }
 
 -- after the last command
-pub ran-all : {b₀ b l : List ℕ} {n p m j : ℕ} → Reached b₀ b l n p m j → m ≤ j → RunOn b₀ b l (record { accepted = j; refusal = 0 })
+pub ran-all : {b₀ b l : List ℕ} {f : Shape} {m j : ℕ} → Reached b₀ b l f m j → m ≤ j → RunOn b₀ b l (record { accepted = j; refusal = 0 })
 ran-all {b₀} {b} {l} {m = m} {j = j} h d =
     let z : m - j ≡ 0 = omega arith in
     let g : record { accepted = j; refusal = 0; state = stateOf b } ≡ ranOn b₀ l = sym (done z) ∙ h .rest in
@@ -141,7 +128,7 @@ ran-all {b₀} {b} {l} {m = m} {j = j} h d =
     done z = ap (λ (k : ℕ). runFrom j (shapeOf b₀) (stateOf b) (commandsFrom l j k)) z ∙ none-left j (shapeOf b₀) (stateOf b) l j
 
 -- an equal number in the place of the number of commands
-pub reached-as : {b₀ b l : List ℕ} {n p m j k : ℕ} → k ≡ j → Reached b₀ b l n p m j → Reached b₀ b l n p m k
+pub reached-as : {b₀ b l : List ℕ} {f : Shape} {m j k : ℕ} → k ≡ j → Reached b₀ b l f m j → Reached b₀ b l f m k
 reached-as e h = rw e h
 
 pub counted-as : {b₀ b l : List ℕ} {j k r : ℕ} → k ≡ j → RunOn b₀ b l (record { accepted = j; refusal = r }) → RunOn b₀ b l (record { accepted = k; refusal = r })

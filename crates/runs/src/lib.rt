@@ -1,7 +1,9 @@
 // A list run on a valid record, with a list that is of the right form.
 
 use matrix::Answer;
+use matrix::MOST_SUBJECTS;
 use matrix::Outcome;
+use matrix::Shape;
 use reader::Read;
 ghost use mathlib.Core.Path.{_≡_};
 ghost use mathlib.Core.Bool.{true};
@@ -22,8 +24,8 @@ fn number_of(a: Answer) -> usize
 
 // The commands of the list in turn, up to the first that is refused. The guesses of who owns each subject follow the commands; where one
 // is wrong all the same, that owner is searched.
-pub fn run_on(b: &mut [u8], n: usize, p: usize, owners: &mut [u8; 64], l: &[u8]) -> Outcome
-    requires { ⌜ Guessed (now b) n p (now owners) × (wellFormed (now l) ≡ true) ⌝ }
+pub fn run_on(b: &mut [u8], f: Shape, owners: &mut [u8; MOST_SUBJECTS], l: &[u8]) -> Outcome
+    requires { ⌜ Guessed (now b) f (now owners) × (wellFormed (now l) ≡ true) ⌝ }
     ensures { λ r. ⌜ RunOn (now (b .entry)) (now (b .exit)) (now (l .entry)) r ⌝ }
 {
     let mut accepted = 0;
@@ -32,7 +34,7 @@ pub fn run_on(b: &mut [u8], n: usize, p: usize, owners: &mut [u8; 64], l: &[u8])
         let Read::Command(c, after) = reader::read_one(l, at) else {
             break;
         };
-        let answer = commands::command_in_list(b, n, p, owners, c);
+        let answer = commands::command_in_list(b, f, owners, c);
         let Answer::Accepted(_) = answer else {
             return Outcome {
                 accepted,

@@ -7,31 +7,33 @@ use lib.ListN.{length}
 use Rattle.matrix.specs.declared.Name.{Name}
 use Rattle.matrix.specs.declared.Right.{Right}
 use Rattle.matrix.specs.declared.Right.the-variants.{Own, Control, Basic}
+use Rattle.matrix.specs.declared.Shape.{Shape}
 use Rattle.matrix.specs.Names.{named}
 use Rattle.matrix.specs.Valid.{Valid}
+use Rattle.matrix.specs.Shape.{mostSubjects, basicsOf}
 use Rattle.matrix.specs.Reading.{stateOf}
 use Rattle.cells.specs.Station.{Station}
 
--- the number of the basic right of a right; 0 where there is none
-abbrev pub basicOf : Right → ℕ
-basicOf Own = 0
-basicOf Control = 0
-basicOf (Basic k f) = k
+-- a right that the cells of a shape have a bit for
+abbrev pub RightIn : Shape → Right → Type 0
+RightIn f Own = Unit
+RightIn f Control = Unit
+RightIn f (Basic k g) = k < basicsOf f
 
 -- a name of the record
-pub record NameIn (b : List ℕ) (n p : ℕ) (x : Name) : Type 0 where
-  pub station : Station b n p
-  pub column : named n p x ≡ true
+pub record NameIn (b : List ℕ) (f : Shape) (x : Name) : Type 0 where
+  pub station : Station b f
+  pub column : named (f .n) (f .p) x ≡ true
 
 -- a bit of the record
-pub record BitIn (b : List ℕ) (n p : ℕ) (y : Right) (w : ℕ) (x : Name) : Type 0 where
-  pub station : Station b n p
-  pub right : basicOf y < 7
-  pub row : w < n
-  pub column : named n p x ≡ true
+pub record BitIn (b : List ℕ) (f : Shape) (y : Right) (w : ℕ) (x : Name) : Type 0 where
+  pub station : Station b f
+  pub right : RightIn f y
+  pub row : w < f .n
+  pub column : named (f .n) (f .p) x ≡ true
 
--- A valid record, with a table of guesses of who owns each subject: subject v's is byte 2 v + 1. Nothing is asked of the guesses.
-pub record Guessed (b : List ℕ) (n p : ℕ) (owners : List ℕ) : Type 0 where
-  pub station : Station b n p
+-- A valid record, with a table of guesses of who owns each subject: subject v's is byte v. Nothing is asked of the guesses.
+pub record Guessed (b : List ℕ) (f : Shape) (owners : List ℕ) : Type 0 where
+  pub station : Station b f
   pub valid : Valid (stateOf b)
-  pub size : length owners ≡ 64
+  pub size : length owners ≡ mostSubjects

@@ -1,11 +1,10 @@
 // What the state of a record that is of the right form says: bits, existence, controllers and the owner walk.
 
-use matrix::Act;
-use matrix::Command;
 use matrix::Form;
-use matrix::Kind;
+use matrix::MOST_SUBJECTS;
 use matrix::Name;
 use matrix::Right;
+use matrix::Shape;
 use matrix::Walked;
 ghost use mathlib.Core.Path.{_≡_};
 ghost use Prim.Native.Nat.{_<_};
@@ -16,8 +15,9 @@ ghost use Rattle.matrix.specs.Owners.{ownerOf, walk};
 ghost use Rattle.matrix.specs.Valid.{Valid};
 ghost use Rattle.matrix.specs.Tests.{otherController};
 ghost use Rattle.matrix.specs.Reading.{stateOf};
+ghost use Rattle.codec.specs.Bits.{wordBits};
 ghost use Rattle.cells.specs.Station.{Station};
-ghost use Rattle.states.specs.Needs.{basicOf, NameIn, BitIn, Guessed};
+ghost use Rattle.states.specs.Needs.{NameIn, BitIn, Guessed};
 
 // The column of a name.
 pub fn column_of(x: Name) -> usize
@@ -41,7 +41,7 @@ pub fn name_of(n: usize, o: usize) -> Name
 
 // The code of a right: its bit in a cell.
 pub fn code_of(y: Right) -> usize
-    requires { ⌜ basicOf y < 7 ⌝ }
+    requires { ⌜ codeOf y < wordBits ⌝ }
     ensures { λ j. ⌜ j ≡ codeOf y ⌝ }
 {
     match y {
@@ -55,83 +55,84 @@ pub fn code_of(y: Right) -> usize
 }
 
 // Whether row w has right y in the column of x.
-pub fn has_bit(b: &[u8], n: usize, p: usize, y: Right, w: usize, x: Name) -> bool
-    requires { ⌜ BitIn (now b) n p y w x ⌝ }
+pub fn has_bit(b: &[u8], f: Shape, y: Right, w: usize, x: Name) -> bool
+    requires { ⌜ BitIn (now b) f y w x ⌝ }
     ensures { λ t. ⌜ t ≡ has (stateOf (now (b .entry))) y w x ⌝ }
 {
     let c = column_of(x);
     let j = code_of(y);
-    cells::bit_of(cells::cell(b, n, p, w, c), j)
+    cells::bit_of(cells::cell(b, f, w, c), j)
 }
 
 // Whether subject s exists.
-pub fn subject_exists(b: &[u8], n: usize, p: usize, s: usize) -> bool
-    requires { ⌜ Station (now b) n p × (s < n) ⌝ }
+pub fn subject_exists(b: &[u8], f: Shape, s: usize) -> bool
+    requires { ⌜ Station (now b) f × (s < f .n) ⌝ }
     ensures { λ t. ⌜ t ≡ exists (stateOf (now (b .entry))) s ⌝ }
 {
-    has_bit(b, n, p, Right::Control, s, Name::Subject(s))
+    has_bit(b, f, Right::Control, s, Name::Subject(s))
 }
 
 // Whether a name exists.
-pub fn name_exists(b: &[u8], n: usize, p: usize, x: Name) -> bool
-    requires { ⌜ NameIn (now b) n p x ⌝ }
+pub fn name_exists(b: &[u8], f: Shape, x: Name) -> bool
+    requires { ⌜ NameIn (now b) f x ⌝ }
     ensures { λ t. ⌜ t ≡ existsName (stateOf (now (b .entry))) x ⌝ }
 {
     match x {
-        Name::Subject(s) => subject_exists(b, n, p, s),
-        Name::Plain(o) => cells::some_row(b, n, p, o, 0, n),
+        Name::Subject(s) => subject_exists(b, f, s),
+        Name::Plain(o) => cells::some_row(b, f, o, 0, f.n),
     }
 }
 
 // Whether a name exists in a valid record, asked for subjects i and s, who are likely to have a right over it: where one of them has any,
 // a plain object exists, and the search for its owner is left out.
-pub fn exists_by(b: &[u8], n: usize, p: usize, i: usize, s: usize, x: Name) -> bool
-    requires { ⌜ NameIn (now b) n p x × Valid (stateOf (now b)) × (i < n) × (s < n) ⌝ }
+pub fn exists_by(b: &[u8], f: Shape, i: usize, s: usize, x: Name) -> bool
+    requires { ⌜ NameIn (now b) f x × Valid (stateOf (now b)) × (i < f .n) × (s < f .n) ⌝ }
     ensures { λ t. ⌜ t ≡ existsName (stateOf (now (b .entry))) x ⌝ }
 {
     match x {
-        Name::Subject(w) => subject_exists(b, n, p, w),
+        Name::Subject(w) => subject_exists(b, f, w),
         Name::Plain(o) => {
-            if cells::cell(b, n, p, i, o) != 0 {
+            if cells::cell(b, f, i, o) != 0 {
                 return true;
             }
-            if cells::cell(b, n, p, s, o) != 0 {
+            if cells::cell(b, f, s, o) != 0 {
                 return true;
             }
-            name_exists(b, n, p, x)
+            name_exists(b, f, x)
         }
     }
 }
 
 // Whether a subject other than o controls subject o.
-pub fn controlled(b: &[u8], n: usize, p: usize, o: usize) -> bool
-    requires { ⌜ Station (now b) n p × (o < n) ⌝ }
+pub fn controlled(b: &[u8], f: Shape, o: usize) -> bool
+    requires { ⌜ Station (now b) f × (o < f .n) ⌝ }
     ensures { λ t. ⌜ t ≡ otherController (stateOf (now (b .entry))) (Name.Subject o) ⌝ }
 {
-    cells::some_row(b, n, p, o, 1, o)
+    cells::some_row(b, f, o, 1, o)
 }
 
 // The owner of subject v in a valid record, or n if it has none. The byte of v in the table `owners` is only a guess: it counts where that
 // row owns v, since no other does. Where it doesn't, the owner is searched.
-pub fn owner_of(b: &[u8], n: usize, p: usize, owners: &[u8; 64], v: usize) -> usize
-    requires { ⌜ Guessed (now b) n p (now owners) × (v < n) ⌝ }
+pub fn owner_of(b: &[u8], f: Shape, owners: &[u8; MOST_SUBJECTS], v: usize) -> usize
+    requires { ⌜ Guessed (now b) f (now owners) × (v < f .n) ⌝ }
     ensures { λ r. ⌜ r ≡ ownerOf (stateOf (now (b .entry)) .top) (stateOf (now (b .entry)) .owns) v ⌝ }
 {
     let guess = owners[v];
-    if guess < n as u8 {
+    if guess < f.n as u8 {
         let w = guess as usize;
-        if has_bit(b, n, p, Right::Own, w, Name::Subject(v)) {
+        if has_bit(b, f, Right::Own, w, Name::Subject(v)) {
             return w;
         }
     }
-    cells::first_row(b, n, p, v, 0)
+    cells::first_row(b, f, v, 0)
 }
 
 // The owner walk from subject s for subject o in a valid record, with guesses of who owns each subject.
-pub fn owner_walk(b: &[u8], n: usize, p: usize, owners: &[u8; 64], s: usize, o: usize) -> Walked
-    requires { ⌜ Guessed (now b) n p (now owners) × (s < n) ⌝ }
+pub fn owner_walk(b: &[u8], f: Shape, owners: &[u8; MOST_SUBJECTS], s: usize, o: usize) -> Walked
+    requires { ⌜ Guessed (now b) f (now owners) × (s < f .n) ⌝ }
     ensures { λ r. ⌜ r ≡ walk (stateOf (now (b .entry))) s (Name.Subject o) ⌝ }
 {
+    let n = f.n;
     let mut at = s;
     let mut links = 0;
     let mut left = n;
@@ -145,7 +146,7 @@ pub fn owner_walk(b: &[u8], n: usize, p: usize, owners: &[u8; 64], s: usize, o: 
         if at == 0 {
             break 'up Walked::Root(links);
         }
-        let owner = owner_of(b, n, p, owners, at);
+        let owner = owner_of(b, f, owners, at);
         if n <= owner {
             break 'up Walked::Lost;
         }

@@ -10,10 +10,11 @@ use Rattle.matrix.specs.declared.Fields.{Fields}
 use Rattle.matrix.specs.declared.Answer.{Answer}
 use Rattle.matrix.specs.declared.Answer.the-variants.{Refused}
 use Rattle.matrix.specs.declared.Outcome.{Outcome}
+use Rattle.matrix.specs.declared.Shape.{Shape}
 use Rattle.matrix.specs.State.{State}
 use Rattle.matrix.specs.Tests.{firstFailed}
 use Rattle.matrix.specs.Step.{refusal, next}
-use Rattle.matrix.specs.Shape.{Shape, shapeOf}
+use Rattle.matrix.specs.Shape.{shapeOf}
 use Rattle.matrix.specs.Reading.{stateOf, content, bytesOf}
 use Rattle.matrix.specs.Record.{recordRefusal}
 use Rattle.matrix.specs.CommandList.{wellFormed}

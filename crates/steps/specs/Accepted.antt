@@ -16,6 +16,7 @@ use Rattle.matrix.specs.declared.Act.{Act}
 use Rattle.matrix.specs.declared.Act.the-variants.{Transfer, Grant}
 use Rattle.matrix.specs.declared.Command.{Command}
 use Rattle.matrix.specs.declared.Fields.{Fields}
+use Rattle.matrix.specs.declared.Shape.{Shape}
 use Rattle.matrix.specs.Names.{nameOf, columnOf, named}
 use Rattle.matrix.specs.State.{State, exists, existsName, put, clear}
 use Rattle.matrix.specs.Owners.{walk, meets}
@@ -23,7 +24,7 @@ use Rattle.matrix.specs.Commands.{kindOf, known, ruleOf, fieldsFit, decode}
 use Rattle.matrix.specs.Tests.{test, commandTests, kindFits, otherController, uncontrolled}
 use Rattle.matrix.specs.Changes.{change, admit, inherit, inCross}
 use Rattle.matrix.specs.Step.{refusalOf, refusal, next}
-use Rattle.matrix.specs.Shape.{Shape, basicsOf, columns}
+use Rattle.matrix.specs.Shape.{basicsOf, columns}
 use Rattle.matrix.specs.Valid.{Valid}
 use Rattle.matrix.specs.Calls.{rawOf, namesFit, refusalOn, nextOn}
 use Rattle.laws.specs.Tests.{and-both, fails-not}

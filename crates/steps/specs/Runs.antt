@@ -11,9 +11,10 @@ use borrow.Author.Tests.{eqb-true, eqb-false}
 use Rattle.matrix.specs.declared.Name.{Name}
 use Rattle.matrix.specs.declared.Right.{Right}
 use Rattle.matrix.specs.declared.Fields.{Fields}
+use Rattle.matrix.specs.declared.Shape.{Shape}
 use Rattle.matrix.specs.State.{State, held}
 use Rattle.matrix.specs.Step.{refusal, next}
-use Rattle.matrix.specs.Shape.{Shape, basicsOf}
+use Rattle.matrix.specs.Shape.{basicsOf}
 use Rattle.matrix.specs.Calls.{Ran, rawOf, namesFit, refusalOn, nextOn, runFrom}
 use Rattle.laws.specs.Tests.{way, clash}
 use Rattle.laws.specs.Passed.{taken}

@@ -14,6 +14,7 @@ use Rattle.matrix.specs.declared.Form.{Form}
 use Rattle.matrix.specs.declared.Form.the-variants.{Starred}
 use Rattle.matrix.specs.declared.Fields.{Fields}
 use Rattle.matrix.specs.Names.{columnOf}
+use Rattle.matrix.specs.Shape.{mostSubjects}
 use Rattle.route.specs.Parts.{fields, destroys, creates, createsName, givingCode, basicNumber, gives}
 use Rattle.ways.specs.Ways.{isOwn, passesRight, madeHeld}
 use Rattle.writing.specs.Put.{Room}
@@ -35,8 +36,8 @@ pub record Pair (out : List ℕ) (j m v w : ℕ) : Type 0 where
 -- room for m commands from number j on, by which v has s hold the right y over x
 pub record Part (out : List ℕ) (j m v s : ℕ) (x : Name) (y : Right) : Type 0 where
   pub room : Fits out j m
-  pub by : v < 64
-  pub to : s < 64
+  pub by : v < mostSubjects
+  pub to : s < mostSubjects
   pub over : columnOf x < 256
   pub number : basicNumber y < 256
 

@@ -10,6 +10,7 @@ use lib.Dec.{eqb}
 use lib.ListN.{length, getD}
 use borrow.Author.Tests.{eq-eqb, ne-eqb}
 use Rattle.matrix.specs.declared.Fields.{Fields}
+use Rattle.matrix.specs.Shape.{mostSubjects}
 use Rattle.laws.specs.Tests.{or-left, or-right}
 use Rattle.route.specs.Parts.{destroys, destroysAll, among}
 use Rattle.ways.specs.Path.{listed}
@@ -21,8 +22,8 @@ use Rattle.telling.specs.Parts.{Pair}
 -- room for a command by v about each of the first m subjects of a path
 pub record PathRoom (out : List ℕ) (v m : ℕ) : Type 0 where
   pub room : Fits out 0 m
-  pub by : v < 64
-  pub short : m ≤ 64
+  pub by : v < mostSubjects
+  pub short : m ≤ mostSubjects
 
 -- The first t of the m commands stand in out, which began as out₀: writing those left makes it the whole list.
 pub record Reached (out₀ out : List ℕ) (v : ℕ) (path : List ℕ) (m t : ℕ) : Type 0 where

@@ -4,12 +4,14 @@ use matrix::Fields;
 use matrix::Form;
 use matrix::Name;
 use matrix::Right;
+use matrix::MOST_SUBJECTS;
 ghost use mathlib.Core.Path.{_≡_};
 ghost use mathlib.Core.Bool.{cond, false, _&&_};
 ghost use mathlib.Core.List.{[], _∷_, _++_};
 ghost use lib.Dec.{eqb};
 ghost use Prim.Native.Nat.{_+_, _≤_, _<_};
 ghost use Rattle.matrix.specs.Names.{columnOf};
+ghost use Rattle.matrix.specs.Shape.{mostSubjects};
 ghost use Rattle.route.specs.Parts.{destroys, creates, createsName, givingCode, basicNumber, gives, finish, destroysAll, among};
 ghost use Rattle.ways.specs.Ways.{isOwn, passesRight, madeHeld};
 ghost use Rattle.ways.specs.Path.{listed};
@@ -235,7 +237,7 @@ fn subject(x: u8) -> usize
 }
 
 // v destroys the first m subjects of the path, the last first.
-pub fn put_destroys(out: &mut [u8], v: usize, path: &[u8; 64], m: usize) -> usize
+pub fn put_destroys(out: &mut [u8], v: usize, path: &[u8; MOST_SUBJECTS], m: usize) -> usize
     requires { ⌜ PathRoom (now out) v m ⌝ }
     ensures { λ r. ⌜ Tells (now (out .entry)) (now (out .exit)) 0 (destroysAll v (listed (now (path .entry)) m)) r ⌝ }
 {
@@ -247,8 +249,8 @@ pub fn put_destroys(out: &mut [u8], v: usize, path: &[u8; 64], m: usize) -> usiz
 }
 
 // Whether s is one of the first m subjects of the path.
-pub fn is_among(path: &[u8; 64], m: usize, s: usize) -> bool
-    requires { ⌜ m ≤ 64 ⌝ }
+pub fn is_among(path: &[u8; MOST_SUBJECTS], m: usize, s: usize) -> bool
+    requires { ⌜ m ≤ mostSubjects ⌝ }
     ensures { λ t. ⌜ t ≡ among s (listed (now (path .entry)) m) ⌝ }
 {
     for t in 0..m {

@@ -12,7 +12,7 @@ use Rattle.matrix.specs.declared.Fields.{Fields}
 use Rattle.matrix.specs.Names.{nameOf, named}
 use Rattle.matrix.specs.Rights.{rightOf}
 use Rattle.matrix.specs.State.{State}
-use Rattle.matrix.specs.Shape.{shapeOf, basicsOf}
+use Rattle.matrix.specs.Shape.{shapeOf, mostSubjects, basicsOf}
 use Rattle.matrix.specs.Reading.{stateOf}
 use Rattle.matrix.specs.Record.{recordRefusal}
 use Rattle.codec.specs.RoundTrip.{within-read}
@@ -59,7 +59,7 @@ module _ (b : List ℕ) (mask s o right : ℕ) (out : List ℕ) (q : Askable b s
   fits-room cs h = let r : listRoom (shapeOf b .n + 2) ≤ length out = q .room in omega arith
 
   fits-most : (cs : List Fields) → length cs ≤ shapeOf b .n + 2 → length cs ≤ mostCommands
-  fits-most cs h = let n : shapeOf b .n ≤ 64 = record-shaped b (q .valid) .high in omega arith
+  fits-most cs h = let n : shapeOf b .n ≤ mostSubjects = record-shaped b (q .valid) .high in omega arith
 
   leak-written : {out′ : List ℕ} (cs : List Fields) → LeaksBy (shapeOf b) S (trustedBy mask) s x y cs → out′ ≡ putList out cs → Written b mask s o right out out′ (length cs)
   leak-written {out′} cs w e =

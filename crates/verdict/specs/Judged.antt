@@ -4,6 +4,7 @@ use mathlib.Core.Path.{_≡_}
 use mathlib.Core.Bool.{true}
 use mathlib.Core.List.{List}
 use Rattle.matrix.specs.declared.Command.{Command}
+use Rattle.matrix.specs.declared.Shape.{Shape}
 use Rattle.matrix.specs.State.{State}
 use Rattle.matrix.specs.Commands.{kindOf}
 use Rattle.matrix.specs.Tests.{kindFits, permitted}
@@ -14,8 +15,8 @@ use Rattle.verdict.specs.declared.Verdict.{Verdict}
 use Rattle.verdict.specs.Stages.{late}
 
 -- a command whose o is of the kind needed, and whose initiator has the right needed
-pub record Entitled (b : List ℕ) (n p : ℕ) (c : Command) : Type 0 where
-  pub command : CommandIn b n p c
+pub record Entitled (b : List ℕ) (f : Shape) (c : Command) : Type 0 where
+  pub command : CommandIn b f c
   pub kind : kindFits (kindOf (c .act)) (c .o) ≡ true
   pub right : permitted (stateOf b) c (c .act) ≡ true
 

@@ -15,6 +15,7 @@ use Rattle.matrix.specs.declared.Kind.the-variants.{SubjectName}
 use Rattle.matrix.specs.declared.Walked.{Walked}
 use Rattle.matrix.specs.declared.Walked.the-variants.{Meets, Root, Lost}
 use Rattle.matrix.specs.declared.Command.{Command}
+use Rattle.matrix.specs.declared.Shape.{Shape}
 use Rattle.matrix.specs.State.{State}
 use Rattle.matrix.specs.Commands.{kindOf}
 use Rattle.matrix.specs.Owners.{walk, meets, linksOf}
@@ -93,6 +94,6 @@ module _ (S : State) (c : Command) where
         answered false g = passes right (ap (λ (a : Act). apart S c a) control) g (ap (λ (a : Act). walkLinks S c a) control)
 
 -- o is a subject where the act needs one
-pub not-plain : {b : List ℕ} {n p : ℕ} {c : Command} {t : ℕ} {a : Act} → Entitled b n p c → c .act ≡ a → kindOf a ≡ SubjectName → c .o ≡ Plain t → ⊥
+pub not-plain : {b : List ℕ} {f : Shape} {c : Command} {t : ℕ} {a : Act} → Entitled b f c → c .act ≡ a → kindOf a ≡ SubjectName → c .o ≡ Plain t → ⊥
 not-plain {c = c} h e k o =
     false≢true (ap (λ (x : Name). kindFits SubjectName x) (sym o) ∙ ap (λ (k : Kind). kindFits k (c .o)) (sym (ap kindOf e ∙ k)) ∙ h .kind)

@@ -3,8 +3,10 @@
 use matrix::Act;
 use matrix::Command;
 use matrix::Kind;
+use matrix::MOST_SUBJECTS;
 use matrix::Name;
 use matrix::Right;
+use matrix::Shape;
 use matrix::Walked;
 ghost use mathlib.Core.Path.{_≡_};
 ghost use mathlib.Core.Bool.{true};
@@ -24,14 +26,14 @@ pub struct Verdict {
 }
 
 // Test 13: the walk from s must not meet o.
-fn own_transferred(b: &[u8], n: usize, p: usize, owners: &[u8; 64], c: Command) -> Verdict
-    requires { ⌜ Entitled (now b) n p c × (c .act ≡ Act.Transfer Right.Own) × Guessed (now b) n p (now owners) ⌝ }
+fn own_transferred(b: &[u8], f: Shape, owners: &[u8; MOST_SUBJECTS], c: Command) -> Verdict
+    requires { ⌜ Entitled (now b) f c × (c .act ≡ Act.Transfer Right.Own) × Guessed (now b) f (now owners) ⌝ }
     ensures { λ v. ⌜ JudgedLate (stateOf (now (b .entry))) c v ⌝ }
 {
     let o = c.o;
     match o {
         Name::Subject(t) => {
-            let w = states::owner_walk(b, n, p, owners, c.s, t);
+            let w = states::owner_walk(b, f, owners, c.s, t);
             match w {
                 Walked::Meets(links) => Verdict { refusal: 13, links },
                 Walked::Root(links) => Verdict { refusal: 0, links },
@@ -49,14 +51,14 @@ fn own_transferred(b: &[u8], n: usize, p: usize, owners: &[u8; 64], c: Command) 
 }
 
 // Test 14: no subject but o itself may control o.
-fn control_granted(b: &[u8], n: usize, p: usize, c: Command) -> Verdict
-    requires { ⌜ Entitled (now b) n p c × (c .act ≡ Act.Grant Right.Control) ⌝ }
+fn control_granted(b: &[u8], f: Shape, c: Command) -> Verdict
+    requires { ⌜ Entitled (now b) f c × (c .act ≡ Act.Grant Right.Control) ⌝ }
     ensures { λ v. ⌜ JudgedLate (stateOf (now (b .entry))) c v ⌝ }
 {
     let o = c.o;
     match o {
         Name::Subject(t) => {
-            if states::controlled(b, n, p, t) {
+            if states::controlled(b, f, t) {
                 return Verdict {
                     refusal: 14,
                     links: 0,
@@ -75,12 +77,12 @@ fn control_granted(b: &[u8], n: usize, p: usize, c: Command) -> Verdict
 }
 
 // The tests 13 and 14 of a transfer or a grant of the right y.
-fn transferred(b: &[u8], n: usize, p: usize, owners: &[u8; 64], c: Command, y: Right) -> Verdict
-    requires { ⌜ Entitled (now b) n p c × (c .act ≡ Act.Transfer y) × Guessed (now b) n p (now owners) ⌝ }
+fn transferred(b: &[u8], f: Shape, owners: &[u8; MOST_SUBJECTS], c: Command, y: Right) -> Verdict
+    requires { ⌜ Entitled (now b) f c × (c .act ≡ Act.Transfer y) × Guessed (now b) f (now owners) ⌝ }
     ensures { λ v. ⌜ JudgedLate (stateOf (now (b .entry))) c v ⌝ }
 {
     match y {
-        Right::Own => own_transferred(b, n, p, owners, c),
+        Right::Own => own_transferred(b, f, owners, c),
         Right::Control => Verdict {
             refusal: 0,
             links: 0,
@@ -92,8 +94,8 @@ fn transferred(b: &[u8], n: usize, p: usize, owners: &[u8; 64], c: Command, y: R
     }
 }
 
-fn granted(b: &[u8], n: usize, p: usize, c: Command, y: Right) -> Verdict
-    requires { ⌜ Entitled (now b) n p c × (c .act ≡ Act.Grant y) ⌝ }
+fn granted(b: &[u8], f: Shape, c: Command, y: Right) -> Verdict
+    requires { ⌜ Entitled (now b) f c × (c .act ≡ Act.Grant y) ⌝ }
     ensures { λ v. ⌜ JudgedLate (stateOf (now (b .entry))) c v ⌝ }
 {
     match y {
@@ -101,7 +103,7 @@ fn granted(b: &[u8], n: usize, p: usize, c: Command, y: Right) -> Verdict
             refusal: 0,
             links: 0,
         },
-        Right::Control => control_granted(b, n, p, c),
+        Right::Control => control_granted(b, f, c),
         Right::Basic(_, _) => Verdict {
             refusal: 0,
             links: 0,
@@ -110,11 +112,11 @@ fn granted(b: &[u8], n: usize, p: usize, c: Command, y: Right) -> Verdict
 }
 
 // The tests 12 to 14.
-fn judge_late(b: &[u8], n: usize, p: usize, owners: &[u8; 64], c: Command) -> Verdict
-    requires { ⌜ CommandIn (now b) n p c × (kindFits (kindOf (c .act)) (c .o) ≡ true) × Guessed (now b) n p (now owners) ⌝ }
+fn judge_late(b: &[u8], f: Shape, owners: &[u8; MOST_SUBJECTS], c: Command) -> Verdict
+    requires { ⌜ CommandIn (now b) f c × (kindFits (kindOf (c .act)) (c .o) ≡ true) × Guessed (now b) f (now owners) ⌝ }
     ensures { λ v. ⌜ JudgedLate (stateOf (now (b .entry))) c v ⌝ }
 {
-    if !rules::is_permitted(b, n, p, c) {
+    if !rules::is_permitted(b, f, c) {
         return Verdict {
             refusal: 12,
             links: 0,
@@ -122,8 +124,8 @@ fn judge_late(b: &[u8], n: usize, p: usize, owners: &[u8; 64], c: Command) -> Ve
     }
     let act = c.act;
     match act {
-        Act::Transfer(y) => transferred(b, n, p, owners, c, y),
-        Act::Grant(y) => granted(b, n, p, c, y),
+        Act::Transfer(y) => transferred(b, f, owners, c, y),
+        Act::Grant(y) => granted(b, f, c, y),
         Act::Delete(_) => Verdict {
             refusal: 0,
             links: 0,
@@ -148,37 +150,37 @@ fn judge_late(b: &[u8], n: usize, p: usize, owners: &[u8; 64], c: Command) -> Ve
 }
 
 // The tests 8 to 11: the number of the first that is not passed, or 0.
-fn judge_early(b: &[u8], n: usize, p: usize, c: Command, kind: Kind) -> usize
-    requires { ⌜ CommandIn (now b) n p c × (kind ≡ kindOf (c .act)) × Valid (stateOf (now b)) ⌝ }
+fn judge_early(b: &[u8], f: Shape, c: Command, kind: Kind) -> usize
+    requires { ⌜ CommandIn (now b) f c × (kind ≡ kindOf (c .act)) × Valid (stateOf (now b)) ⌝ }
     ensures { λ r. ⌜ r ≡ early (stateOf (now (b .entry))) c ⌝ }
 {
     let o = c.o;
-    if !states::subject_exists(b, n, p, c.i) {
+    if !states::subject_exists(b, f, c.i) {
         return 8;
     }
     if !rules::kind_fits(kind, o) {
         return 9;
     }
-    if !rules::names_present(b, n, p, c) {
+    if !rules::names_present(b, f, c) {
         return 10;
     }
-    if !rules::name_free(b, n, p, c) {
+    if !rules::name_free(b, f, c) {
         return 11;
     }
     0
 }
 
 // The verdict on a command, with guesses of who owns each subject for the walk.
-pub fn judge(b: &[u8], n: usize, p: usize, owners: &[u8; 64], c: Command, kind: Kind) -> Verdict
-    requires { ⌜ CommandIn (now b) n p c × (kind ≡ kindOf (c .act)) × Guessed (now b) n p (now owners) ⌝ }
+pub fn judge(b: &[u8], f: Shape, owners: &[u8; MOST_SUBJECTS], c: Command, kind: Kind) -> Verdict
+    requires { ⌜ CommandIn (now b) f c × (kind ≡ kindOf (c .act)) × Guessed (now b) f (now owners) ⌝ }
     ensures { λ v. ⌜ Judged (stateOf (now (b .entry))) c v ⌝ }
 {
-    let first = judge_early(b, n, p, c, kind);
+    let first = judge_early(b, f, c, kind);
     if first != 0 {
         return Verdict {
             refusal: first,
             links: 0,
         };
     }
-    judge_late(b, n, p, owners, c)
+    judge_late(b, f, owners, c)
 }

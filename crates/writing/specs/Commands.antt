@@ -7,20 +7,20 @@ use mathlib.Core.List.{List, [], _∷_}
 use lib.ListN.{length, getD}
 use lib.Seq.{sets, length-sets}
 use Rattle.matrix.specs.declared.Fields.{Fields}
-use Rattle.matrix.specs.CommandList.{recordBytes, commandPlace, fieldsAt, commandsFrom}
+use Rattle.matrix.specs.CommandList.{recordBytes, lengthByte, commandPlace, fieldsAt, commandsFrom}
 use Rattle.lists.specs.Forms.{fields-of}
 use Rattle.writing.specs.Put.{putCommand, putAll}
 use Rattle.writing.specs.Stores.{getD-sets-other, getD-sets-same, six-stores}
 
 -- the six bytes of a command
 abbrev pub commandBytes : Fields → List ℕ
-commandBytes c = 5 ∷ c .code ∷ c .i ∷ c .s ∷ c .o ∷ c .k ∷ []
+commandBytes c = lengthByte ∷ c .code ∷ c .i ∷ c .s ∷ c .o ∷ c .k ∷ []
 
 -- ---- one command
 
 pub putCommand-sets : (out : List ℕ) (j : ℕ) (c : Fields) → putCommand out j c ≡ sets out (commandPlace j) (commandBytes c)
 unfolding putCommand
-putCommand-sets out j c = six-stores out (commandPlace j) 5 (c .code) (c .i) (c .s) (c .o) (c .k)
+putCommand-sets out j c = six-stores out (commandPlace j) lengthByte (c .code) (c .i) (c .s) (c .o) (c .k)
 
 pub length-putCommand : (out : List ℕ) (j : ℕ) (c : Fields) → length (putCommand out j c) ≡ length out
 length-putCommand out j c = ap length (putCommand-sets out j c) ∙ length-sets out (commandPlace j) (commandBytes c)
@@ -58,7 +58,7 @@ putAll-first out j c cs k h b =
     putAll-other (putCommand out j c) (suc j) cs (commandPlace j + k) (λ p q. omega arith) ∙ putCommand-byte out j c k h b
 
 pub putAll-lengths : (out : List ℕ) (j : ℕ) (cs : List Fields) (k : ℕ) → commandPlace (j + length cs) ≤ length out → k < length cs
-    → getD (putAll out j cs) (commandPlace (j + k)) 0 ≡ 5
+    → getD (putAll out j cs) (commandPlace (j + k)) 0 ≡ lengthByte
 unfolding putAll
 putAll-lengths out j [] k h b = absurd (not-suc-le-zero b)
 putAll-lengths out j (c ∷ cs) zero h b =

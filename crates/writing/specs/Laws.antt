@@ -10,7 +10,7 @@ use lib.Seq.{getD-set-same, getD-set-other, getD-take, length-take-le}
 use borrow.Author.Tests.{eq-eqb}
 use Rattle.matrix.specs.declared.Fields.{Fields}
 use Rattle.matrix.specs.Bytes.{numberAt}
-use Rattle.matrix.specs.CommandList.{recordBytes, commandPlace, wellFormed, commandsFrom, commandsOf}
+use Rattle.matrix.specs.CommandList.{listHead, recordBytes, lengthByte, commandPlace, wellFormed, commandsFrom, commandsOf}
 use Rattle.laws.specs.Bounded.{each-all}
 use Rattle.codec.specs.Numbers.{numberAt-agree, length-setNumber, getD-setNumber-other, numberAt-set-same}
 use Rattle.lists.specs.Forms.{lengthRight, lengthsRight, by-count, by-lengths}
@@ -40,12 +40,12 @@ unfolding putHead
 putHead-version out count h =
     getD-setNumber-other (set out 0 1) 1 4 (recordBytes * count) 0 (λ p q. omega arith) ∙ getD-set-same out 0 1 0 h
 
-pub putHead-number : (out : List ℕ) (count : ℕ) → 5 ≤ length out → count ≤ mostCommands → numberAt (putHead out count) 1 4 ≡ recordBytes * count
+pub putHead-number : (out : List ℕ) (count : ℕ) → listHead ≤ length out → count ≤ mostCommands → numberAt (putHead out count) 1 4 ≡ recordBytes * count
 unfolding putHead
 putHead-number out count h few =
     numberAt-set-same (set out 0 1) 1 4 (recordBytes * count) (let e : length (set out 0 1) ≡ length out = length-set out 0 1 in omega arith) (omega arith)
 
-pub putHead-later : (out : List ℕ) (count i : ℕ) → 5 ≤ i → getD (putHead out count) i 0 ≡ getD out i 0
+pub putHead-later : (out : List ℕ) (count i : ℕ) → listHead ≤ i → getD (putHead out count) i 0 ≡ getD out i 0
 unfolding putHead
 putHead-later out count i h =
     getD-setNumber-other (set out 0 1) 1 4 (recordBytes * count) i (λ p q. omega arith) ∙ getD-set-other out 0 i 1 0 (λ e. omega arith)
@@ -75,7 +75,7 @@ module _ (out : List ℕ) (cs : List Fields) (few : length cs ≤ mostCommands) 
   written-at i h = getD-take (listRoom (length cs)) (putList out cs) i 0 h
 
   -- a byte of the commands
-  written-command : (i : ℕ) → 5 ≤ i → i < listRoom (length cs) → getD (written out cs) i 0 ≡ getD (putAll out 0 cs) i 0
+  written-command : (i : ℕ) → listHead ≤ i → i < listRoom (length cs) → getD (written out cs) i 0 ≡ getD (putAll out 0 cs) i 0
   unfolding putList
   written-command i l h = written-at i h ∙ putHead-later (putAll out 0 cs) _ i l
 
@@ -96,10 +96,10 @@ module _ (out : List ℕ) (cs : List Fields) (few : length cs ≤ mostCommands) 
 
   lengths : lengthsRight (written out cs) (length cs) ≡ true
   unfolding lengthsRight
-  lengths = each-all (length cs) (lengthRight (written out cs)) (λ j h. eq-eqb (getD (written out cs) (commandPlace j) 0) 5 (five j h))
+  lengths = each-all (length cs) (lengthRight (written out cs)) (λ j h. eq-eqb (getD (written out cs) (commandPlace j) 0) lengthByte (right j h))
     where
-      five : (j : ℕ) → j < length cs → getD (written out cs) (commandPlace j) 0 ≡ 5
-      five j h =
+      right : (j : ℕ) → j < length cs → getD (written out cs) (commandPlace j) 0 ≡ lengthByte
+      right j h =
           let e : commandPlace j ≡ commandPlace (0 + j) = omega arith in
           written-command (commandPlace j) (omega arith) (omega arith) ∙ ap (λ (i : ℕ). getD (putAll out 0 cs) i 0) e
           ∙ putAll-lengths out 0 cs j (omega arith) h

@@ -1,19 +1,19 @@
 -- A list of commands as it is written at a buffer's start, in the form of Manual 6.1.
-use Prim.Native.Nat.{ℕ, suc, _+_, _*_, _≤_, _<_}
+use Prim.Native.Nat.{ℕ, suc, _+_, _*_, _/_, _≤_, _<_}
 use mathlib.Core.List.{List, [], _∷_}
 use lib.ListN.{length, set}
 use Rattle.matrix.specs.declared.Fields.{Fields}
 use Rattle.matrix.specs.Bytes.{setNumber}
-use Rattle.matrix.specs.CommandList.{recordBytes, commandPlace}
+use Rattle.matrix.specs.CommandList.{listHead, recordBytes, mostListBytes, lengthByte, commandPlace}
 
 -- the most commands whose bytes are no more than a list may have
 abbrev pub mostCommands : ℕ
-mostCommands = 10000
+mostCommands = mostListBytes / recordBytes
 
 -- the command numbered j becomes c
 unfoldable pub putCommand : List ℕ → ℕ → Fields → List ℕ
 putCommand out j c =
-    set (set (set (set (set (set out (commandPlace j) 5) (commandPlace j + 1) (c .code)) (commandPlace j + 2) (c .i)) (commandPlace j + 3) (c .s)) (commandPlace j + 4) (c .o)) (commandPlace j + 5) (c .k)
+    set (set (set (set (set (set out (commandPlace j) lengthByte) (commandPlace j + 1) (c .code)) (commandPlace j + 2) (c .i)) (commandPlace j + 3) (c .s)) (commandPlace j + 4) (c .o)) (commandPlace j + 5) (c .k)
 
 -- the commands from the one numbered j on become cs
 unfoldable pub putAll : List ℕ → ℕ → List Fields → List ℕ
@@ -41,5 +41,5 @@ pub record Room (out : List ℕ) (j : ℕ) (c : Fields) : Type 0 where
   pub bytes : ByteFields c
 
 pub record HeadRoom (out : List ℕ) (count : ℕ) : Type 0 where
-  pub fits : 5 ≤ length out
+  pub fits : listHead ≤ length out
   pub few : count ≤ mostCommands

@@ -12,10 +12,10 @@ use Rattle.bits.proofs.clear_column.Statement.{statement}
 use Rattle.bits.proofs.clear_column.Tie as tie
 
 abbrev Inv-loop : tie.InvT-loop
-Inv-loop b₀ n p c w₀ b w = (w ≤ n) × Became b₀ b (clear (columnPart n c w) (stateOf b₀))
+Inv-loop b₀ f c n w₀ b w = (w ≤ n) × Became b₀ b (clear (columnPart (f .n) c w) (stateOf b₀))
 
 abbrev μ-loop : tie.MeasureT-loop
-μ-loop b₀ n p c w₀ b w = n - w
+μ-loop b₀ f c n w₀ b w = n - w
 
 loop-holds : tie.Need-loop-holds Inv-loop μ-loop
 loop-holds c = (search needs, column-none (c .before .args .c) (c .before .pre .0))

@@ -1,10 +1,11 @@
 -- `bits::clear_row` meets its contract. The loop's invariant: the cells of the columns passed so far are cleared.
 use borrow.Author.Needs.{needs}
-use Prim.Native.Nat.{_+_, _-_, _≤_}
+use Prim.Native.Nat.{_-_, _≤_, _<_}
 use native.Mathlib.Omega.{arith}
 use Rattle.matrix.specs.State.{clear}
+use Rattle.matrix.specs.Shape.{columns}
 use Rattle.matrix.specs.Reading.{stateOf}
-use Rattle.cells.specs.Places.{subjects-few, plains-few}
+use Rattle.cells.specs.Station.{right-shape}
 use Rattle.bits.specs.Became.{Became}
 use Rattle.bits.specs.Passed.{rowPart}
 use Rattle.bits.specs.Steps.{cell-after, length-after}
@@ -13,21 +14,22 @@ use Rattle.bits.proofs.clear_row.Statement.{statement}
 use Rattle.bits.proofs.clear_row.Tie as tie
 
 abbrev Inv-loop : tie.InvT-loop
-Inv-loop b₀ n p r c₀ c-end b c = (c ≤ n + p) × Became b₀ b (clear (rowPart n r c) (stateOf b₀))
+Inv-loop b₀ f r all c₀ b c = (c ≤ all) × Became b₀ b (clear (rowPart (f .n) r c) (stateOf b₀))
 
 abbrev μ-loop : tie.MeasureT-loop
-μ-loop b₀ n p r c₀ c-end b c = n + p - c
+μ-loop b₀ f r all c₀ b c = all - c
 
-add-c-end : tie.Need-add-c-end Inv-loop μ-loop
-add-c-end c = omega (arith, subjects-few _ _ _ (c .before .pre .0), plains-few _ _ _ (c .before .pre .0))
+columns-of-requires : tie.Need-columns-of-requires Inv-loop μ-loop
+columns-of-requires c κs = right-shape (c .before .pre .0)
 
 loop-holds : tie.Need-loop-holds Inv-loop μ-loop
-loop-holds c = (search needs, row-none (c .before .args .r) (c .before .pre .0))
+loop-holds c = (search needs, row-none (c .before .before .args .r) (c .before .before .pre .0))
 
 store-requires : tie.Need-store-requires Inv-loop μ-loop
 store-requires c κs =
-    let q = c .before .before .before .before .pre in
-    cell-after (q .0) (c .before .before .loop .inv .1) (q .1) (c .before .loop-test .taken)
+    let l = c .before .before in
+    let q = l .before .before .before .pre in
+    cell-after (q .0) (l .loop .inv .1) (q .1) (omega (arith, c .before .loop-test .taken, l .before .columns-of .ensures))
 
 add-c : tie.Need-add-c Inv-loop μ-loop
 add-c c = search needs
@@ -37,16 +39,19 @@ loop-less c = search needs
 
 loop-again : tie.Need-loop-again Inv-loop μ-loop
 loop-again c =
-    let q = c .before .before .before .before .before .before .before .pre in
-    let l = c .before .before .before .before .before .loop in
-    let h = cell-after (q .0) (l .inv .1) (q .1) (c .before .before .before .before .loop-test .taken) in
-    (search needs, row-next (c .before .before .before .before .before .before .before .args .r) (l .inv .1) h (c .before .before .store .ensures))
+    let l = c .before .before .before .before .before in
+    let z = l .before .before .before in
+    let more : l .loop .c < columns (z .args .f) = omega (arith, c .before .before .before .before .loop-test .taken, l .before .columns-of .ensures) in
+    let h = cell-after (z .pre .0) (l .loop .inv .1) (z .pre .1) more in
+    (search needs, row-next (z .args .r) (l .loop .inv .1) h (c .before .before .store .ensures))
 
 same-length : tie.Need-same-length Inv-loop μ-loop
-same-length c = length-after (c .before .before .before .pre .0) (c .before .loop .inv .1)
+same-length c = length-after (c .before .before .before .before .pre .0) (c .before .loop .inv .1)
 
 returns : tie.Need-returns Inv-loop μ-loop
-returns c = row-all (c .before .before .before .args .r) (c .before .before .before .pre .0) (omega arith) (c .before .loop .inv .1)
+returns c =
+    let z = c .before .before .before .before in
+    row-all (z .args .r) (z .pre .0) (omega (arith, c .before .before .columns-of .ensures)) (c .before .loop .inv .1)
 
 pub clear-row-spec : {M : Type 1} → statement M
 clear-row-spec =
@@ -54,7 +59,7 @@ clear-row-spec =
     (tie.spec
     Inv-loop
     μ-loop
-    add-c-end
+    columns-of-requires
     loop-holds
     store-requires
     add-c

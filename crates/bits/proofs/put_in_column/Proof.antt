@@ -1,5 +1,8 @@
 -- `bits::put_in_column` meets its contract: the cell is stored with the bit of the right set or cleared.
-use Rattle.states.specs.Reads.{code-small}
+use native.Mathlib.Omega.{arith}
+use Rattle.codec.specs.ShapeRight.{bits-most}
+use Rattle.cells.specs.Station.{right-shape}
+use Rattle.states.specs.Reads.{code-in, code-small}
 use Rattle.bits.specs.OneBit.{cell-small}
 use Rattle.bits.specs.Steps.{became-put, length-after}
 use borrow.Author.Needs.{needs}
@@ -7,15 +10,18 @@ use Rattle.bits.proofs.put_in_column.Statement.{statement}
 use Rattle.bits.proofs.put_in_column.Tie as tie
 
 code-of-requires : tie.Need-code-of-requires
-code-of-requires c κs = search needs
+code-of-requires c κs =
+    let z = c .before in
+    code-small (z .args .f) (right-shape (z .pre .0 .station)) (z .args .y) (z .pre .1)
 
 cell-requires : tie.Need-cell-requires
 cell-requires c κs = search needs
 
 with-bit-requires : tie.Need-with-bit-requires
 with-bit-requires c κs =
-    let q = c .before .before .before .before .pre in
-    (cell-small (q .0) (c .cell .ensures), rw (c .before .before .code-of .ensures) (code-small (c .before .before .before .before .args .y) (q .1)))
+    let z = c .before .before .before .before in
+    let g = right-shape (z .pre .0 .station) in
+    (cell-small (z .pre .0) (c .cell .ensures), omega (arith, c .before .before .code-of .ensures, code-in (z .args .f) g (z .args .y) (z .pre .1), bits-most (z .args .f) g))
 
 store-requires : tie.Need-store-requires
 store-requires c κs = search needs

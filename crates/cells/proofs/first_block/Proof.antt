@@ -1,5 +1,4 @@
--- `cells::first_block` meets its contract. The loop's invariant: no block below q has the bit, and the low byte of its first row's cell is at
--- `low`.
+-- `cells::first_block` meets its contract. The loop's invariant: no block below q has the bit, and `low` is 4 q rows after the first row's place.
 use borrow.Author.Needs.{needs}
 use Prim.Native.Nat.{ℕ, _+_, _-_, _*_, _/_, _≤_, _<_}
 use native.Mathlib.Numerals.{add-one}
@@ -7,59 +6,73 @@ use native.Mathlib.Nat.{zero-mul}
 use native.Mathlib.Omega.{arith}
 use mathlib.Core.Path.{_≡_, refl, sym, _∙_, ap, subst}
 use mathlib.Core.Bool.{false}
+use lib.ListN.{getD}
 use Rattle.matrix.specs.Bounded.{any}
+use Rattle.matrix.specs.Bytes.{bit}
 use Rattle.laws.specs.Bounded.{any-miss, least-hit, least-none}
-use Rattle.cells.specs.Places.{placeOf, place-below, index-small, subjects-few, plains-few}
-use Rattle.cells.specs.Blocks.{blockHas, block-place, block-tested}
+use Rattle.cells.specs.Station.{right-shape}
+use Rattle.cells.specs.Places.{lowPlace, low-apart, low-reached, row-small}
+use Rattle.cells.specs.Rows.{row-within}
+use Rattle.cells.specs.Blocks.{blockHas, block-tested}
 use Rattle.cells.proofs.first_block.Statement.{statement}
 use Rattle.cells.proofs.first_block.Tie as tie
 
 abbrev Inv-loop : tie.InvT-loop
-Inv-loop b n p c j stride blocks low₀ q₀ low q = (q ≤ n / 4) × (low ≡ placeOf n p (4 * q) c + 1) × (any q (blockHas b c j) ≡ false)
+Inv-loop b c j stride blocks low₀ q₀ low q = (q ≤ blocks) × (low ≡ low₀ + 4 * q * stride) × (any q (blockHas b c j) ≡ false)
 
 abbrev μ-loop : tie.MeasureT-loop
-μ-loop b n p c j stride blocks low₀ q₀ low q = n / 4 - q
+μ-loop b c j stride blocks low₀ q₀ low q = blocks - q
 
-add-stride : tie.Need-add-stride Inv-loop μ-loop
-add-stride c = search needs
+-- `low` is the place of the lowest byte of row 4 q's cell
+low-row : (c : tie.At-loop Inv-loop μ-loop) → c .loop .low ≡ lowPlace (c .before .before .before .before .before .args .f) (4 * c .loop .q) (c .before .before .before .before .before .args .c)
+low-row c =
+    let a = c .before .before .before .before .before .args in
+    low-reached (a .f) (4 * c .loop .q) (a .c) (c .before .low-place .ensures) (c .before .before .before .row-bytes .ensures) (c .loop .inv .1)
 
-mul-stride : tie.Need-mul-stride Inv-loop μ-loop
-mul-stride c = search needs
+-- the block's answer is that of the test of its four bytes
+tested : (c : tie.After-one-of-four Inv-loop μ-loop) → blockHas (c .before .before .before .before .before .before .before .args .b .now) (c .before .before .before .before .before .before .before .args .c) (c .before .before .before .before .before .before .before .args .j) (c .before .before .loop .q) ≡ c .one-of-four .result
+tested c =
+    let l = c .before .before in
+    let z = l .before .before .before .before .before in
+    block-tested (z .args .c) (l .loop .q) (z .pre .0) (z .pre .2) (low-row l)
+    (c .one-of-four .ensures ∙ ap (λ (s : ℕ). any 4 (λ i. bit (z .args .j) (getD (z .args .b .now) (l .loop .low + i * s) 0))) (l .before .before .before .row-bytes .ensures))
 
-mul-low : tie.Need-mul-low Inv-loop μ-loop
-mul-low c = search needs
+row-bytes-requires : tie.Need-row-bytes-requires Inv-loop μ-loop
+row-bytes-requires c κs = right-shape (c .before .pre .0)
 
-add-low : tie.Need-add-low Inv-loop μ-loop
-add-low c = search needs
+low-place-requires : tie.Need-low-place-requires Inv-loop μ-loop
+low-place-requires c κs = let q = c .before .before .before .pre in (right-shape (q .0), q .1)
 
 loop-holds : tie.Need-loop-holds Inv-loop μ-loop
 unfolding any
-loop-holds c = (omega arith, omega (arith, zero-mul (c .before .args .n + c .before .args .p)), refl)
+loop-holds c = (search needs, omega (arith, zero-mul (c .before .before .row-bytes .result)), refl)
 
 one-of-four-requires : tie.Need-one-of-four-requires Inv-loop μ-loop
 one-of-four-requires c κs =
-    let z = c .before .before .before in
-    let l = c .before .loop in
-    let t : l .q < z .args .n / 4 = c .loop-test .taken in
-    (omega (arith, l .inv .1, block-place (z .args .n) (z .args .p) (l .q) (z .args .c) 3, place-below _ _ _ (z .pre .0) (4 * l .q + 3) (z .args .c) (omega arith) (z .pre .1)), z .pre .2)
+    let l = c .before in
+    let z = l .before .before .before .before .before in
+    let t : l .loop .q < z .args .f .n / 4 = c .loop-test .taken in
+    let last = row-within (z .pre .0) (omega arith) (z .pre .1) (low-apart (z .args .f) (4 * l .loop .q) 3 (z .args .c)) .0 in
+    (omega (arith, low-row l, l .before .before .before .row-bytes .ensures, last), z .pre .2)
 
 returns : tie.Need-returns Inv-loop μ-loop
 returns c =
-    let q = c .before .before .before .before .before .pre in
-    let l = c .before .before .before .loop in
-    sym (least-hit _ _ _ (c .before .before .loop-test .taken) (l .inv .2) (block-tested _ (l .q) (q .0) (q .2) (l .inv .1) (c .before .one-of-four .ensures) ∙ c .if1 .taken))
+    let l = c .before .before .before in
+    sym (least-hit _ _ _ (c .before .before .loop-test .taken) (l .loop .inv .2) (tested (c .before) ∙ c .if1 .taken))
 
-mul-low-2 : tie.Need-mul-low-2 Inv-loop μ-loop
-mul-low-2 c = search needs
+mul-low : tie.Need-mul-low Inv-loop μ-loop
+mul-low c =
+    let l = c .before .before .before in
+    let z = l .before .before .before .before .before in
+    omega (arith, row-small (z .args .f) (right-shape (z .pre .0)), l .before .before .before .row-bytes .ensures)
 
-add-low-2 : tie.Need-add-low-2 Inv-loop μ-loop
-add-low-2 c =
-    let z = c .before .before .before .before .before in
-    let l = c .before .before .before .loop in
-    let t : l .q < z .args .n / 4 = c .before .before .loop-test .taken in
-    let n = subjects-few _ _ _ (z .pre .0) in
-    let p = plains-few _ _ _ (z .pre .0) in
-    record { fits = omega (arith, l .inv .1, n, p, index-small (z .args .n) (z .args .p) (4 * l .q) (z .args .c) (omega (arith, n)) (omega (arith, p)) (omega arith) (z .pre .1)) }
+add-low : tie.Need-add-low Inv-loop μ-loop
+add-low c =
+    let l = c .before .before .before in
+    let z = l .before .before .before .before .before in
+    let t : l .loop .q < z .args .f .n / 4 = c .before .before .loop-test .taken in
+    let first = row-within (z .pre .0) (omega arith) (z .pre .1) (low-row l) .1 in
+    omega (arith, first, row-small (z .args .f) (right-shape (z .pre .0)), l .before .before .before .row-bytes .ensures)
 
 add-q : tie.Need-add-q Inv-loop μ-loop
 add-q c = search needs
@@ -69,19 +82,12 @@ loop-less c = search needs
 
 loop-again : tie.Need-loop-again Inv-loop μ-loop
 loop-again c =
-    let z = c .before .before .before .before .before in
-    let q = z .pre in
-    let l = c .before .before .before .loop in
-    let t : l .q < z .args .n / 4 = c .before .before .loop-test .taken in
-    let e : 4 * l .q + 4 ≡ 4 * (l .q + 1) = omega arith in (
-      omega arith,
-      ap (λ (x : ℕ). x + 4 * (2 * (z .args .n + z .args .p))) (l .inv .1) ∙ block-place (z .args .n) (z .args .p) (l .q) (z .args .c) 4 ∙ ap (λ (r : ℕ). placeOf (z .args .n) (z .args .p) r (z .args .c) + 1) e,
-      rw add-one (any-miss _ _ (l .inv .2) (block-tested _ (l .q) (q .0) (q .2) (l .inv .1) (c .before .one-of-four .ensures) ∙ c .if1 .left)),
-    )
+    let l = c .before .before .before in
+    (search needs, omega (arith, l .loop .inv .1), rw add-one (any-miss _ _ (l .loop .inv .2) (tested (c .before) ∙ c .if1 .left)))
 
 returns-2 : tie.Need-returns-2 Inv-loop μ-loop
 returns-2 c =
-    let a = c .before .before .before .args in
+    let a = c .before .before .before .before .before .before .args in
     sym (least-none _ _ (subst (λ (m : ℕ). any m (blockHas (a .b .now) (a .c) (a .j)) ≡ false) (omega arith) (c .before .loop .inv .2)))
 
 pub first-block-spec : {M : Type 1} → statement M
@@ -90,15 +96,13 @@ first-block-spec =
     (tie.spec
     Inv-loop
     μ-loop
-    add-stride
-    mul-stride
-    mul-low
-    add-low
+    row-bytes-requires
+    low-place-requires
     loop-holds
     one-of-four-requires
     returns
-    mul-low-2
-    add-low-2
+    mul-low
+    add-low
     add-q
     loop-less
     loop-again

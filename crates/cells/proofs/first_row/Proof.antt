@@ -1,6 +1,6 @@
--- `cells::first_row` meets its contract. The loop's invariant: no row below r passes the test, and the low byte of row r's cell is at `at`.
+-- `cells::first_row` meets its contract. The loop's invariant: no row below r passes the test, and `at` is r rows after the first row's place.
 use borrow.Author.Needs.{needs}
-use Prim.Native.Nat.{ℕ, _+_, _-_, _≤_}
+use Prim.Native.Nat.{ℕ, _+_, _-_, _*_, _≤_}
 use native.Mathlib.Numerals.{add-one}
 use native.Mathlib.Nat.{zero-mul}
 use native.Mathlib.Omega.{arith}
@@ -8,51 +8,58 @@ use mathlib.Core.Path.{_≡_, refl, sym, _∙_, subst}
 use mathlib.Core.Bool.{false}
 use Rattle.matrix.specs.Bounded.{any}
 use Rattle.laws.specs.Bounded.{any-miss, least-hit, least-none}
-use Rattle.cells.specs.Places.{placeOf, place-next}
+use Rattle.cells.specs.Station.{right-shape}
+use Rattle.cells.specs.Places.{lowPlace, low-reached}
 use Rattle.cells.specs.Rows.{rowHas, row-tested, row-within}
 use Rattle.cells.proofs.first_row.Statement.{statement}
 use Rattle.cells.proofs.first_row.Tie as tie
 
 abbrev Inv-loop : tie.InvT-loop
-Inv-loop b n p c j stride at₀ r₀ at r = (r ≤ n) × (at ≡ placeOf n p r c + 1) × (any r (rowHas b c j n) ≡ false)
+Inv-loop b c j n stride at₀ r₀ at r = (r ≤ n) × (at ≡ at₀ + r * stride) × (any r (rowHas b c j n) ≡ false)
 
 abbrev μ-loop : tie.MeasureT-loop
-μ-loop b n p c j stride at₀ r₀ at r = n - r
+μ-loop b c j n stride at₀ r₀ at r = n - r
 
-add-stride : tie.Need-add-stride Inv-loop μ-loop
-add-stride c = search needs
+-- `at` is the place of the lowest byte of row r's cell
+at-row : (c : tie.At-loop Inv-loop μ-loop) → c .loop .at ≡ lowPlace (c .before .before .before .before .args .f) (c .loop .r) (c .before .before .before .before .args .c)
+at-row c =
+    let a = c .before .before .before .before .args in
+    low-reached (a .f) (c .loop .r) (a .c) (c .before .low-place .ensures) (c .before .before .row-bytes .ensures) (c .loop .inv .1)
 
-mul-stride : tie.Need-mul-stride Inv-loop μ-loop
-mul-stride c = search needs
+row-bytes-requires : tie.Need-row-bytes-requires Inv-loop μ-loop
+row-bytes-requires c κs = right-shape (c .before .pre .0)
 
-mul-at : tie.Need-mul-at Inv-loop μ-loop
-mul-at c = search needs
-
-add-at : tie.Need-add-at Inv-loop μ-loop
-add-at c = search needs
+low-place-requires : tie.Need-low-place-requires Inv-loop μ-loop
+low-place-requires c κs = let q = c .before .before .pre in (right-shape (q .0), q .1)
 
 loop-holds : tie.Need-loop-holds Inv-loop μ-loop
 unfolding any
-loop-holds c = (search needs, omega (arith, zero-mul (c .before .args .n + c .before .args .p)), refl)
+loop-holds c = (search needs, omega (arith, zero-mul (c .before .row-bytes .result)), refl)
 
 shared-slice-read-bit-of : tie.Need-shared-slice-read-bit-of Inv-loop μ-loop
-shared-slice-read-bit-of c = let z = c .before .before .before .before in row-within (z .pre .0) (c .before .loop-test .taken) (z .pre .1) (c .before .before .loop .inv .1) .0
+shared-slice-read-bit-of c =
+    let l = c .before .before in
+    let q = l .before .before .before .before .pre in
+    row-within (q .0) (c .before .loop-test .taken) (q .1) (at-row l) .0
 
 cast-bit-of : tie.Need-cast-bit-of Inv-loop μ-loop
 cast-bit-of c = record { fits = omega (arith, c .shared-slice-known2 .given (c .before .before .loop .at)) }
 
 bit-of-requires : tie.Need-bit-of-requires Inv-loop μ-loop
-bit-of-requires c κs = omega (arith, c .before .before .before .before .pre .2)
+bit-of-requires c κs = omega (arith, c .before .before .before .before .before .before .pre .2)
 
 returns : tie.Need-returns Inv-loop μ-loop
 returns c =
-    let q = c .before .before .before .before .before .before .pre in
-    let l = c .before .before .before .before .loop in
+    let l = c .before .before .before .before in
+    let q = l .before .before .before .before .pre in
     let more = c .before .before .before .loop-test .taken in
-    sym (least-hit _ _ _ more (l .inv .2) (row-tested _ (q .0) (q .2) (λ e. omega (arith, more)) (l .inv .1) (c .before .bit-of .ensures) ∙ c .if1 .taken))
+    sym (least-hit _ _ _ more (l .loop .inv .2) (row-tested _ (q .0) (q .2) (λ e. omega (arith, more)) (at-row l) (c .before .bit-of .ensures) ∙ c .if1 .taken))
 
-add-at-2 : tie.Need-add-at-2 Inv-loop μ-loop
-add-at-2 c = let z = c .before .before .before .before .before .before in omega (arith, row-within (z .pre .0) (c .before .before .before .loop-test .taken) (z .pre .1) (c .before .before .before .before .loop .inv .1) .1)
+add-at : tie.Need-add-at Inv-loop μ-loop
+add-at c =
+    let l = c .before .before .before .before in
+    let q = l .before .before .before .before .pre in
+    omega (arith, row-within (q .0) (c .before .before .before .loop-test .taken) (q .1) (at-row l) .1, l .before .before .row-bytes .ensures)
 
 add-r : tie.Need-add-r Inv-loop μ-loop
 add-r c = search needs
@@ -62,19 +69,18 @@ loop-less c = search needs
 
 loop-again : tie.Need-loop-again Inv-loop μ-loop
 loop-again c =
-    let z = c .before .before .before .before .before .before in
-    let q = z .pre in
-    let l = c .before .before .before .before .loop in
+    let l = c .before .before .before .before in
+    let q = l .before .before .before .before .pre in
     let more = c .before .before .before .loop-test .taken in (
       search needs,
-      omega (arith, l .inv .1, place-next (z .args .n) (z .args .p) (l .r) (z .args .c)),
-      rw add-one (any-miss _ _ (l .inv .2) (row-tested _ (q .0) (q .2) (λ e. omega (arith, more)) (l .inv .1) (c .before .bit-of .ensures) ∙ c .if1 .left)),
+      omega (arith, l .loop .inv .1),
+      rw add-one (any-miss _ _ (l .loop .inv .2) (row-tested _ (q .0) (q .2) (λ e. omega (arith, more)) (at-row l) (c .before .bit-of .ensures) ∙ c .if1 .left)),
     )
 
 returns-2 : tie.Need-returns-2 Inv-loop μ-loop
 returns-2 c =
-    let a = c .before .before .before .args in
-    sym (least-none _ _ (subst (λ (m : ℕ). any m (rowHas (a .b .now) (a .c) (a .j) (a .n)) ≡ false) (omega arith) (c .before .loop .inv .2)))
+    let a = c .before .before .before .before .before .args in
+    sym (least-none _ _ (subst (λ (m : ℕ). any m (rowHas (a .b .now) (a .c) (a .j) (a .f .n)) ≡ false) (omega arith) (c .before .loop .inv .2)))
 
 pub first-row-spec : {M : Type 1} → statement M
 first-row-spec =
@@ -82,16 +88,14 @@ first-row-spec =
     (tie.spec
     Inv-loop
     μ-loop
-    add-stride
-    mul-stride
-    mul-at
-    add-at
+    row-bytes-requires
+    low-place-requires
     loop-holds
     shared-slice-read-bit-of
     cast-bit-of
     bit-of-requires
     returns
-    add-at-2
+    add-at
     add-r
     loop-less
     loop-again

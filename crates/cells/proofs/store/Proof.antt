@@ -4,18 +4,19 @@ use Prim.Native.Nat.{ℕ, _+_, _/_, _%_, _<_}
 use native.Mathlib.Omega.{arith}
 use mathlib.Core.Path.{sym, _∙_, ap}
 use lib.ListN.{length, set, length-set}
+use Rattle.cells.specs.Station.{right-shape}
 use Rattle.cells.specs.Places.{place-below, store-is}
 use Rattle.cells.proofs.store.Statement.{statement}
 use Rattle.cells.proofs.store.Tie as tie
 
 place-requires : tie.Need-place-requires
-place-requires c κs = search needs
+place-requires c κs = let q = c .before .pre in (right-shape (q .station), q .row, q .column)
 
 inside : (c : tie.After-place) → c .place .result + 1 < length (c .before .before .args .b .now)
 inside c =
     let a = c .before .before .args in
     let q = c .before .before .pre in
-    omega (arith, place-below (a .b .now) (a .n) (a .p) (q .station) (a .r) (a .c) (q .row) (q .column), c .place .ensures)
+    omega (arith, place-below (a .b .now) (a .f) (q .station) (a .r) (a .c) (q .row) (q .column), right-shape (q .station) .width, c .place .ensures)
 
 cast-b : tie.Need-cast-b
 cast-b c = search needs
@@ -39,7 +40,7 @@ returns : tie.Need-returns
 returns c =
     let a = c .before .before .args in
     ap (λ (at : ℕ). set (set (a .b .now) at (a .v / 256 % 256)) (at + 1) (a .v % 256)) (c .place .ensures)
-    ∙ sym (store-is (a .b .now) (a .n) (a .p) (c .before .before .pre .station) (a .r) (a .c) (a .v))
+    ∙ sym (store-is (a .b .now) (a .f) (c .before .before .pre .station) (a .r) (a .c) (a .v))
 
 pub store-spec : {M : Type 1} → statement M
 store-spec =

@@ -1,5 +1,5 @@
 -- `changes::apply` meets its contract: each arm makes the change of its act.
-use Rattle.changes.specs.Effects.{basic-of, object-column, acted, object-cleared}
+use Rattle.changes.specs.Effects.{right-of, object-column, acted, object-cleared}
 use borrow.Author.Needs.{needs}
 use native.Mathlib.Omega.{arith}
 use Rattle.bits.specs.Steps.{length-after}
@@ -10,7 +10,7 @@ enum-known-act : tie.Need-enum-known-act
 enum-known-act c = search needs
 
 transfer-requires : tie.Need-transfer-requires
-transfer-requires c κs = (c .before .before .before .before .before .pre, basic-of (c .before .before .before .before .before .pre) (c .before .before .act .given .1))
+transfer-requires c κs = (c .before .before .before .before .before .pre, right-of (c .before .before .before .before .before .pre) (c .before .before .act .given .1))
 
 enum-known-act-2 : tie.Need-enum-known-act-2
 enum-known-act-2 c = search needs
@@ -18,7 +18,7 @@ enum-known-act-2 c = search needs
 put-right-requires : tie.Need-put-right-requires
 put-right-requires c κs =
     let q = c .before .before .before .before .before .pre in
-    record { station = q .station; right = basic-of q (c .before .before .act2 .given .1); row = omega arith; column = q .object }
+    record { station = q .station; right = right-of q (c .before .before .act2 .given .1); row = omega arith; column = q .object }
 
 enum-known-act-3 : tie.Need-enum-known-act-3
 enum-known-act-3 c = search needs
@@ -26,7 +26,7 @@ enum-known-act-3 c = search needs
 put-right-requires-2 : tie.Need-put-right-requires-2
 put-right-requires-2 c κs =
     let q = c .before .before .before .before .before .pre in
-    record { station = q .station; right = basic-of q (c .before .before .act3 .given .1); row = omega arith; column = q .object }
+    record { station = q .station; right = right-of q (c .before .before .act3 .given .1); row = omega arith; column = q .object }
 
 enum-told : tie.Need-enum-told
 enum-told c = search needs

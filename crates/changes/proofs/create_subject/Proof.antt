@@ -9,12 +9,12 @@ use Rattle.changes.proofs.create_subject.Tie as tie
 put-right-requires : tie.Need-put-right-requires
 put-right-requires c κs =
     let q = c .before .before .pre in
-    record { station = q .station; right = omega arith; row = q .initiator; column = lt-ltb _ _ (q .subject) }
+    record { station = q .station; right = tt; row = q .initiator; column = lt-ltb _ _ (q .subject) }
 
 put-right-requires-2 : tie.Need-put-right-requires-2
 put-right-requires-2 c κs =
     let q = c .before .before .before .before .before .before .pre in
-    bit-after (q .station) (c .before .before .before .put-right .ensures) (omega arith) (omega arith) (lt-ltb _ _ (q .subject))
+    bit-after (q .station) (c .before .before .before .put-right .ensures) tt (omega arith) (lt-ltb _ _ (q .subject))
 
 returns : tie.Need-returns
 returns c =

@@ -21,7 +21,7 @@ clear-row-requires c κs =
 returns : tie.Need-returns
 returns c =
     let a = c .before .before .before .before .before .before .before .before .before .before .before .before .before .args in
-    destroyed (a .n) (a .c .i) (a .c .s) (c .before .before .before .before .before .before .before .before .before .before .before .before .before .pre .subject)
+    destroyed (a .f .n) (a .c .i) (a .c .s) (c .before .before .before .before .before .before .before .before .before .before .before .before .before .pre .subject)
     (c .before .before .before .before .before .before .before .before .before .before .inherit-own .ensures) (c .before .before .before .before .before .before .clear-column .ensures) (c .before .before .clear-row .ensures)
 
 same-length : tie.Need-same-length

@@ -12,12 +12,12 @@ enum-told c = search needs
 put-right-requires : tie.Need-put-right-requires
 put-right-requires c κs =
     let q = c .before .before .before .before .pre .0 in
-    record { station = q .station; right = omega arith; row = omega arith; column = q .object }
+    record { station = q .station; right = tt; row = omega arith; column = q .object }
 
 put-right-requires-2 : tie.Need-put-right-requires-2
 put-right-requires-2 c κs =
     let q = c .before .before .before .before .before .before .before .before .pre .0 in
-    bit-after (q .station) (c .before .before .before .put-right .ensures) (omega arith) (omega arith) (q .object)
+    bit-after (q .station) (c .before .before .before .put-right .ensures) tt (omega arith) (q .object)
 
 enum-told-2 : tie.Need-enum-told-2
 enum-told-2 c = search needs

@@ -2,19 +2,20 @@
 use borrow.Author.Needs.{needs}
 use native.Mathlib.Omega.{arith}
 use mathlib.Core.Path.{sym, _∙_}
+use Rattle.cells.specs.Station.{right-shape}
 use Rattle.states.specs.Reads.{top-is}
 use Rattle.climbing.specs.Shut.{next-root, next-closed, next-owner}
 use Rattle.climbing.proofs.next_up.Statement.{statement}
 use Rattle.climbing.proofs.next_up.Tie as tie
 
 returns : tie.Need-returns
-returns c = next-root _ _ _ (omega (arith, top-is _ _ _ (c .before .before .pre .0 .station))) (c .if1 .taken)
+returns c = next-root _ _ _ (omega (arith, top-is _ _ (c .before .before .pre .0 .station))) (c .if1 .taken)
 
 has-requires : tie.Need-has-requires
-has-requires c κs = search needs
+has-requires c κs = omega (arith, right-shape (c .before .before .pre .0 .station) .high)
 
 returns-2 : tie.Need-returns-2
-returns-2 c = next-closed _ _ _ (omega (arith, top-is _ _ _ (c .before .before .before .before .pre .0 .station))) (sym (c .before .has .ensures) ∙ c .if2 .taken)
+returns-2 c = next-closed _ _ _ (omega (arith, top-is _ _ (c .before .before .before .before .pre .0 .station))) (sym (c .before .has .ensures) ∙ c .if2 .taken)
 
 owner-of-requires : tie.Need-owner-of-requires
 owner-of-requires c κs = search needs

@@ -5,7 +5,7 @@ use native.Mathlib.Omega.{arith}
 use borrow.Author.Tests.{not-true, not-false}
 use mathlib.Core.Path.{_≡_, sym, _∙_}
 use Rattle.matrix.specs.Reading.{stateOf}
-use Rattle.cells.specs.Places.{subjects-few}
+use Rattle.cells.specs.Station.{right-shape}
 use Rattle.states.specs.Reads.{top-is}
 use Rattle.question.specs.Trust.{trustedBy}
 use Rattle.climbing.specs.Shut.{ShutAll, Seen, seen-none, seen-up}
@@ -14,11 +14,11 @@ use Rattle.climbing.proofs.rise_from.Statement.{statement}
 use Rattle.climbing.proofs.rise_from.Tie as tie
 
 abbrev Inv-up : tie.InvT-up
-Inv-up b n p trust w owners closed₀ path₀ at₀ m₀ left₀ seen₀ closed path at m left seen =
+Inv-up b f trust w owners closed₀ path₀ n at₀ m₀ left₀ seen₀ closed path at m left seen =
     (at < n) × (m + left ≡ n) × Rising b n (trustedBy trust) w path at m left × ShutAll (stateOf b) (trustedBy trust) closed × Seen (stateOf b) (trustedBy trust) at seen
 
 abbrev μ-up : tie.MeasureT-up
-μ-up b n p trust w owners closed₀ path₀ at₀ m₀ left₀ seen₀ closed path at m left seen = left
+μ-up b f trust w owners closed₀ path₀ n at₀ m₀ left₀ seen₀ closed path at m left seen = left
 
 up-holds : tie.Need-up-holds Inv-up μ-up
 up-holds c =
@@ -26,7 +26,7 @@ up-holds c =
     (q .1, omega arith, rising-none _ _ _ (q .0 .station) (q .3), q .2, seen-none _ (q .2))
 
 is-trusted-requires : tie.Need-is-trusted-requires Inv-up μ-up
-is-trusted-requires c κs = omega (arith, subjects-few _ _ _ (c .before .before .before .before .pre .0 .station))
+is-trusted-requires c κs = omega (arith, right-shape (c .before .before .before .before .pre .0 .station) .high)
 
 next-up-requires : tie.Need-next-up-requires Inv-up μ-up
 next-up-requires c κs =
@@ -34,16 +34,16 @@ next-up-requires c κs =
     (q .0, c .before .before .before .before .up .inv .0)
 
 cast-path : tie.Need-cast-path Inv-up μ-up
-cast-path c = record { fits = omega (arith, subjects-few _ _ _ (c .before .before .before .before .before .before .before .before .before .pre .0 .station)) }
+cast-path c = record { fits = omega (arith, right-shape (c .before .before .before .before .before .before .before .before .before .pre .0 .station) .high) }
 
 element-write-path : tie.Need-element-write-path Inv-up μ-up
-element-write-path c = omega (arith, subjects-few _ _ _ (c .before .before .before .before .before .before .before .before .before .pre .0 .station))
+element-write-path c = omega (arith, right-shape (c .before .before .before .before .before .before .before .before .before .pre .0 .station) .high)
 
 added-requires : tie.Need-added-requires Inv-up μ-up
-added-requires c κs = omega (arith, subjects-few _ _ _ (c .before .before .before .before .before .before .before .before .before .pre .0 .station))
+added-requires c κs = omega (arith, right-shape (c .before .before .before .before .before .before .before .before .before .pre .0 .station) .high)
 
 add-m : tie.Need-add-m Inv-up μ-up
-add-m c = record { fits = omega (arith, subjects-few _ _ _ (c .before .before .before .before .before .before .before .before .before .before .pre .0 .station)) }
+add-m c = record { fits = omega (arith, right-shape (c .before .before .before .before .before .before .before .before .before .before .pre .0 .station) .high) }
 
 sub-left : tie.Need-sub-left Inv-up μ-up
 sub-left c = omega arith
@@ -60,9 +60,9 @@ up-again c =
     let l = c .before .if3 .left in (
       l,
       omega arith,
-      rising-up (i .2) (c .before .before .before .before .before .before .if1 .left) t next (top-is _ _ _ z) l (i .0) (omega (arith, subjects-few _ _ _ z)),
+      rising-up (i .2) (c .before .before .before .before .before .before .if1 .left) t next (top-is _ _ z) l (i .0) (omega (arith, right-shape z .high)),
       i .3,
-      seen-up (i .4) t next (omega (arith, top-is _ _ _ z)) (c .added .ensures),
+      seen-up (i .4) t next (omega (arith, top-is _ _ z)) (c .added .ensures),
     )
 
 returns : tie.Need-returns Inv-up μ-up
@@ -77,7 +77,7 @@ returns-3 : tie.Need-returns-3 Inv-up μ-up
 returns-3 c =
     let i = c .before .before .before .before .before .before .up .inv in
     let t = sym (c .before .before .before .before .is-trusted .ensures) ∙ not-false _ (c .before .before .before .if2 .left) in
-    let s = c .before .next-up .ensures .ends (omega (arith, top-is _ _ _ (c .before .before .before .before .before .before .before .before .before .pre .0 .station))) _ t (i .3) in
+    let s = c .before .next-up .ensures .ends (omega (arith, top-is _ _ (c .before .before .before .before .before .before .before .before .before .pre .0 .station))) _ t (i .3) in
     (rises-shut (i .2) s, i .4 .shuts s)
 
 pub rise-from-spec : {M : Type 1} → statement M

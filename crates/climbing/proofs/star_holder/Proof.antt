@@ -2,7 +2,7 @@
 use mathlib.Core.Path.{refl, sym, _∙_}
 use Rattle.matrix.specs.declared.Right.the-variants.{Own, Control}
 use Rattle.matrix.specs.Reading.{stateOf}
-use Rattle.states.specs.Reads.{basic-small}
+use Rattle.states.specs.Reads.{basic-in}
 use Rattle.question.specs.Trust.{trustedBy}
 use Rattle.climbing.specs.Targets.{no-star, star-is}
 use borrow.Author.Needs.{needs}
@@ -19,7 +19,7 @@ enum-known-y : tie.Need-enum-known-y
 enum-known-y c = search needs
 
 star-row-requires : tie.Need-star-row-requires
-star-row-requires c κs = (c .before .before .before .before .pre .0, basic-small (c .before .y .given .1) (c .before .before .before .before .pre .1))
+star-row-requires c κs = (c .before .before .before .before .pre .0, basic-in _ (c .before .y .given .1) (c .before .before .before .before .pre .1))
 
 returns : tie.Need-returns
 returns c =

@@ -9,18 +9,19 @@ use Rattle.matrix.specs.Bounded.{least}
 use Rattle.matrix.specs.Bytes.{bit}
 use Rattle.matrix.specs.declared.Form.the-variants.{Starred}
 use Rattle.matrix.specs.Reading.{stateOf}
-use Rattle.cells.specs.Places.{subjects-few}
+use Rattle.cells.specs.Station.{right-shape}
+use Rattle.masks.specs.Marks.{maskBits}
 use Rattle.question.specs.Trust.{trustedBy}
 use Rattle.climbing.specs.Passing.{Passed, passed-trusted, star-none, star-found, passed-more, passed-higher}
 use Rattle.climbing.proofs.star_row.Statement.{statement}
 use Rattle.climbing.proofs.star_row.Tie as tie
 
 abbrev Inv-loop : tie.InvT-loop
-Inv-loop b n p trust k x passed₀ v₀ passed v =
-    (v ≡ least 64 (λ j. not (bit j passed))) × Passed (trustedBy trust) (λ j. stateOf b .basic k Starred j x) passed
+Inv-loop b f trust k x n passed₀ v₀ passed v =
+    (v ≡ least maskBits (λ j. not (bit j passed))) × Passed (trustedBy trust) (λ j. stateOf b .basic k Starred j x) passed
 
 abbrev μ-loop : tie.MeasureT-loop
-μ-loop b n p trust k x passed₀ v₀ passed v = n - v
+μ-loop b f trust k x n passed₀ v₀ passed v = n - v
 
 lowest-outside-requires : tie.Need-lowest-outside-requires Inv-loop μ-loop
 lowest-outside-requires c κs = search needs
@@ -37,10 +38,10 @@ returns : tie.Need-returns Inv-loop μ-loop
 returns c =
     let i = c .before .before .before .loop .inv in
     let l = c .before .before .loop-test .taken in
-    star-found (i .1) (i .0) (omega (arith, subjects-few _ _ _ (c .before .before .before .before .before .before .pre .0 .station))) l (c .before .has-bit .ensures) (c .if1 .taken)
+    star-found (i .1) (i .0) (omega (arith, right-shape (c .before .before .before .before .before .before .pre .0 .station) .high)) l (c .before .has-bit .ensures) (c .if1 .taken)
 
 added-requires : tie.Need-added-requires Inv-loop μ-loop
-added-requires c κs = omega (arith, c .before .before .loop-test .taken, subjects-few _ _ _ (c .before .before .before .before .before .before .pre .0 .station))
+added-requires c κs = omega (arith, c .before .before .loop-test .taken, right-shape (c .before .before .before .before .before .before .pre .0 .station) .high)
 
 lowest-outside-requires-2 : tie.Need-lowest-outside-requires-2 Inv-loop μ-loop
 lowest-outside-requires-2 c κs = search needs
@@ -49,13 +50,13 @@ loop-less : tie.Need-loop-less Inv-loop μ-loop
 loop-less c =
     let i = c .before .before .before .before .before .loop .inv in
     let l = c .before .before .before .before .loop-test .taken in
-    omega (arith, passed-higher (i .1) (i .0) (omega (arith, subjects-few _ _ _ (c .before .before .before .before .before .before .before .before .pre .0 .station))) (c .before .added .ensures) (c .lowest-outside2 .ensures))
+    omega (arith, passed-higher (i .1) (i .0) (omega (arith, right-shape (c .before .before .before .before .before .before .before .before .pre .0 .station) .high)) (c .before .added .ensures) (c .lowest-outside2 .ensures))
 
 loop-again : tie.Need-loop-again Inv-loop μ-loop
 loop-again c =
     let i = c .before .before .before .before .before .loop .inv in
     let l = c .before .before .before .before .loop-test .taken in
-    (c .lowest-outside2 .ensures, passed-more (i .1) (i .0) (omega (arith, subjects-few _ _ _ (c .before .before .before .before .before .before .before .before .pre .0 .station))) (c .before .added .ensures) (c .before .before .before .has-bit .ensures) (c .before .before .if1 .left))
+    (c .lowest-outside2 .ensures, passed-more (i .1) (i .0) (omega (arith, right-shape (c .before .before .before .before .before .before .before .before .pre .0 .station) .high)) (c .before .added .ensures) (c .before .before .before .has-bit .ensures) (c .before .before .if1 .left))
 
 returns-2 : tie.Need-returns-2 Inv-loop μ-loop
 returns-2 c = star-none (c .before .loop .inv .1) (c .before .loop .inv .0) (c .loop-test .left)

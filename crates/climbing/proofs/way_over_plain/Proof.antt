@@ -8,6 +8,7 @@ use mathlib.Core.Bool.{false}
 use lib.ListN.{length}
 use Rattle.matrix.specs.declared.Name.the-variants.{Plain}
 use Rattle.matrix.specs.Bounded.{any}
+use Rattle.matrix.specs.Shape.{mostSubjects}
 use Rattle.matrix.specs.Reading.{stateOf}
 use Rattle.laws.specs.Bounded.{any-miss}
 use Rattle.cells.specs.Blocks.{blockHas}
@@ -21,11 +22,11 @@ use Rattle.climbing.proofs.way_over_plain.Statement.{statement}
 use Rattle.climbing.proofs.way_over_plain.Tie as tie
 
 abbrev Inv-loop : tie.InvT-loop
-Inv-loop b n p trust o owners path₀ first closed₀ w₀ path closed w =
-    (length path ≡ 64) × (any w (riser (stateOf b) (trustedBy trust) (Plain o)) ≡ false) × ShutAll (stateOf b) (trustedBy trust) closed
+Inv-loop b f trust o owners path₀ n first closed₀ w₀ path closed w =
+    (length path ≡ mostSubjects) × (any w (riser (stateOf b) (trustedBy trust) (Plain o)) ≡ false) × ShutAll (stateOf b) (trustedBy trust) closed
 
 abbrev μ-loop : tie.MeasureT-loop
-μ-loop b n p trust o owners path₀ first closed₀ w₀ path closed w = n - w
+μ-loop b f trust o owners path₀ n first closed₀ w₀ path closed w = n - w
 
 first-block-requires : tie.Need-first-block-requires Inv-loop μ-loop
 first-block-requires c κs = let q = c .before .pre in (q .0 .station, named-plain (q .0) refl, omega arith)
@@ -33,7 +34,7 @@ first-block-requires c κs = let q = c .before .pre in (q .0 .station, named-pla
 mul-first : tie.Need-mul-first Inv-loop μ-loop
 mul-first c =
     let z = c .before .before .args in
-    record { fits = omega (arith, c .first-block .ensures, least-most (z .n / 4) (blockHas (z .b .now) (z .o) 0)) }
+    record { fits = omega (arith, c .first-block .ensures, least-most (z .f .n / 4) (blockHas (z .b .now) (z .o) 0)) }
 
 loop-holds : tie.Need-loop-holds Inv-loop μ-loop
 loop-holds c =

@@ -1,6 +1,6 @@
 -- `commands::carry_out` meets its contract.
 use native.Mathlib.Nat.{lt-of-lt-of-le}
-use Rattle.cells.specs.Places.{subjects-few}
+use Rattle.cells.specs.Station.{right-shape}
 use Rattle.commands.specs.Carrying.{carried-refused, carried-accepted}
 use borrow.Author.Needs.{needs}
 use Rattle.commands.proofs.carry_out.Statement.{statement}
@@ -21,7 +21,7 @@ apply-requires c κs = search needs
 follow-requires : tie.Need-follow-requires
 follow-requires c κs =
     let z = c .before .before .before .before .before .before .before .before .before .before .before in
-    let few = subjects-few _ _ _ (z .pre .0 .station) in
+    let few = right-shape (z .pre .0 .station) .high in
     (z .pre .2 .size, lt-of-lt-of-le (z .pre .0 .subject) few, lt-of-lt-of-le (z .pre .0 .initiator) few)
 
 same-length-2 : tie.Need-same-length-2

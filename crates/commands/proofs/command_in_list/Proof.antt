@@ -25,13 +25,13 @@ returns c = (c .before .before .before .by-right .ensures .holds (c .if1 .taken)
 over-object-requires : tie.Need-over-object-requires
 over-object-requires c κs =
     let z = c .before .before .before .before .before .before .before in
-    subst (λ (b : List ℕ). Station b (z .args .n) (z .args .p) × Valid (stateOf b)) (sym (c .before .before .before .before .by-right .ensures .stays (c .before .if1 .left))) (z .pre .station, z .pre .valid)
+    subst (λ (b : List ℕ). Station b (z .args .f) × Valid (stateOf b)) (sym (c .before .before .before .before .by-right .ensures .stays (c .before .if1 .left))) (z .pre .station, z .pre .valid)
 
 command-on-requires : tie.Need-command-on-requires
 command-on-requires c κs =
     let z = c .before .before .before .before .before .before .before .before .before .before .before .before .before in
     let e = c .before .before .before .before .before .over-object .ensures .stays (not-true _ (c .before .before .if2 .taken)) ∙ c .before .before .before .before .before .before .before .before .before .before .by-right .ensures .stays (c .before .before .before .before .before .before .before .if1 .left) in
-    subst (λ (b : List ℕ). Guessed b (z .args .n) (z .args .p) (z .args .owners .now)) (sym e) (z .pre)
+    subst (λ (b : List ℕ). Guessed b (z .args .f) (z .args .owners .now)) (sym e) (z .pre)
 
 same-length-2 : tie.Need-same-length-2
 same-length-2 c = search needs

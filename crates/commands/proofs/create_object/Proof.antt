@@ -29,7 +29,7 @@ returns-2 : tie.Need-returns-2
 returns-2 c = left-alone
 
 subject-exists-requires : tie.Need-subject-exists-requires
-subject-exists-requires c κs = let z = c .before .before .before .before .before .before .before in (z .pre .0 .station, row-i _ _ (z .args .c) (z .pre .0 .names))
+subject-exists-requires c κs = let z = c .before .before .before .before .before .before .before in (z .pre .0 .station, row-i (z .args .f) (z .args .c) (z .pre .0 .names))
 
 same-length : tie.Need-same-length
 same-length c = search needs
@@ -38,7 +38,7 @@ returns-3 : tie.Need-returns-3
 returns-3 c = left-alone
 
 name-exists-requires : tie.Need-name-exists-requires
-name-exists-requires c κs = let z = c .before .before .before .before .before .before .before .before .before .before in record { station = z .pre .0 .station; column = name-is _ _ (z .args .c) (c .before .before .before .before .before .before .before .before .name-of .ensures) (z .pre .0 .names) }
+name-exists-requires c κs = let z = c .before .before .before .before .before .before .before .before .before .before in record { station = z .pre .0 .station; column = name-is (z .args .f) (z .args .c) (c .before .before .before .before .before .before .before .before .name-of .ensures) (z .pre .0 .names) }
 
 same-length-2 : tie.Need-same-length-2
 same-length-2 c = search needs
@@ -47,7 +47,7 @@ returns-4 : tie.Need-returns-4
 returns-4 c = left-alone
 
 put-right-requires : tie.Need-put-right-requires
-put-right-requires c κs = let z = c .before .before .before .before .before .before .before .before .before .before .before .before .before in own-in (z .args .c) (z .pre .0) (row-i _ _ (z .args .c) (z .pre .0 .names)) (c .before .before .before .before .before .before .before .before .before .before .before .name-of .ensures)
+put-right-requires c κs = let z = c .before .before .before .before .before .before .before .before .before .before .before .before .before in own-in (z .args .c) (z .pre .0) (row-i (z .args .f) (z .args .c) (z .pre .0 .names)) (c .before .before .before .before .before .before .before .before .before .before .before .name-of .ensures)
 
 same-length-3 : tie.Need-same-length-3
 same-length-3 c = search needs

@@ -24,7 +24,7 @@ returns-2 : tie.Need-returns-2
 returns-2 c = left-alone
 
 has-bit-requires : tie.Need-has-bit-requires
-has-bit-requires c κs = let z = c .before .before .before .before .before .before .before in own-in (z .args .c) (z .pre .0) (row-i _ _ (z .args .c) (z .pre .0 .names)) (c .before .before .before .before .before .name-of .ensures)
+has-bit-requires c κs = let z = c .before .before .before .before .before .before .before in own-in (z .args .c) (z .pre .0) (row-i (z .args .f) (z .args .c) (z .pre .0 .names)) (c .before .before .before .before .before .name-of .ensures)
 
 same-length : tie.Need-same-length
 same-length c = search needs
@@ -33,7 +33,7 @@ returns-3 : tie.Need-returns-3
 returns-3 c = left-alone
 
 clear-column-requires : tie.Need-clear-column-requires
-clear-column-requires c κs = let z = c .before .before .before .before .before .before .before .before .before .before in (z .pre .0 .station, column-o _ _ (z .args .c) (z .pre .0 .names))
+clear-column-requires c κs = let z = c .before .before .before .before .before .before .before .before .before .before in (z .pre .0 .station, column-o (z .args .f) (z .args .c) (z .pre .0 .names))
 
 same-length-2 : tie.Need-same-length-2
 same-length-2 c = search needs

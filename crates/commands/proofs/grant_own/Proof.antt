@@ -26,7 +26,7 @@ returns : tie.Need-returns
 returns c = left-alone
 
 subject-exists-requires : tie.Need-subject-exists-requires
-subject-exists-requires c κs = let z = c .before .before .before .before .before in (z .pre .0 .station, row-s _ _ (z .args .c) (z .pre .0 .names))
+subject-exists-requires c κs = let z = c .before .before .before .before .before in (z .pre .0 .station, row-s (z .args .f) (z .args .c) (z .pre .0 .names))
 
 same-length : tie.Need-same-length
 same-length c = search needs
@@ -35,7 +35,7 @@ returns-2 : tie.Need-returns-2
 returns-2 c = left-alone
 
 has-bit-requires : tie.Need-has-bit-requires
-has-bit-requires c κs = let z = c .before .before .before .before .before .before .before .before in own-in (z .args .c) (z .pre .0) (row-i _ _ (z .args .c) (z .pre .0 .names)) (c .before .before .before .before .before .before .name-of .ensures)
+has-bit-requires c κs = let z = c .before .before .before .before .before .before .before .before in own-in (z .args .c) (z .pre .0) (row-i (z .args .f) (z .args .c) (z .pre .0 .names)) (c .before .before .before .before .before .before .name-of .ensures)
 
 same-length-2 : tie.Need-same-length-2
 same-length-2 c = search needs
@@ -44,7 +44,7 @@ returns-3 : tie.Need-returns-3
 returns-3 c = left-alone
 
 put-right-requires : tie.Need-put-right-requires
-put-right-requires c κs = let z = c .before .before .before .before .before .before .before .before .before .before .before in own-in (z .args .c) (z .pre .0) (row-s _ _ (z .args .c) (z .pre .0 .names)) (c .before .before .before .before .before .before .before .before .before .name-of .ensures)
+put-right-requires c κs = let z = c .before .before .before .before .before .before .before .before .before .before .before in own-in (z .args .c) (z .pre .0) (row-s (z .args .f) (z .args .c) (z .pre .0 .names)) (c .before .before .before .before .before .before .before .before .before .name-of .ensures)
 
 same-length-3 : tie.Need-same-length-3
 same-length-3 c = search needs

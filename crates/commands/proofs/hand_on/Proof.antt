@@ -3,14 +3,15 @@ use borrow.Author.Needs.{needs}
 use Prim.Native.Nat.{_-_, _≤_}
 use mathlib.Core.Path.{_≡_, _∙_}
 use lib.ListN.{length, length-set}
+use Rattle.matrix.specs.Shape.{mostSubjects}
 use Rattle.commands.proofs.hand_on.Statement.{statement}
 use Rattle.commands.proofs.hand_on.Tie as tie
 
 abbrev Inv-loop : tie.InvT-loop
-Inv-loop owners₀ s i from to v₀ owners v = (v ≤ 64) × (length owners ≡ 64)
+Inv-loop owners₀ s i from to v₀ owners v = (v ≤ mostSubjects) × (length owners ≡ mostSubjects)
 
 abbrev μ-loop : tie.MeasureT-loop
-μ-loop owners₀ s i from to v₀ owners v = 64 - v
+μ-loop owners₀ s i from to v₀ owners v = mostSubjects - v
 
 cast-from : tie.Need-cast-from Inv-loop μ-loop
 cast-from c = search needs

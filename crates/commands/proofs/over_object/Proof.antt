@@ -2,6 +2,7 @@
 use Rattle.commands.specs.Allowed.{left-alone}
 use mathlib.Core.Path.{sym, _∙_}
 use borrow.Author.Tests.{not-false}
+use Rattle.cells.specs.Station.{right-shape}
 use Rattle.commands.specs.Objects.{WithoutBasic}
 use borrow.Author.Needs.{needs}
 use Rattle.commands.proofs.over_object.Statement.{statement}
@@ -11,13 +12,13 @@ returns : tie.Need-returns
 returns c = left-alone
 
 names-fit-requires : tie.Need-names-fit-requires
-names-fit-requires c κs = search needs
+names-fit-requires c κs = right-shape (c .before .before .before .pre .0)
 
 returns-2 : tie.Need-returns-2
 returns-2 c = left-alone
 
 -- where the names fit and no basic right is named
-without-basic : (c : tie.Else2) → WithoutBasic (c .before .before .before .before .before .args .b .now) (c .before .before .before .before .before .args .n) (c .before .before .before .before .before .args .p) (c .before .before .before .before .before .args .c)
+without-basic : (c : tie.Else2) → WithoutBasic (c .before .before .before .before .before .args .b .now) (c .before .before .before .before .before .args .f) (c .before .before .before .before .before .args .c)
 without-basic c =
     let h = c .before .before .before .before .before .pre in
     record { station = h .0; valid = h .1; names = sym (c .before .names-fit .ensures) ∙ not-false _ (c .if2 .left); none = c .before .before .if1 .left }

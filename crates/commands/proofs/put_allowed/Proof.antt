@@ -17,7 +17,7 @@ name-of-requires : tie.Need-name-of-requires
 name-of-requires c κs = search needs
 
 subject-exists-requires : tie.Need-subject-exists-requires
-subject-exists-requires c κs = let z = c .before .before .before in (z .pre .0, row-s _ _ (z .args .c) (z .pre .1))
+subject-exists-requires c κs = let z = c .before .before .before in (z .pre .0, row-s (z .args .f) (z .args .c) (z .pre .1))
 
 same-length : tie.Need-same-length
 same-length c = search needs
@@ -31,8 +31,8 @@ has-bit-requires c κs =
     record {
       station = z .pre .0;
       right = z .pre .3;
-      row = row-i _ _ (z .args .c) (z .pre .1);
-      column = name-is _ _ (z .args .c) (c .before .before .before .before .name-of .ensures) (z .pre .1);
+      row = row-i (z .args .f) (z .args .c) (z .pre .1);
+      column = name-is (z .args .f) (z .args .c) (c .before .before .before .before .name-of .ensures) (z .pre .1);
     }
 
 same-length-2 : tie.Need-same-length-2
@@ -50,8 +50,8 @@ put-right-requires c κs =
     record {
       station = z .pre .0;
       right = z .pre .2;
-      row = row-s _ _ (z .args .c) (z .pre .1);
-      column = name-is _ _ (z .args .c) (c .before .before .before .before .before .before .before .before .name-of .ensures) (z .pre .1);
+      row = row-s (z .args .f) (z .args .c) (z .pre .1);
+      column = name-is (z .args .f) (z .args .c) (c .before .before .before .before .before .before .before .before .name-of .ensures) (z .pre .1);
     }
 
 same-length-3 : tie.Need-same-length-3

@@ -3,7 +3,7 @@ use mathlib.Core.Path.{refl}
 use Rattle.matrix.specs.declared.Form.the-variants.{Starred}
 use Rattle.matrix.specs.declared.Right.the-variants.{Own, Control}
 use Rattle.matrix.specs.Reading.{stateOf}
-use Rattle.holding.specs.Holds.{basic-in, basic-form, held-alone, held-plain, held-starred}
+use Rattle.holding.specs.Holds.{either-form, basic-form, held-alone, held-plain, held-starred}
 use borrow.Author.Needs.{needs}
 use Rattle.holding.proofs.is_held.Statement.{statement}
 use Rattle.holding.proofs.is_held.Tie as tie
@@ -27,7 +27,7 @@ enum-told-3 : tie.Need-enum-told-3
 enum-told-3 c = search needs
 
 has-bit-requires-3 : tie.Need-has-bit-requires-3
-has-bit-requires-3 c κs = basic-in (c .before .before .before .before .before .before .pre) (c .before .before .before .y .given .1)
+has-bit-requires-3 c κs = either-form (c .before .before .before .before .before .before .pre) (c .before .before .before .y .given .1)
 
 returns : tie.Need-returns
 returns c =
@@ -35,13 +35,13 @@ returns c =
     held-plain (stateOf (a .b .now)) (a .w) (a .x) (c .before .before .before .before .before .y .given .1) (c .before .before .enum-told3 .given .1) (c .before .has-bit3 .ensures) (c .if1 .taken)
 
 has-bit-requires-4 : tie.Need-has-bit-requires-4
-has-bit-requires-4 c κs = basic-in (c .before .before .before .before .before .before .before .before .pre) (c .before .before .before .before .before .y .given .1)
+has-bit-requires-4 c κs = either-form (c .before .before .before .before .before .before .before .before .pre) (c .before .before .before .before .before .y .given .1)
 
 enum-told-4 : tie.Need-enum-told-4
 enum-told-4 c = search needs
 
 has-bit-requires-5 : tie.Need-has-bit-requires-5
-has-bit-requires-5 c κs = basic-in (c .before .before .before .before .before .before .pre) (c .before .before .before .y .given .1)
+has-bit-requires-5 c κs = either-form (c .before .before .before .before .before .before .pre) (c .before .before .before .y .given .1)
 
 returns-2 : tie.Need-returns-2
 returns-2 c =

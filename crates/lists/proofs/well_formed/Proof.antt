@@ -1,5 +1,5 @@
 -- `lists::well_formed` meets its contract.
-use Prim.Native.Nat.{ℕ, _≤_}
+use Prim.Native.Nat.{ℕ, _^_, _<_}
 use mathlib.Core.Path.{sym, subst}
 use Rattle.lists.specs.Forms.{too-short, other-version, by-count, four-below}
 use borrow.Author.Needs.{needs}
@@ -20,7 +20,7 @@ count-requires c κs = search needs
 
 count-right-requires : tie.Need-count-right-requires
 count-right-requires c κs =
-    subst (λ (m : ℕ). m ≤ 4294967295) (sym (c .count .ensures)) (four-below _ 1 (record { octet = λ j. c .before .before .before .before .shared-slice-known .given j .fits }))
+    subst (λ (m : ℕ). m < 256 ^ 4) (sym (c .count .ensures)) (four-below _ 1 (record { octet = λ j. c .before .before .before .before .shared-slice-known .given j .fits }))
 
 returns-3 : tie.Need-returns-3
 returns-3 c = by-count _ (c .before .before .before .before .if1 .left) (c .before .before .if2 .left) (c .before .count .ensures) (c .count-right .ensures)

@@ -3,16 +3,17 @@ use borrow.Author.Needs.{needs}
 use Prim.Native.Nat.{_-_, _≤_, _<_}
 use native.Mathlib.Omega.{arith}
 use mathlib.Core.Logic.{⊎-elim}
-use Rattle.cells.specs.Places.{subjects-few}
+use Rattle.cells.specs.Station.{right-shape}
+use Rattle.masks.specs.Marks.{maskBits}
 use Rattle.masks.specs.Existing.{Upto, upto-none, room, upto-more, upto-same, upto-all}
 use Rattle.masks.proofs.existing.Statement.{statement}
 use Rattle.masks.proofs.existing.Tie as tie
 
 abbrev Inv-loop : tie.InvT-loop
-Inv-loop b n p m₀ s₀ m s = (s ≤ n) × Upto b s m
+Inv-loop b f n m₀ s₀ m s = (s ≤ n) × Upto b s m
 
 abbrev μ-loop : tie.MeasureT-loop
-μ-loop b n p m₀ s₀ m s = n - s
+μ-loop b f n m₀ s₀ m s = n - s
 
 loop-holds : tie.Need-loop-holds Inv-loop μ-loop
 loop-holds c = (search needs, upto-none (c .before .args .b .now))
@@ -20,10 +21,8 @@ loop-holds c = (search needs, upto-none (c .before .args .b .now))
 subject-exists-requires : tie.Need-subject-exists-requires Inv-loop μ-loop
 subject-exists-requires c κs = search needs
 
-few : (c : tie.Then1 Inv-loop μ-loop) → c .before .before .before .loop .s < 64
-few c =
-    let a = c .before .before .before .before .before .args in
-    omega (arith, subjects-few (a .b .now) (a .n) (a .p) (c .before .before .before .before .before .pre))
+few : (c : tie.Then1 Inv-loop μ-loop) → c .before .before .before .loop .s < maskBits
+few c = omega (arith, right-shape (c .before .before .before .before .before .pre) .high)
 
 shl-m : tie.Need-shl-m Inv-loop μ-loop
 shl-m c = few c
@@ -39,12 +38,11 @@ loop-less c = search needs
 
 loop-again : tie.Need-loop-again Inv-loop μ-loop
 loop-again c =
-    let a = c .before .before .before .before .before .args in
     let q = c .before .before .before .before .before .pre in
     let l = c .before .before .before .loop in
     let t = c .before .subject-exists .ensures in (
       search needs,
-      ⊎-elim (λ w. upto-more (l .inv .1) (omega (arith, subjects-few (a .b .now) (a .n) (a .p) q)) t (w .0 .taken) (w .1))
+      ⊎-elim (λ w. upto-more (l .inv .1) (omega (arith, right-shape q .high)) t (w .0 .taken) (w .1))
           (λ w. upto-same (l .inv .1) t (w .0 .left) (w .1)) (c .if1 .came),
     )
 

@@ -2,11 +2,10 @@
 use mathlib.Core.Path.{sym, _∙_, ap, subst}
 use Rattle.matrix.specs.declared.Act.{Act}
 use Rattle.matrix.specs.Reading.{stateOf}
-use Prim.Native.Nat.{_<_}
 use native.Mathlib.Omega.{arith}
 use borrow.Author.Tests.{lt-ltb}
 use Rattle.matrix.specs.Tests.{permitted}
-use Rattle.rules.specs.Needs.{basicOfAct}
+use Rattle.rules.specs.Needs.{ActIn}
 use borrow.Author.Needs.{needs}
 use Rattle.rules.proofs.is_permitted.Statement.{statement}
 use Rattle.rules.proofs.is_permitted.Tie as tie
@@ -15,7 +14,7 @@ enum-known-act : tie.Need-enum-known-act
 enum-known-act c = search needs
 
 may-transfer-requires : tie.Need-may-transfer-requires
-may-transfer-requires c κs = (c .before .before .before .before .pre, subst (λ (a : Act). basicOfAct a < 7) (c .before .act .given .1) (c .before .before .before .before .pre .basic))
+may-transfer-requires c κs = let z = c .before .before .before .before in (z .pre, subst (ActIn (z .args .f)) (c .before .act .given .1) (z .pre .right))
 
 enum-told : tie.Need-enum-told
 enum-told c = search needs

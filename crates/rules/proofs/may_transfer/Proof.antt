@@ -4,7 +4,7 @@ use Rattle.matrix.specs.declared.Right.{Right}
 use Rattle.matrix.specs.Reading.{stateOf}
 use Rattle.matrix.specs.declared.Act.the-variants.{Transfer}
 use Rattle.matrix.specs.Tests.{permitted}
-use Rattle.states.specs.Reads.{basic-small}
+use Rattle.states.specs.Reads.{basic-in}
 use borrow.Author.Needs.{needs}
 use Rattle.rules.proofs.may_transfer.Statement.{statement}
 use Rattle.rules.proofs.may_transfer.Tie as tie
@@ -24,7 +24,7 @@ enum-known-y c = search needs
 has-bit-requires : tie.Need-has-bit-requires
 has-bit-requires c κs =
     let q = c .before .before .before .before .pre in
-    record { station = q .0 .station; right = basic-small (c .before .y .given .1) (q .1); row = q .0 .initiator; column = q .0 .object }
+    record { station = q .0 .station; right = basic-in _ (c .before .y .given .1) (q .1); row = q .0 .initiator; column = q .0 .object }
 
 returns : tie.Need-returns
 returns c = c .owns-object .ensures ∙ sym (ap (λ (a : Right). permitted (stateOf (c .before .before .before .before .args .b .now)) (c .before .before .before .before .args .c) (Transfer a)) (c .before .enum-told .given .1))

@@ -4,6 +4,7 @@ use Prim.Native.Nat.{ℕ, _+_, _-_}
 use native.Mathlib.Omega.{arith}
 use lib.ListN.{length}
 use mathlib.Core.Path.{_≡_, refl, sym, _∙_, ap}
+use Rattle.matrix.specs.Shape.{mostSubjects}
 use Rattle.matrix.specs.CommandList.{commandsIn}
 use Rattle.reader.specs.Left.{yields-command, yields-end}
 use Rattle.runs.specs.Reached.{Reached}
@@ -12,10 +13,10 @@ use Rattle.runs.proofs.run_on.Statement.{statement}
 use Rattle.runs.proofs.run_on.Tie as tie
 
 abbrev Inv-loop : tie.InvT-loop
-Inv-loop b₀ n p owners₀ l accepted₀ at₀ b owners accepted at = (accepted ≡ at) × Reached b₀ b l n p (commandsIn l) at × (length owners ≡ 64)
+Inv-loop b₀ f owners₀ l accepted₀ at₀ b owners accepted at = (accepted ≡ at) × Reached b₀ b l f (commandsIn l) at × (length owners ≡ mostSubjects)
 
 abbrev μ-loop : tie.MeasureT-loop
-μ-loop b₀ n p owners₀ l accepted₀ at₀ b owners accepted at = commandsIn l - at
+μ-loop b₀ f owners₀ l accepted₀ at₀ b owners accepted at = commandsIn l - at
 
 loop-holds : tie.Need-loop-holds Inv-loop μ-loop
 loop-holds c = (refl, reached-none (c .before .before .pre .0) refl, c .before .before .pre .0 .size)

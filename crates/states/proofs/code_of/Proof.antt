@@ -1,12 +1,10 @@
 -- `states::code_of` meets its contract: each arm is a case of the definition.
 use native.Mathlib.Omega.{arith}
-use Rattle.states.specs.Reads.{basic-code, basic-small}
+use Rattle.states.specs.Reads.{basic-code}
 use Rattle.matrix.specs.declared.Form.the-variants.{Plain, Starred}
 use borrow.Author.Needs.{needs}
 use Rattle.states.proofs.code_of.Statement.{statement}
 use Rattle.states.proofs.code_of.Tie as tie
-use Rattle.states.proofs.code_of.Reads as reads
-use Rattle.states.proofs.code_of.Lts as lts
 
 enum-told : tie.Need-enum-told
 enum-told c = search needs
@@ -21,19 +19,19 @@ enum-told-3 : tie.Need-enum-told-3
 enum-told-3 c = search needs
 
 mul-result : tie.Need-mul-result
-mul-result c = omega (arith, basic-small (c .before .before .before .y .given .1) (c .before .before .before .before .before .pre))
+mul-result c = omega (arith, basic-code Plain (c .before .before .before .y .given .1) (c .enum-told3 .given .1), c .before .before .before .before .before .pre)
 
 add-result : tie.Need-add-result
-add-result c = omega (arith, basic-small (c .before .before .before .y .given .1) (c .before .before .before .before .before .pre))
+add-result c = omega (arith, basic-code Plain (c .before .before .before .y .given .1) (c .enum-told3 .given .1), c .before .before .before .before .before .pre)
 
 enum-told-4 : tie.Need-enum-told-4
 enum-told-4 c = search needs
 
 mul-result-2 : tie.Need-mul-result-2
-mul-result-2 c = omega (arith, basic-small (c .before .before .before .y .given .1) (c .before .before .before .before .before .pre))
+mul-result-2 c = omega (arith, basic-code Starred (c .before .before .before .y .given .1) (c .enum-told4 .given .1), c .before .before .before .before .before .pre)
 
 add-result-2 : tie.Need-add-result-2
-add-result-2 c = omega (arith, basic-small (c .before .before .before .y .given .1) (c .before .before .before .before .before .pre))
+add-result-2 c = omega (arith, basic-code Starred (c .before .before .before .y .given .1) (c .enum-told4 .given .1), c .before .before .before .before .before .pre)
 
 returns : tie.Need-returns
 returns c = search needs

@@ -41,7 +41,7 @@ returns-2 c =
 name-exists-requires : tie.Need-name-exists-requires
 name-exists-requires c κs =
     let z = c .before .before .before .before .before .before .before .before in
-    subst (λ (x : Name). NameIn (z .args .b .now) (z .args .n) (z .args .p) x) (c .before .before .before .before .before .x2 .given .1) (z .pre .0)
+    subst (λ (x : Name). NameIn (z .args .b .now) (z .args .f) x) (c .before .before .before .before .before .x2 .given .1) (z .pre .0)
 
 returns-3 : tie.Need-returns-3
 returns-3 c = c .subject-exists .ensures ∙ sym (ap (λ (x : Name). existsName (stateOf (c .before .before .before .before .before .args .b .now)) x) (c .before .before .x .given .1))

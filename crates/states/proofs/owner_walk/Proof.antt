@@ -12,14 +12,14 @@ use Rattle.states.proofs.owner_walk.Statement.{statement}
 use Rattle.states.proofs.owner_walk.Tie as tie
 
 abbrev Inv-up : tie.InvT-up
-Inv-up b n p owners s o at₀ links₀ left₀ at links left =
+Inv-up b f owners s o n at₀ links₀ left₀ at links left =
     (at < n) × (links + left ≡ n) × (walkFrom (stateOf b .top) (stateOf b .owns) left at (Subject o) links ≡ walk (stateOf b) s (Subject o))
 
 abbrev μ-up : tie.MeasureT-up
-μ-up b n p owners s o at₀ links₀ left₀ at links left = left
+μ-up b f owners s o n at₀ links₀ left₀ at links left = left
 
 up-holds : tie.Need-up-holds Inv-up μ-up
-up-holds c = (search needs, omega arith, ap (λ (m : ℕ). walkFrom (stateOf (c .before .args .b .now) .top) (stateOf (c .before .args .b .now) .owns) m (c .before .args .s) (Subject (c .before .args .o)) 0) (sym (top-is _ _ _ (c .before .pre .0 .station))))
+up-holds c = (search needs, omega arith, ap (λ (m : ℕ). walkFrom (stateOf (c .before .args .b .now) .top) (stateOf (c .before .args .b .now) .owns) m (c .before .args .s) (Subject (c .before .args .o)) 0) (sym (top-is _ _ (c .before .pre .0 .station))))
 
 owner-of-requires : tie.Need-owner-of-requires Inv-up μ-up
 owner-of-requires c κs = (c .before .before .before .before .before .pre .0, c .before .before .before .up .inv .0)
@@ -38,7 +38,7 @@ up-again c =
     let z = c .before .before .before .before .before .before .before in (
       c .if4 .left,
       omega arith,
-      sym (walk-up _ _ _ _ _ _ (c .before .before .before .before .if1 .left) (c .before .before .before .if2 .left) (c .before .before .if3 .left) (c .before .owner-of .ensures) (top-is _ _ _ (z .pre .0 .station)) (c .if4 .left))
+      sym (walk-up _ _ _ _ _ _ (c .before .before .before .before .if1 .left) (c .before .before .before .if2 .left) (c .before .before .if3 .left) (c .before .owner-of .ensures) (top-is _ _ (z .pre .0 .station)) (c .if4 .left))
           ∙ c .before .before .before .before .before .up .inv .2,
     )
 
@@ -54,7 +54,7 @@ returns-3 c = sym (walk-root _ _ _ _ _ _ (c .before .before .if1 .left) (c .befo
 returns-4 : tie.Need-returns-4 Inv-up μ-up
 returns-4 c =
     let z = c .before .before .before .before .before .before .before in
-    sym (walk-unowned _ _ _ _ _ _ (c .before .before .before .before .if1 .left) (c .before .before .before .if2 .left) (c .before .before .if3 .left) (c .before .owner-of .ensures) (top-is _ _ _ (z .pre .0 .station)) (c .if4 .taken))
+    sym (walk-unowned _ _ _ _ _ _ (c .before .before .before .before .if1 .left) (c .before .before .before .if2 .left) (c .before .before .if3 .left) (c .before .owner-of .ensures) (top-is _ _ (z .pre .0 .station)) (c .if4 .taken))
     ∙ c .before .before .before .before .before .up .inv .2
 
 pub owner-walk-spec : {M : Type 1} → statement M

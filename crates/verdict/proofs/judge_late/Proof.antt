@@ -11,7 +11,7 @@ is-permitted-requires : tie.Need-is-permitted-requires
 is-permitted-requires c κs = search needs
 
 -- where the initiator has the right needed
-entitled : (c : tie.Else1) → Entitled (c .before .before .before .args .b .now) (c .before .before .before .args .n) (c .before .before .before .args .p) (c .before .before .before .args .c)
+entitled : (c : tie.Else1) → Entitled (c .before .before .before .args .b .now) (c .before .before .before .args .f) (c .before .before .before .args .c)
 entitled c =
     record {
       command = c .before .before .before .pre .0;
