@@ -73,6 +73,10 @@ filled-step at w g old new v s h e =
 pub filled-done : (j w at : ℕ) (g : ℕ → ℕ) (old new : List ℕ) → j ≤ w → w ≤ j → Filled at j g old new → Filled at w g old new
 filled-done j w at g old new h l s = subst (λ (i : ℕ). Filled at i g old new) (omega arith) s
 
+-- values that are the same at those places
+pub filled-same : (at w : ℕ) (f g : ℕ → ℕ) (old new : List ℕ) → ((c : ℕ) → at ≤ c → c < at + w → f c ≡ g c) → Filled at w f old new → Filled at w g old new
+filled-same at w f g old new e s = record { size = s .size; inside = λ c l b. s .inside c l b ∙ e c l b; before = s .before }
+
 -- w places from `start` on that lie below k and bring those that are reached from below c to below c + w
 pub record Part (w k c start : ℕ) : Type 0 where
   pub within : start + w ≤ k
