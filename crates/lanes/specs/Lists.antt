@@ -1,5 +1,5 @@
 -- Lists that a loop fills from the front, and what a filled list holds.
-use Prim.Native.Nat.{ℕ, _+_, _-_, _≤_, _<_}
+use Prim.Native.Nat.{ℕ, _+_, _≤_, _<_}
 use native.Mathlib.Omega.{arith}
 use native.Mathlib.Nat.{not-suc-le-zero}
 use mathlib.Core.Path.{_≡_, refl, sym, _∙_, subst}
@@ -83,12 +83,9 @@ pub record Part (w k c start : ℕ) : Type 0 where
   pub near : start ≤ c
   pub far : (x : ℕ) → x < c + w → x < k → x < start + w
 
--- the next part, and the last one, where the next would go beyond k
+-- a part that begins where the one before it ends
 pub part-next : (w k c start : ℕ) → c + w ≤ k → start ≡ c → Part w k c start
 part-next w k c start h e = record { within = omega arith; near = omega arith; far = λ x l b. omega arith }
-
-pub part-last : (w k c start : ℕ) → w ≤ k → k < c + w → start ≡ k - w → Part w k c start
-part-last w k c start h l e = record { within = omega arith; near = omega arith; far = λ x f b. omega arith }
 
 -- of the places from `from` on below k, those below c hold g
 pub record Reached (room from c k : ℕ) (g : ℕ → ℕ) (l : List ℕ) : Type 0 where
