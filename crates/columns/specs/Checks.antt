@@ -1,4 +1,4 @@
--- What the code tests, in the terms of the lists that the passes over the rows have filled.
+-- What the code tests, in the terms of the lists that the passes over the lanes have filled.
 use Prim.Native.Nat.{ℕ, _+_, _*_, _/_, _%_, _≤_, _<_}
 use mathlib.Core.Path.{_≡_}
 use mathlib.Core.Bool.{Bool, true, cond, not, _&&_}
@@ -6,11 +6,14 @@ use mathlib.Core.List.{List}
 use lib.Dec.{eqb}
 use lib.ListN.{length, getD}
 use Rattle.matrix.specs.Bytes.{bit}
-use Rattle.lanes.specs.Lanes.{merged, bitIn}
+use Rattle.matrix.specs.Shape.{mostSubjects}
+use Rattle.lanes.specs.declared.Matrix.{Matrix}
+use Rattle.lanes.specs.Lanes.{merged, rowBytes, rowPlace, Laid}
+use Rattle.columns.specs.Cells.{mostRow, mostCounted, lanesOf, lastLane, bitsIn, controlBit}
 
--- subject s exists: its own cell has control, where a row has m bytes
-abbrev pub present : List ℕ → ℕ → ℕ → Bool
-present b m s = bitIn b m 1 (2 * s + 1) s
+-- subject s exists: its own cell has control
+abbrev pub present : List ℕ → Matrix → ℕ → Bool
+present b m s = controlBit b m s s
 
 -- the m bytes from `at` on have no bit
 abbrev pub zeroFrom : List ℕ → ℕ → ℕ → Bool
@@ -28,37 +31,51 @@ abbrev pub counts : ℕ → ℕ → ℕ → Bool
 counts s tally odd = cond (eqb s 0) (rootCounts tally odd) (otherCounts tally odd)
 
 unfoldable pub countTest : List ℕ → List ℕ → ℕ → Bool
-countTest tally odd s = counts s (getD tally s 0) (getD odd s 0)
+countTest tally odd s = counts s (getD tally (lastLane s) 0) (getD odd (lastLane s) 0)
+
+-- nothing is seen in column c
+abbrev pub unseen : List ℕ → ℕ → Bool
+unseen seen c = eqb (bitsIn (λ j. getD seen j 0) c) 0
 
 -- a subject by whether it exists, by its counts, and by whether its column and row are zero
 abbrev pub judged : Bool → ℕ → ℕ → ℕ → Bool → Bool
 judged here s tally odd zeros = cond here (counts s tally odd) (not (eqb s 0) && zeros)
 
--- subject s, whose row begins at `at`
+-- subject s, whose row of m bytes begins at `at`
 abbrev pub subjectAt : List ℕ → ℕ → List ℕ → List ℕ → List ℕ → ℕ → ℕ → Bool
 subjectAt b m seen tally odd s at =
-    judged (bit 1 (getD b (at + (2 * s + 1)) 0)) s (getD tally s 0) (getD odd s 0) (eqb (getD seen s 0) 0 && zeroFrom b at m)
+    judged (bit 1 (getD b (at + (2 * lastLane s + 1)) 0)) s (getD tally (lastLane s) 0) (getD odd (lastLane s) 0) (unseen seen s && zeroFrom b at m)
 
-unfoldable pub subjectTest : List ℕ → ℕ → List ℕ → List ℕ → List ℕ → ℕ → Bool
-subjectTest b m seen tally odd s = subjectAt b m seen tally odd s (7 + s * m)
+unfoldable pub subjectTest : List ℕ → Matrix → List ℕ → List ℕ → List ℕ → ℕ → Bool
+subjectTest b m seen tally odd s = subjectAt b (rowBytes m) seen tally odd s (rowPlace m s)
 
--- a plain column with these bits, of which own and control are the bits 8 and 9: owned and not controlled, or zero
-abbrev pub plainTest : ℕ → Bool
-plainTest v = cond (eqb (v / 256 % 4) 1) true (eqb v 0)
+-- own without control among the bits that are seen in column c, where they are the bits 8 and 9 of the last lane
+abbrev pub ownedOnly : List ℕ → ℕ → Bool
+ownedOnly seen c = eqb (getD seen (lastLane c) 0 / 256 % 4) 1
+
+-- a plain column: owned and not controlled, or zero
+unfoldable pub plainTest : List ℕ → ℕ → Bool
+plainTest seen c = cond (ownedOnly seen c) true (unseen seen c)
 
 -- what is wrong with it
-abbrev pub plainWrong : ℕ → ℕ
-plainWrong v = cond (eqb (v / 256 % 4) 1) 0 v
+unfoldable pub plainWrong : List ℕ → ℕ → ℕ
+plainWrong seen c = cond (ownedOnly seen c) 0 (bitsIn (λ j. getD seen j 0) c)
+
+-- bytes that hold the lanes of a record's cells: a row has a cell for each subject
+pub record Celled (b : List ℕ) (m : Matrix) : Type 0 where
+  pub laid : Laid b m
+  pub subjects : m .rows ≤ mostSubjects
+  pub inside : lanesOf (m .rows) ≤ m .lanes
 
 -- subject s, whose row of m bytes begins at `at`
 pub record Placed (b seen : List ℕ) (s at m : ℕ) : Type 0 where
-  pub subject : s < 64
-  pub column : 2 * s + 1 < m
+  pub subject : s < mostSubjects
+  pub column : 2 * lastLane s + 1 < m
   pub row : at + m ≤ length b
-  pub room : length seen ≡ 256
+  pub room : length seen ≡ mostRow
 
 -- the lengths of the lists
 pub record Lists (seen tally odd : List ℕ) : Type 0 where
-  pub columns : length seen ≡ 256
-  pub sums : length tally ≡ 64
-  pub parity : length odd ≡ 64
+  pub columns : length seen ≡ mostRow
+  pub sums : length tally ≡ mostCounted
+  pub parity : length odd ≡ mostCounted

@@ -1,5 +1,5 @@
 -- Laws for the tests of columns.
-use Prim.Native.Nat.{ℕ, _+_, _*_, _/_, _%_, _≤_}
+use Prim.Native.Nat.{ℕ, _+_, _*_, _/_, _%_, _≤_, _<_}
 use native.Mathlib.Omega.{arith}
 use mathlib.Core.Path.{_≡_, refl, sym, _∙_, ap}
 use mathlib.Core.Logic.{⊎-elim}
@@ -12,59 +12,72 @@ use Rattle.matrix.specs.Bounded.{all}
 use Rattle.matrix.specs.Bytes.{bit}
 use Rattle.laws.specs.Tests.{way}
 use Rattle.laws.specs.Bounded.{all-same, all-each}
-use Rattle.lanes.specs.Lanes.{merged}
+use Rattle.lanes.specs.declared.Matrix.{Matrix}
+use Rattle.lanes.specs.Lanes.{merged, rowBytes, rowPlace}
 use Rattle.lanes.specs.Zeros.{merged-zero}
-use Rattle.columns.specs.Checks.{present, zeroFrom, rootCounts, otherCounts, countTest, subjectAt, subjectTest, plainTest, plainWrong}
+use Rattle.columns.specs.Cells.{lastLane, bitsIn, last-inside}
+use Rattle.columns.specs.Checks.{present, zeroFrom, rootCounts, otherCounts, countTest, unseen, subjectAt, subjectTest, ownedOnly, plainTest, plainWrong, Celled}
 
 -- bit 1, as the code tests it
-bit-one-set : (v : ℕ) → v / 2 % 2 ≡ 1 → bit 1 v ≡ true
+pub bit-one : (v : ℕ) → eqb (v / 2 % 2) 1 ≡ bit 1 v
 unfolding bit
-bit-one-set v h = eq-eqb (v / 2 % 2) 1 h
-
-bit-one-clear : (v : ℕ) → (v / 2 % 2 ≡ 1 → ⊥) → bit 1 v ≡ false
-unfolding bit
-bit-one-clear v h = ne-eqb (v / 2 % 2) 1 h
+bit-one v = refl
 
 -- the counts of a subject, as the code tests them one after another
-pub root-right : (t o : ℕ) → t ≡ 2 → eqb (o / 2 % 2) 1 ≡ rootCounts t o
-unfolding bit
-root-right t o e = rw (eq-eqb t 2 e) refl
+pub root-right : (t o : ℕ) (r : Bool) → t ≡ 2 → r ≡ bit 1 o → r ≡ rootCounts t o
+root-right t o r e q = rw (eq-eqb t 2 e) q
 
 pub root-wrong : (t o : ℕ) → (t ≡ 2 → ⊥) → false ≡ rootCounts t o
 root-wrong t o ne = rw (ne-eqb t 2 ne) refl
 
-pub other-odd : (t o : ℕ) → o / 2 % 2 ≡ 1 → eqb t 3 ≡ otherCounts t o
-other-odd t o h = rw (bit-one-set o h) refl
+pub other-odd : (t o : ℕ) → bit 1 o ≡ true → eqb t 3 ≡ otherCounts t o
+other-odd t o h = rw h refl
 
-pub other-even : (t o : ℕ) → (o / 2 % 2 ≡ 1 → ⊥) → eqb t 5 ≡ otherCounts t o
-other-even t o h = rw (bit-one-clear o h) refl
+pub other-even : (t o : ℕ) → bit 1 o ≡ false → eqb t 5 ≡ otherCounts t o
+other-even t o h = rw h refl
 
--- U's counts, and those of another subject
-pub count-root : (tally odd : List ℕ) (r : Bool) → r ≡ rootCounts (getD tally 0 0) (getD odd 0 0) → countTest tally odd 0 ≡ r
+-- U's counts, and those of another subject, by the last lane of its column
+pub count-root : (tally odd : List ℕ) (j : ℕ) (r : Bool) → j ≡ lastLane 0 → r ≡ rootCounts (getD tally j 0) (getD odd j 0) → countTest tally odd 0 ≡ r
 unfolding countTest
-count-root tally odd r e = sym e
+count-root tally odd j r p e = sym (e ∙ ap (λ (i : ℕ). rootCounts (getD tally i 0) (getD odd i 0)) p)
 
-pub count-other : (tally odd : List ℕ) (s : ℕ) (r : Bool) → 1 ≤ s → r ≡ otherCounts (getD tally s 0) (getD odd s 0) → r ≡ countTest tally odd s
+pub count-other : (tally odd : List ℕ) (s j : ℕ) (r : Bool) → 1 ≤ s → j ≡ lastLane s → r ≡ otherCounts (getD tally j 0) (getD odd j 0)
+    → r ≡ countTest tally odd s
 unfolding countTest
-count-other tally odd s r l e = let z : eqb s 0 ≡ false = ne-eqb s 0 (λ q. omega arith) in rw z e
+count-other tally odd s j r l p e =
+    let z : eqb s 0 ≡ false = ne-eqb s 0 (λ q. omega arith) in
+    rw z (e ∙ ap (λ (i : ℕ). otherCounts (getD tally i 0) (getD odd i 0)) p)
 
 -- whether a subject exists, by its row's place
-pub present-at : (b : List ℕ) (m s at : ℕ) → at ≡ 7 + s * m → eqb (getD b (at + (2 * s + 1)) 0 / 2 % 2) 1 ≡ present b m s
-unfolding bit
-present-at b m s at e = ap (λ (i : ℕ). eqb (getD b (i + (2 * s + 1)) 0 / 2 % 2) 1) e
+pub present-at : (b : List ℕ) (m : Matrix) (s at : ℕ) → at ≡ rowPlace m s → bit 1 (getD b (at + (2 * lastLane s + 1)) 0) ≡ present b m s
+present-at b m s at e = ap (λ (i : ℕ). bit 1 (getD b (i + (2 * lastLane s + 1)) 0)) e
 
 -- where all exist, a subject's test is that of its counts
-pub counts-test : (b : List ℕ) (n m : ℕ) (seen tally odd : List ℕ) → all n (present b m) ≡ true
-    → all n (countTest tally odd) ≡ all n (subjectTest b m seen tally odd)
+pub counts-test : (b : List ℕ) (m : Matrix) (seen tally odd : List ℕ) → all (m .rows) (present b m) ≡ true
+    → all (m .rows) (countTest tally odd) ≡ all (m .rows) (subjectTest b m seen tally odd)
 unfolding countTest subjectTest
-counts-test b n m seen tally odd h = all-same n _ _ (λ s l. rw (all-each n (present b m) h s l) refl)
+counts-test b m seen tally odd h = all-same (m .rows) _ _ (λ s l. rw (all-each (m .rows) (present b m) h s l) refl)
+
+-- a plain column that is owned and not controlled, and another one, by the last lane of its cell
+module _ (seen : List ℕ) (c j : ℕ) (e : j ≡ lastLane c) where
+  here : getD seen (lastLane c) 0 / 256 % 4 ≡ getD seen j 0 / 256 % 4
+  here = ap (λ (i : ℕ). getD seen i 0 / 256 % 4) (sym e)
+
+  pub plain-owned : getD seen j 0 / 256 % 4 ≡ 1 → 0 ≡ plainWrong seen c
+  unfolding plainWrong
+  plain-owned h = rw (eq-eqb (getD seen (lastLane c) 0 / 256 % 4) 1 (here ∙ h)) refl
+
+  pub plain-other : (v : ℕ) → (getD seen j 0 / 256 % 4 ≡ 1 → ⊥) → v ≡ bitsIn (λ i. getD seen i 0) c → v ≡ plainWrong seen c
+  unfolding plainWrong
+  plain-other v h q = rw (ne-eqb (getD seen (lastLane c) 0 / 256 % 4) 1 (λ z. h (sym here ∙ z))) q
 
 -- nothing is wrong with a plain column just where it passes its test
-plain-right : (v : ℕ) → eqb (plainWrong v) 0 ≡ plainTest v
-plain-right v = ⊎-elim (λ e. rw e refl) (λ e. rw e refl) (way (eqb (v / 256 % 4) 1))
+plain-right : (seen : List ℕ) (c : ℕ) → eqb (plainWrong seen c) 0 ≡ plainTest seen c
+unfolding plainWrong plainTest
+plain-right seen c = ⊎-elim (λ e. rw e refl) (λ e. rw e refl) (way (ownedOnly seen c))
 
-pub plains-right : (seen : List ℕ) (n p : ℕ) → eqb (merged p (λ i. plainWrong (getD seen (n + i) 0))) 0 ≡ all p (λ i. plainTest (getD seen (n + i) 0))
-plains-right seen n p = merged-zero p _ ∙ all-same p _ _ (λ i l. plain-right (getD seen (n + i) 0))
+pub plains-right : (seen : List ℕ) (n p : ℕ) → eqb (merged p (λ i. plainWrong seen (n + i))) 0 ≡ all p (λ i. plainTest seen (n + i))
+plains-right seen n p = merged-zero p _ ∙ all-same p _ _ (λ i l. plain-right seen (n + i))
 
 -- an absent subject: U, one with something in its column, any other
 pub absent-root : (s : ℕ) (t : Bool) → s ≡ 0 → false ≡ (not (eqb s 0) && t)
@@ -78,23 +91,25 @@ absent-row s v y r ne e q = rw (ne-eqb s 0 ne, eq-eqb v 0 e) q
 
 -- a subject whose row begins at `at`: U, any other that exists, an absent one
 module _ (b : List ℕ) (m : ℕ) (seen tally odd : List ℕ) (s at : ℕ) (r : Bool) where
-  abbrev self : ℕ
-  self = getD b (at + (2 * s + 1)) 0
+  abbrev self : Bool
+  self = bit 1 (getD b (at + (2 * lastLane s + 1)) 0)
 
-  pub subject-root : self / 2 % 2 ≡ 1 → s ≡ 0 → r ≡ rootCounts (getD tally s 0) (getD odd s 0)
-      → r ≡ subjectAt b m seen tally odd s at
-  subject-root h e q = rw (bit-one-set self h, eq-eqb s 0 e) q
+  pub subject-root : (j : ℕ) → j ≡ lastLane s → self ≡ true → s ≡ 0 → r ≡ rootCounts (getD tally j 0) (getD odd j 0) → r ≡ subjectAt b m seen tally odd s at
+  subject-root j p h e q = rw (h, eq-eqb s 0 e) (q ∙ ap (λ (i : ℕ). rootCounts (getD tally i 0) (getD odd i 0)) p)
 
-  pub subject-other : self / 2 % 2 ≡ 1 → (s ≡ 0 → ⊥) → r ≡ otherCounts (getD tally s 0) (getD odd s 0)
+  pub subject-other : (j : ℕ) → j ≡ lastLane s → self ≡ true → (s ≡ 0 → ⊥) → r ≡ otherCounts (getD tally j 0) (getD odd j 0)
       → r ≡ subjectAt b m seen tally odd s at
-  subject-other h ne q = rw (bit-one-set self h, ne-eqb s 0 ne) q
+  subject-other j p h ne q = rw (h, ne-eqb s 0 ne) (q ∙ ap (λ (i : ℕ). otherCounts (getD tally i 0) (getD odd i 0)) p)
 
-  pub subject-absent : (self / 2 % 2 ≡ 1 → ⊥) → r ≡ (not (eqb s 0) && (eqb (getD seen s 0) 0 && zeroFrom b at m))
-      → r ≡ subjectAt b m seen tally odd s at
-  subject-absent h q = rw (bit-one-clear self h) q
+  pub subject-absent : self ≡ false → r ≡ (not (eqb s 0) && (unseen seen s && zeroFrom b at m)) → r ≡ subjectAt b m seen tally odd s at
+  subject-absent h q = rw h q
 
 -- the test of subject s, by its row's place
-pub subject-test : (b : List ℕ) (m : ℕ) (seen tally odd : List ℕ) (s at : ℕ) (r t : Bool) → at ≡ 7 + s * m
-    → r ≡ subjectAt b m seen tally odd s at → r ≡ t → subjectTest b m seen tally odd s ≡ t
+pub subject-test : (b : List ℕ) (m : Matrix) (seen tally odd : List ℕ) (s at : ℕ) (r t : Bool) → at ≡ rowPlace m s
+    → r ≡ subjectAt b (rowBytes m) seen tally odd s at → r ≡ t → subjectTest b m seen tally odd s ≡ t
 unfolding subjectTest
-subject-test b m seen tally odd s at r t place e q = ap (subjectAt b m seen tally odd s) (sym place) ∙ sym e ∙ q
+subject-test b m seen tally odd s at r t place e q = ap (subjectAt b (rowBytes m) seen tally odd s) (sym place) ∙ sym e ∙ q
+
+-- a row has the lanes of each subject's cell
+pub cell-inside : (b : List ℕ) (m : Matrix) (s : ℕ) → Celled b m → s < m .rows → 2 * lastLane s + 1 < rowBytes m
+cell-inside b m s h l = omega (arith, h .inside, last-inside s (m .rows) l)

@@ -1,40 +1,45 @@
--- What is counted of one column, of eight columns at once and of all, and the laws of the loops that count.
+-- What is counted of one lane, of several at once and of all, and the laws of the loops that count.
 use Prim.Native.Nat.{ℕ, zero, suc, _+_, _*_, _/_, _%_, _≤_, _<_}
 use native.Mathlib.Nat.{le-refl}
 use native.Mathlib.Omega.{arith}
-use mathlib.Core.Path.{_≡_, refl, _∙_, ap, subst}
+use mathlib.Core.Path.{_≡_, refl, sym, _∙_, ap, subst}
 use mathlib.Core.List.{List}
 use lib.Bits.{bitXor, xor-shr, xor-lt}
 use lib.ListN.{length, getD, set, replicate, length-replicate, getD-replicate}
 use lib.Seq.{getD-set-same}
 use Rattle.matrix.specs.Bytes.{bit}
 use Rattle.lanes.specs.Lists.{Holds, Stored, stored-none, stored-step, Filled, filled-none, filled-step, Part, Reached, reached-none, reached-part}
-use Rattle.lanes.specs.Lanes.{lows, paired, since, placeOf, markOf, bitIn, wordIn, lowAt, Counted, Matrix}
+use Rattle.lanes.specs.declared.Matrix.{Matrix}
+use Rattle.lanes.specs.Lanes.{lows, paired, since, placeOf, markOf, rowPlace, laneIn, upperAt, bitIn, Counted, Laid}
 use Rattle.lanes.specs.LaneLaws.{lows-step, lows-le, paired-step, since-step, since-le, row-room}
 
--- a row of eight cells from byte `at` on, and room in the three lists for what it adds
-pub record Room (b : List ℕ) (at : ℕ) (low odd since : List ℕ) : Type 0 where
-  pub fits : at + 16 ≤ length b
-  pub lows : length low ≡ 8
-  pub odds : length odd ≡ 8
-  pub counts : length since ≡ 8
-  pub low-room : (j : ℕ) → j < 8 → getD low j 0 / 256 ≤ 192
-  pub since-room : (j : ℕ) → j < 8 → getD since j 0 / 256 ≤ 192
+-- the lanes that are counted at once
+abbrev pub atOnce : ℕ
+atOnce = 8
 
--- The columns below m of a row from byte `at` on have joined the three lists: the low bits of a cell's second byte are added to the upper part, the
--- cell is joined by exclusive or, and where that leaves an odd number of owners one is added to the upper part.
+-- a row of so many lanes from byte `at` on, and room in the three lists for what it adds
+pub record Room (b : List ℕ) (at : ℕ) (low odd since : List ℕ) : Type 0 where
+  pub fits : at + 2 * atOnce ≤ length b
+  pub lows : length low ≡ atOnce
+  pub odds : length odd ≡ atOnce
+  pub counts : length since ≡ atOnce
+  pub low-room : (j : ℕ) → j < atOnce → getD low j 0 / 256 + 3 < 256
+  pub since-room : (j : ℕ) → j < atOnce → getD since j 0 / 256 + 1 < 256
+
+-- The lanes below m of a row from byte `at` on have joined the three lists: the low bits of a lane's upper byte are added to the upper part, the
+-- lane is joined by exclusive or, and where that leaves the lowest bit one is added to the upper part.
 pub record Joined (b : List ℕ) (at m : ℕ) (low odd since low' odd' since' : List ℕ) : Type 0 where
   pub sums : Stored m (λ j. getD low j 0 + getD b (at + 2 * j + 1) 0 % 4 * 256) low low'
-  pub parity : Stored m (λ j. bitXor (getD odd j 0) (wordIn b (at + 2 * j))) odd odd'
-  pub owned : Stored m (λ j. getD since j 0 + bitXor (getD odd j 0) (wordIn b (at + 2 * j)) / 256 % 2 * 256) since since'
+  pub parity : Stored m (λ j. bitXor (getD odd j 0) (laneIn b (at + 2 * j))) odd odd'
+  pub owned : Stored m (λ j. getD since j 0 + bitXor (getD odd j 0) (laneIn b (at + 2 * j)) / 256 % 2 * 256) since since'
 
 module _ (b : List ℕ) (at : ℕ) (low odd since : List ℕ) where
-  -- none yet, one more, whose cell is v, and all
+  -- none yet, one more, whose lane is v, and all
   pub joined-none : Joined b at 0 low odd since low odd since
   joined-none = record { sums = stored-none _ low; parity = stored-none _ odd; owned = stored-none _ since }
 
-  pub joined-step : (m v : ℕ) (low' odd' since' : List ℕ) → Joined b at m low odd since low' odd' since' → Room b at low odd since → m < 8
-      → v ≡ wordIn b (at + 2 * m) → v / 256 ≡ getD b (at + 2 * m + 1) 0
+  pub joined-step : (m v : ℕ) (low' odd' since' : List ℕ) → Joined b at m low odd since low' odd' since' → Room b at low odd since → m < atOnce
+      → v ≡ laneIn b (at + 2 * m) → v / 256 ≡ getD b (at + 2 * m + 1) 0
       → let x = bitXor (getD odd' m 0) v in
       Joined b at (m + 1) low odd since (set low' m (getD low' m 0 + v / 256 % 4 * 256)) (set odd' m x) (set since' m (getD since' m 0 + getD (set odd' m x) m 0 / 256 % 2 * 256))
   joined-step m v low' odd' since' s room h e u =
@@ -49,20 +54,20 @@ module _ (b : List ℕ) (at : ℕ) (low odd since : List ℕ) where
       inside : m < length odd'
       inside = omega (arith, s .parity .size, room .odds)
 
-      even : bitXor (getD odd' m 0) v ≡ bitXor (getD odd m 0) (wordIn b (at + 2 * m))
+      even : bitXor (getD odd' m 0) v ≡ bitXor (getD odd m 0) (laneIn b (at + 2 * m))
       even = ap (λ (y : ℕ). bitXor y v) (s .parity .above m (le-refl m)) ∙ ap (λ (y : ℕ). bitXor (getD odd m 0) y) e
 
   pub joined-done : (j m : ℕ) (low' odd' since' : List ℕ) → j ≤ m → m ≤ j → Joined b at j low odd since low' odd' since'
       → Joined b at m low odd since low' odd' since'
   joined-done j m low' odd' since' h l s = subst (λ (i : ℕ). Joined b at i low odd since low' odd' since') (omega arith) s
 
--- what is counted of a column whose low bytes are f, after r rows
+-- what is counted of a lane whose upper bytes are f, after r rows
 pub record Column (f : ℕ → ℕ) (r low odd count : ℕ) : Type 0 where
   pub sum : low ≡ lows r f
   pub parity : odd ≡ paired r f
   pub owned : count ≡ since r (λ v. bit 0 (f v))
 
--- no row yet, and one row more, whose low byte is v
+-- no row yet, and one row more, whose upper byte is v
 pub column-none : (f : ℕ → ℕ) → Column f 0 0 0 0
 unfolding lows paired since
 column-none f = record { sum = refl; parity = refl; owned = refl }
@@ -98,29 +103,28 @@ column-odd f r low odd count bytes k = let e : odd ≡ paired r f = k .parity in
 pub column-done : (f : ℕ → ℕ) (r n low odd count : ℕ) → r ≤ n → n ≤ r → Column f r low odd count → Column f n low odd count
 column-done f r n low odd count h l k = subst (λ (i : ℕ). Column f i low odd count) (omega arith) k
 
--- eight columns from column c on, after r rows: the upper parts of the lists' numbers count
-pub record Eight (b : List ℕ) (k c r : ℕ) (low odd since : List ℕ) : Type 0 where
-  pub lows : length low ≡ 8
-  pub odds : length odd ≡ 8
-  pub counts : length since ≡ 8
-  pub column : (j : ℕ) → j < 8 → Column (λ v. lowAt b k v (c + j)) r (getD low j 0 / 256) (getD odd j 0 / 256) (getD since j 0 / 256)
+-- several lanes from lane c on, after r rows: the upper parts of the lists' numbers count
+pub record Several (b : List ℕ) (m : Matrix) (c r : ℕ) (low odd since : List ℕ) : Type 0 where
+  pub lows : length low ≡ atOnce
+  pub odds : length odd ≡ atOnce
+  pub counts : length since ≡ atOnce
+  pub column : (j : ℕ) → j < atOnce → Column (λ v. upperAt b m v (c + j)) r (getD low j 0 / 256) (getD odd j 0 / 256) (getD since j 0 / 256)
 
 -- no row yet
-pub eight-none : (b : List ℕ) (k c : ℕ) → Eight b k c 0 (replicate 8 0) (replicate 8 0) (replicate 8 0)
-eight-none b k c =
+pub several-none : (b : List ℕ) (m : Matrix) (c : ℕ) → Several b m c 0 (replicate atOnce 0) (replicate atOnce 0) (replicate atOnce 0)
+several-none b m c =
     record {
-      lows = length-replicate {A = ℕ} 8 0;
-      odds = length-replicate {A = ℕ} 8 0;
-      counts = length-replicate {A = ℕ} 8 0;
-      column = λ j l. let z : _≡_ {A = ℕ} (getD (replicate 8 0) j 0) 0 = getD-replicate 8 j 0 0 (omega arith) in rw z (column-none (λ v. lowAt b k v (c + j)));
+      lows = length-replicate {A = ℕ} atOnce 0;
+      odds = length-replicate {A = ℕ} atOnce 0;
+      counts = length-replicate {A = ℕ} atOnce 0;
+      column = λ j l. let z : _≡_ {A = ℕ} (getD (replicate atOnce 0) j 0) 0 = getD-replicate atOnce j 0 0 (omega arith) in rw z (column-none (λ v. upperAt b m v (c + j)));
     }
 
-module _ (b : List ℕ) (n k c r at : ℕ) (low odd since : List ℕ) (e : Eight b k c r low odd since) (place : at ≡ 7 + r * (2 * k) + 2 * c) where
-  pub eight-room : Matrix b n k → r < n → c + 8 ≤ k → Room b at low odd since
-  eight-room m l h =
-      let small : n ≤ 64 = m .rows in
+module _ (b : List ℕ) (m : Matrix) (c r at : ℕ) (low odd since : List ℕ) (e : Several b m c r low odd since) (place : at ≡ rowPlace m r + 2 * c) where
+  pub several-room : Laid b m → 3 * m .rows < 256 → r < m .rows → c + atOnce ≤ m .lanes → Room b at low odd since
+  several-room laid few l h =
       record {
-        fits = omega (arith, row-room b n k r m l);
+        fits = omega (arith, row-room b m r laid l);
         lows = e .lows;
         odds = e .odds;
         counts = e .counts;
@@ -129,16 +133,16 @@ module _ (b : List ℕ) (n k c r at : ℕ) (low odd since : List ℕ) (e : Eight
       }
 
   -- one row more has joined
-  pub eight-next : ((i : ℕ) → getD b i 0 < 256) → (low' odd' since' : List ℕ) → Joined b at 8 low odd since low' odd' since'
-      → Eight b k c (r + 1) low' odd' since'
-  eight-next bytes low' odd' since' s =
+  pub several-next : ((i : ℕ) → getD b i 0 < 256) → (low' odd' since' : List ℕ) → Joined b at atOnce low odd since low' odd' since'
+      → Several b m c (r + 1) low' odd' since'
+  several-next bytes low' odd' since' s =
       record { lows = s .sums .size ∙ e .lows; odds = s .parity .size ∙ e .odds; counts = s .owned .size ∙ e .counts; column = one }
     where
-      upper : (j : ℕ) → bitXor (getD odd j 0) (wordIn b (at + 2 * j)) / 256 ≡ bitXor (getD odd j 0 / 256) (getD b (at + 2 * j + 1) 0)
+      upper : (j : ℕ) → bitXor (getD odd j 0) (laneIn b (at + 2 * j)) / 256 ≡ bitXor (getD odd j 0 / 256) (getD b (at + 2 * j + 1) 0)
       upper j =
-          xor-shr (getD odd j 0) (wordIn b (at + 2 * j)) 8 ∙ ap (λ (y : ℕ). bitXor (getD odd j 0 / 256) y) (omega (arith, bytes (at + 2 * j)))
+          xor-shr (getD odd j 0) (laneIn b (at + 2 * j)) 8 ∙ ap (λ (y : ℕ). bitXor (getD odd j 0 / 256) y) (omega (arith, bytes (at + 2 * j)))
 
-      one : (j : ℕ) → j < 8 → Column (λ v. lowAt b k v (c + j)) (r + 1) (getD low' j 0 / 256) (getD odd' j 0 / 256) (getD since' j 0 / 256)
+      one : (j : ℕ) → j < atOnce → Column (λ v. upperAt b m v (c + j)) (r + 1) (getD low' j 0 / 256) (getD odd' j 0 / 256) (getD since' j 0 / 256)
       one j l =
           let f = column-next _ r _ _ _ (getD b (at + 2 * j + 1) 0) (e .column j l) (ap (λ (i : ℕ). getD b i 0) (omega arith)) in
           record {
@@ -147,59 +151,73 @@ module _ (b : List ℕ) (n k c r at : ℕ) (low odd since : List ℕ) (e : Eight
             owned = omega (arith, s .owned .below j l, upper j) ∙ f .owned;
           }
 
--- w columns from column c on are counted into the three lists
-pub record Columns (b : List ℕ) (n k c w : ℕ) (tally odd marks tally' odd' marks' : List ℕ) : Type 0 where
-  pub sums : Filled c w (λ s. lows n (λ v. lowAt b k v s)) tally tally'
-  pub parity : Filled c w (λ s. paired n (λ v. lowAt b k v s)) odd odd'
-  pub owner : Filled c w (λ s. markOf n (bitIn b (2 * k) 0 (2 * s + 1))) marks marks'
+-- three lists of one length
+pub record Sized (room : ℕ) (tally odd marks : List ℕ) : Type 0 where
+  pub sums : length tally ≡ room
+  pub parity : length odd ≡ room
+  pub owner : length marks ≡ room
 
-module _ (b : List ℕ) (n k c : ℕ) (tally odd marks : List ℕ) where
+-- w lanes from lane c on are counted into the three lists
+pub record Filling (b : List ℕ) (m : Matrix) (c w : ℕ) (tally odd marks tally' odd' marks' : List ℕ) : Type 0 where
+  pub sums : Filled c w (λ j. lows (m .rows) (λ v. upperAt b m v j)) tally tally'
+  pub parity : Filled c w (λ j. paired (m .rows) (λ v. upperAt b m v j)) odd odd'
+  pub owner : Filled c w (λ j. markOf (m .rows) (bitIn b m 0 j)) marks marks'
+
+module _ (b : List ℕ) (m : Matrix) (c : ℕ) (tally odd marks : List ℕ) where
   -- none yet, one more, a single one, and all
-  pub columns-none : Columns b n k c 0 tally odd marks tally odd marks
-  columns-none = record { sums = filled-none c _ tally; parity = filled-none c _ odd; owner = filled-none c _ marks }
+  pub filling-none : Filling b m c 0 tally odd marks tally odd marks
+  filling-none = record { sums = filled-none c _ tally; parity = filled-none c _ odd; owner = filled-none c _ marks }
 
-  pub columns-step : (w x y z p : ℕ) (tally' odd' marks' : List ℕ) → Columns b n k c w tally odd marks tally' odd' marks' → length tally ≡ 64
-      → length odd ≡ 64 → length marks ≡ 64 → c + w < 64 → Column (λ v. lowAt b k v (c + w)) n x y z → p ≡ placeOf n z
-      → Columns b n k c (w + 1) tally odd marks (set tally' (c + w) x) (set odd' (c + w) y) (set marks' (c + w) p)
-  columns-step w x y z p tally' odd' marks' s a d g h m e =
+  pub filling-step : (room w x y z p : ℕ) (tally' odd' marks' : List ℕ) → Filling b m c w tally odd marks tally' odd' marks' → Sized room tally odd marks
+      → c + w < room → Column (λ v. upperAt b m v (c + w)) (m .rows) x y z → p ≡ placeOf (m .rows) z
+      → Filling b m c (w + 1) tally odd marks (set tally' (c + w) x) (set odd' (c + w) y) (set marks' (c + w) p)
+  filling-step room w x y z p tally' odd' marks' s a h k e =
       record {
-        sums = filled-step c w _ tally tally' x (s .sums) (omega (arith, s .sums .size)) (m .sum);
-        parity = filled-step c w _ odd odd' y (s .parity) (omega (arith, s .parity .size)) (m .parity);
-        owner = filled-step c w _ marks marks' p (s .owner) (omega (arith, s .owner .size)) (e ∙ ap (λ (i : ℕ). placeOf n i) (m .owned));
+        sums = filled-step c w _ tally tally' x (s .sums) (omega (arith, s .sums .size, a .sums)) (k .sum);
+        parity = filled-step c w _ odd odd' y (s .parity) (omega (arith, s .parity .size, a .parity)) (k .parity);
+        owner = filled-step c w _ marks marks' p (s .owner) (omega (arith, s .owner .size, a .owner)) (e ∙ ap (λ (i : ℕ). placeOf (m .rows) i) (k .owned));
       }
 
-  pub columns-one : (x y z p : ℕ) → length tally ≡ 64 → length odd ≡ 64 → length marks ≡ 64 → c < 64 → Column (λ v. lowAt b k v c) n x y z
-      → p ≡ placeOf n z → Columns b n k c 1 tally odd marks (set tally c x) (set odd c y) (set marks c p)
-  columns-one x y z p a d g h m e =
+  pub filling-one : (room x y z p : ℕ) → Sized room tally odd marks → c < room → Column (λ v. upperAt b m v c) (m .rows) x y z → p ≡ placeOf (m .rows) z
+      → Filling b m c 1 tally odd marks (set tally c x) (set odd c y) (set marks c p)
+  filling-one room x y z p a h k e =
       let q : c + 0 ≡ c = omega arith in
-      rw q at (columns-step 0 x y z p tally odd marks columns-none a d g (omega arith) (rw q m) e)
+      rw q at (filling-step room 0 x y z p tally odd marks filling-none a (omega arith) (rw q k) e)
 
-  pub columns-done : (j w : ℕ) (tally' odd' marks' : List ℕ) → j ≤ w → w ≤ j → Columns b n k c j tally odd marks tally' odd' marks'
-      → Columns b n k c w tally odd marks tally' odd' marks'
-  columns-done j w tally' odd' marks' h l s = subst (λ (i : ℕ). Columns b n k c i tally odd marks tally' odd' marks') (omega arith) s
+  pub filling-done : (j w : ℕ) (tally' odd' marks' : List ℕ) → j ≤ w → w ≤ j → Filling b m c j tally odd marks tally' odd' marks'
+      → Filling b m c w tally odd marks tally' odd' marks'
+  filling-done j w tally' odd' marks' h l s = subst (λ (i : ℕ). Filling b m c i tally odd marks tally' odd' marks') (omega arith) s
 
--- what is counted of the columns below both c and k
-pub record Below (b : List ℕ) (n k c : ℕ) (tally odd marks : List ℕ) : Type 0 where
-  pub sums : Reached 64 0 c k (λ s. lows n (λ v. lowAt b k v s)) tally
-  pub parity : Reached 64 0 c k (λ s. paired n (λ v. lowAt b k v s)) odd
-  pub owner : Reached 64 0 c k (λ s. markOf n (bitIn b (2 * k) 0 (2 * s + 1))) marks
+-- what is counted of the lanes below c, in lists of `room` places
+pub record Below (room : ℕ) (b : List ℕ) (m : Matrix) (c : ℕ) (tally odd marks : List ℕ) : Type 0 where
+  pub sums : Reached room 0 c (m .lanes) (λ j. lows (m .rows) (λ v. upperAt b m v j)) tally
+  pub parity : Reached room 0 c (m .lanes) (λ j. paired (m .rows) (λ v. upperAt b m v j)) odd
+  pub owner : Reached room 0 c (m .lanes) (λ j. markOf (m .rows) (bitIn b m 0 j)) marks
 
-module _ (b : List ℕ) (n k : ℕ) (tally odd marks : List ℕ) where
-  -- none yet, one part more, and all
-  pub below-none : length tally ≡ 64 → length odd ≡ 64 → length marks ≡ 64 → Below b n k 0 tally odd marks
-  below-none p q r = record { sums = reached-none 64 0 k _ tally p; parity = reached-none 64 0 k _ odd q; owner = reached-none 64 0 k _ marks r }
+module _ (room : ℕ) (b : List ℕ) (m : Matrix) (tally odd marks : List ℕ) where
+  -- none yet, the lists' length, one part more, and all
+  pub below-none : Sized room tally odd marks → Below room b m 0 tally odd marks
+  below-none a =
+      record {
+        sums = reached-none room 0 (m .lanes) _ tally (a .sums);
+        parity = reached-none room 0 (m .lanes) _ odd (a .parity);
+        owner = reached-none room 0 (m .lanes) _ marks (a .owner);
+      }
 
-  pub below-part : (c start w : ℕ) (tally' odd' marks' : List ℕ) → Below b n k c tally odd marks → Part w k c start
-      → Columns b n k start w tally odd marks tally' odd' marks' → Below b n k (c + w) tally' odd' marks'
+  pub below-sized : (size c : ℕ) → size ≡ room → Below room b m c tally odd marks → Sized size tally odd marks
+  below-sized size c e s = record { sums = s .sums .size ∙ sym e; parity = s .parity .size ∙ sym e; owner = s .owner .size ∙ sym e }
+
+  pub below-part : (c start w : ℕ) (tally' odd' marks' : List ℕ) → Below room b m c tally odd marks → Part w (m .lanes) c start
+      → Filling b m start w tally odd marks tally' odd' marks' → Below room b m (c + w) tally' odd' marks'
   below-part c start w tally' odd' marks' h p s =
       record {
-        sums = reached-part 64 0 c k start w _ tally tally' (h .sums) p (s .sums);
-        parity = reached-part 64 0 c k start w _ odd odd' (h .parity) p (s .parity);
-        owner = reached-part 64 0 c k start w _ marks marks' (h .owner) p (s .owner);
+        sums = reached-part room 0 c (m .lanes) start w _ tally tally' (h .sums) p (s .sums);
+        parity = reached-part room 0 c (m .lanes) start w _ odd odd' (h .parity) p (s .parity);
+        owner = reached-part room 0 c (m .lanes) start w _ marks marks' (h .owner) p (s .owner);
       }
 
-  pub below-done : (c : ℕ) → n ≤ c → n ≤ k → Below b n k c tally odd marks → Counted b n k tally odd marks
-  below-done c h u r = record { sums = held _ tally (r .sums); parity = held _ odd (r .parity); owner = held _ marks (r .owner) }
+  pub below-done : (upto c : ℕ) → upto ≤ c → upto ≤ m .lanes → Below room b m c tally odd marks → Counted room b m upto tally odd marks
+  below-done upto c h u r = record { sums = held _ tally (r .sums); parity = held _ odd (r .parity); owner = held _ marks (r .owner) }
     where
-      held : (g : ℕ → ℕ) (l : List ℕ) → Reached 64 0 c k g l → Holds 64 n g l
+      held : (g : ℕ → ℕ) (l : List ℕ) → Reached room 0 c (m .lanes) g l → Holds room upto g l
       held g l s = record { size = s .size; value = λ x p. s .value x (omega arith) (omega arith) (omega arith) }

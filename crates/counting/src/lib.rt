@@ -1,112 +1,102 @@
-// What is counted in the columns of a record's subjects.
+// What is counted in each lane over all rows: the two low bits of its upper byte.
 ghost use mathlib.Core.Path.{_≡_};
-ghost use Prim.Native.Nat.{_+_, _≤_, _<_};
+ghost use Prim.Native.Nat.{_+_, _*_, _%_, _≤_, _<_};
 ghost use lib.ListN.{length};
-ghost use Rattle.lanes.specs.Lanes.{placeOf, Counted, Matrix};
-ghost use Rattle.counting.specs.Blocks.{Room, Joined, Columns};
+ghost use Rattle.lanes.specs.Lanes.{placeOf, Counted, Laid};
+ghost use Rattle.counting.specs.Blocks.{atOnce, Room, Joined, Sized, Filling};
+use lanes::Matrix;
+use lanes::UPPER;
 
-// One row of eight columns, whose cells begin at byte `at`, joins what is counted. The upper parts of the numbers count: the low bits of the
-// cells added up, the bits that an odd number of rows have, and how many rows had an odd number of owners up to them.
-fn row(low: &mut [u16; 8], odd: &mut [u16; 8], since: &mut [u16; 8], b: &[u8], at: usize)
+// The lanes that are counted at once.
+const AT_ONCE: usize = 8;
+
+// One row of so many lanes, which begin at byte `at`, joins what is counted. The upper parts of the numbers count: the low bits of the
+// lanes' upper bytes added up, the bits that an odd number of rows have, and up to how many rows an odd number had the lowest bit.
+fn row(
+    low: &mut [u16; AT_ONCE],
+    odd: &mut [u16; AT_ONCE],
+    since: &mut [u16; AT_ONCE],
+    b: &[u8],
+    at: usize,
+)
     requires { ⌜ Room (now b) at (now low) (now odd) (now since) ⌝ }
-    ensures { λ _. ⌜ Joined (now (b .entry)) at 8 (now (low .entry)) (now (odd .entry)) (now (since .entry)) (now (low .exit)) (now (odd .exit)) (now (since .exit)) ⌝ }
+    ensures { λ _. ⌜ Joined (now (b .entry)) at atOnce (now (low .entry)) (now (odd .entry)) (now (since .entry)) (now (low .exit)) (now (odd .exit)) (now (since .exit)) ⌝ }
 {
-    for j in 0..8 {
-        let v = lanes::cell(b, at + 2 * j);
-        low[j] = low[j] + v / 256 % 4 * 256;
+    for j in 0..AT_ONCE {
+        let v = lanes::lane(b, at + 2 * j);
+        low[j] = low[j] + v / UPPER % 4 * UPPER;
         odd[j] = odd[j] ^ v;
-        since[j] = since[j] + odd[j] / 256 % 2 * 256;
+        since[j] = since[j] + odd[j] / UPPER % 2 * UPPER;
     }
 }
 
-// The row of the one owner, where a of the n rows are that row and those after it; 0 where a is 0.
-fn place(n: usize, a: u8) -> u8
-    requires { ⌜ (n ≤ 64) × (a ≤ n) ⌝ }
-    ensures { λ r. ⌜ r ≡ placeOf n a ⌝ }
+// The one row that has the bit, where a of the rows are that row and those after it; 0 where a is 0.
+fn place(rows: usize, a: u8) -> u8
+    requires { ⌜ (rows < 256) × (a ≤ rows) ⌝ }
+    ensures { λ r. ⌜ r ≡ placeOf rows a ⌝ }
 {
-    if a == 0 { 0 } else { n as u8 - a }
+    if a == 0 { 0 } else { rows as u8 - a }
 }
 
-// Eight columns from column c on.
-fn eight(
-    tally: &mut [u8; 64],
-    odd: &mut [u8; 64],
-    marks: &mut [u8; 64],
-    b: &[u8],
-    n: usize,
-    k: usize,
-    c: usize,
-)
-    requires { ⌜ Matrix (now b) n k × (c + 8 ≤ k) × (c + 8 ≤ 64) × (length (now tally) ≡ 64) × (length (now odd) ≡ 64) × (length (now marks) ≡ 64) ⌝ }
-    ensures { λ _. ⌜ Columns (now (b .entry)) n k c 8 (now (tally .entry)) (now (odd .entry)) (now (marks .entry)) (now (tally .exit)) (now (odd .exit)) (now (marks .exit)) ⌝ }
+// So many lanes from lane c on.
+fn several(tally: &mut [u8], odd: &mut [u8], marks: &mut [u8], b: &[u8], m: Matrix, c: usize)
+    requires { ⌜ Laid (now b) m × (3 * m.rows < 256) × (c + atOnce ≤ m.lanes) × (c + atOnce ≤ length (now tally)) × Sized (length (now tally)) (now tally) (now odd) (now marks) ⌝ }
+    ensures { λ _. ⌜ Filling (now (b .entry)) m c atOnce (now (tally .entry)) (now (odd .entry)) (now (marks .entry)) (now (tally .exit)) (now (odd .exit)) (now (marks .exit)) ⌝ }
 {
-    let mut low = [0u16; 8];
-    let mut parity = [0u16; 8];
-    let mut since = [0u16; 8];
-    let mut at = 7 + 2 * c;
-    for r in 0..n {
+    let rows = m.rows;
+    let mut low = [0u16; AT_ONCE];
+    let mut parity = [0u16; AT_ONCE];
+    let mut since = [0u16; AT_ONCE];
+    let mut at = m.first + 2 * c;
+    for r in 0..rows {
         row(&mut low, &mut parity, &mut since, b, at);
-        at += 2 * k;
+        at += 2 * m.lanes;
     }
-    for j in 0..8 {
-        tally[c + j] = (low[j] / 256) as u8;
-        odd[c + j] = (parity[j] / 256) as u8;
-        marks[c + j] = place(n, (since[j] / 256) as u8);
+    for j in 0..AT_ONCE {
+        tally[c + j] = (low[j] / UPPER) as u8;
+        odd[c + j] = (parity[j] / UPPER) as u8;
+        marks[c + j] = place(m.rows, (since[j] / UPPER) as u8);
     }
 }
 
-// One column, for records of fewer than eight.
-fn one(
-    tally: &mut [u8; 64],
-    odd: &mut [u8; 64],
-    marks: &mut [u8; 64],
-    b: &[u8],
-    n: usize,
-    k: usize,
-    c: usize,
-)
-    requires { ⌜ Matrix (now b) n k × (c < k) × (c < 64) × (length (now tally) ≡ 64) × (length (now odd) ≡ 64) × (length (now marks) ≡ 64) ⌝ }
-    ensures { λ _. ⌜ Columns (now (b .entry)) n k c 1 (now (tally .entry)) (now (odd .entry)) (now (marks .entry)) (now (tally .exit)) (now (odd .exit)) (now (marks .exit)) ⌝ }
+// One lane, where a row has fewer than are counted at once.
+fn one(tally: &mut [u8], odd: &mut [u8], marks: &mut [u8], b: &[u8], m: Matrix, c: usize)
+    requires { ⌜ Laid (now b) m × (3 * m.rows < 256) × (c < m.lanes) × (c < length (now tally)) × Sized (length (now tally)) (now tally) (now odd) (now marks) ⌝ }
+    ensures { λ _. ⌜ Filling (now (b .entry)) m c 1 (now (tally .entry)) (now (odd .entry)) (now (marks .entry)) (now (tally .exit)) (now (odd .exit)) (now (marks .exit)) ⌝ }
 {
+    let rows = m.rows;
     let mut low: u8 = 0;
     let mut parity: u8 = 0;
     let mut since: u8 = 0;
-    let mut at = 8 + 2 * c;
-    for r in 0..n {
+    let mut at = m.first + (2 * c + 1);
+    for r in 0..rows {
         let v = b[at];
         low += v % 4;
         parity = parity ^ v;
         since += parity % 2;
-        at += 2 * k;
+        at += 2 * m.lanes;
     }
     tally[c] = low;
     odd[c] = parity;
-    marks[c] = place(n, since);
+    marks[c] = place(rows, since);
 }
 
-// The n columns of subjects. A last part that would go beyond the row begins earlier and repeats some.
-pub fn count(
-    tally: &mut [u8; 64],
-    odd: &mut [u8; 64],
-    marks: &mut [u8; 64],
-    b: &[u8],
-    n: usize,
-    k: usize,
-)
-    requires { ⌜ Matrix (now b) n k × (length (now tally) ≡ 64) × (length (now odd) ≡ 64) × (length (now marks) ≡ 64) ⌝ }
-    ensures { λ _. ⌜ Counted (now (b .entry)) n k (now (tally .exit)) (now (odd .exit)) (now (marks .exit)) ⌝ }
+// The lanes below `upto`.
+pub fn count(tally: &mut [u8], odd: &mut [u8], marks: &mut [u8], b: &[u8], m: Matrix, upto: usize)
+    requires { ⌜ Laid (now b) m × (3 * m.rows < 256) × (upto ≤ m.lanes) × (upto ≤ length (now tally)) × (length (now tally) % atOnce ≡ 0) × Sized (length (now tally)) (now tally) (now odd) (now marks) ⌝ }
+    ensures { λ _. ⌜ Counted (length (now (tally .entry))) (now (b .entry)) m upto (now (tally .exit)) (now (odd .exit)) (now (marks .exit)) ⌝ }
 {
+    let lanes = m.lanes;
     let mut c = 0;
-    if k < 8 {
-        while c < n {
-            one(tally, odd, marks, b, n, k, c);
+    if lanes < AT_ONCE {
+        while c < upto {
+            one(tally, odd, marks, b, m, c);
             c += 1;
         }
         return;
     }
-    while c < n {
-        let start = if c + 8 <= k { c } else { k - 8 };
-        eight(tally, odd, marks, b, n, k, start);
-        c += 8;
+    while c < upto {
+        several(tally, odd, marks, b, m, lanes::part(c, AT_ONCE, lanes));
+        c += AT_ONCE;
     }
 }

@@ -1,6 +1,6 @@
--- Laws of what is kept for each byte column: one row more, and what a merged number tells.
+-- Laws of what is kept for each lane: one row more, what a merged number tells, and where rows and lanes lie.
 use Prim.Native.Nat.{ℕ, zero, suc, _+_, _*_, _/_, _%_, _^_, _≤_, _<_}
-use native.Mathlib.Nat.{div-one, zero-div, add-mul, one-mul, mul-le-mul-right}
+use native.Mathlib.Nat.{div-one, zero-div, zero-mul, add-mul, one-mul, mul-le-mul-right, div-div-eq-div-mul}
 use native.Mathlib.Numerals.{add-one}
 use native.Mathlib.Omega.{arith}
 use mathlib.Core.Path.{_≡_, refl, sym, _∙_, ap}
@@ -9,12 +9,15 @@ use mathlib.Core.Bool.{Bool, cond}
 use mathlib.Core.List.{List}
 use lib.Dec.{eqb}
 use lib.Bits.{bitOr, bitXor, xor-shr, xor-add-and}
-use lib.ListN.{length}
+use lib.ListN.{length, getD}
+use lib.Pow.{pow-add}
 use Rattle.laws.specs.Tests.{way}
 use Rattle.matrix.specs.Bounded.{count}
 use Rattle.matrix.specs.Bytes.{bit}
+use Rattle.matrix.specs.Shaped.{Octets}
 use Rattle.laws.specs.BitOps.{bit-count}
-use Rattle.lanes.specs.Lanes.{merged, lows, paired, since, Matrix}
+use Rattle.lanes.specs.declared.Matrix.{Matrix}
+use Rattle.lanes.specs.Lanes.{merged, lows, paired, since, rowBytes, rowPlace, laneAt, upperAt, bitIn, Laid}
 
 -- one row more
 pub merged-step : (r : ℕ) (f : ℕ → ℕ) → bitOr (merged r f) (f r) ≡ merged (r + 1) f
@@ -78,15 +81,36 @@ unfolding since
 since-le zero f = omega arith
 since-le (suc n) f = let h : since n f ≤ n = since-le n f in omega arith
 
--- the place of the next row, and that a row below n lies in the bytes
-pub next-place : (r m at : ℕ) → at ≡ 7 + r * m → at + m ≡ 7 + (r + 1) * m
-next-place r m at e = let q : (r + 1) * m ≡ r * m + 1 * m = add-mul r 1 m in let u : 1 * m ≡ m = one-mul m in omega arith
+-- a lane's upper byte is its second one
+pub upper-byte : (b : List ℕ) (m : Matrix) (r j : ℕ) → getD b (rowPlace m r + 2 * j + 1) 0 ≡ upperAt b m r j
+upper-byte b m r j = ap (λ (i : ℕ). getD b i 0) (omega arith)
 
-pub row-inside : (n r m at : ℕ) → r < n → at ≡ 7 + r * m → at + m ≤ 7 + n * m
-row-inside n r m at l e =
-    let p : at + m ≡ 7 + (r + 1) * m = next-place r m at e in
-    let q : (r + 1) * m ≤ n * m = mul-le-mul-right m (omega arith) in
+-- the place of the next row, and that a row lies in the bytes
+pub next-place : (m : Matrix) (r at : ℕ) → at ≡ rowPlace m r → at + rowBytes m ≡ rowPlace m (r + 1)
+next-place m r at e =
+    let q : (r + 1) * rowBytes m ≡ r * rowBytes m + 1 * rowBytes m = add-mul r 1 (rowBytes m) in
+    let u : 1 * rowBytes m ≡ rowBytes m = one-mul (rowBytes m) in
     omega arith
 
-pub row-room : (b : List ℕ) (n k r : ℕ) → Matrix b n k → r < n → 7 + r * (2 * k) + 2 * k ≤ length b
-row-room b n k r f l = omega (arith, f .holds, row-inside n r (2 * k) (7 + r * (2 * k)) l refl)
+pub row-room : (b : List ℕ) (m : Matrix) (r : ℕ) → Laid b m → r < m .rows → rowPlace m r + rowBytes m ≤ length b
+row-room b m r h l =
+    let p : rowPlace m r + rowBytes m ≡ rowPlace m (r + 1) = next-place m r (rowPlace m r) refl in
+    let q : (r + 1) * rowBytes m ≤ m .rows * rowBytes m = mul-le-mul-right (rowBytes m) (omega arith) in
+    omega (arith, h .holds)
+
+-- the first row
+pub first-place : (m : Matrix) → m .first ≡ rowPlace m 0
+first-place m = omega (arith, zero-mul (rowBytes m))
+
+pub first-room : (b : List ℕ) (m : Matrix) → Laid b m → m .first + rowBytes m ≤ length b
+first-room b m h = omega (arith, row-room b m 0 h (h .some), zero-mul (rowBytes m))
+
+-- bit i of the upper byte, in the lane as the code reads it
+pub lane-bit : (b : List ℕ) → Octets b → (m : Matrix) (i r j : ℕ) → bit (8 + i) (laneAt b m r j) ≡ bitIn b m i j r
+unfolding bit
+lane-bit b octets m i r j =
+    let h : getD b (rowPlace m r + 2 * j) 0 < 256 = octets .octet (rowPlace m r + 2 * j) in
+    let e : getD b (rowPlace m r + 2 * j + 1) 0 ≡ upperAt b m r j = upper-byte b m r j in
+    let q : laneAt b m r j / 256 ≡ upperAt b m r j = omega arith in
+    ap (λ (x : ℕ). eqb (laneAt b m r j / x % 2) 1) (pow-add 2 8 i) ∙ ap (λ (x : ℕ). eqb (x % 2) 1) (sym (div-div-eq-div-mul (laneAt b m r j) 256 (2 ^ i)))
+    ∙ ap (λ (x : ℕ). eqb (x / 2 ^ i % 2) 1) q

@@ -1,4 +1,4 @@
--- What the passes over the rows of a record find of each column.
+-- What the passes over rows of lanes find of each lane.
 use Prim.Native.Nat.{ℕ, zero, suc, _+_, _-_, _*_, _%_, _≤_, _<_}
 use mathlib.Core.Path.{_≡_}
 use mathlib.Core.Bool.{Bool, cond}
@@ -8,6 +8,7 @@ use lib.Bits.{bitOr, bitXor}
 use lib.ListN.{length, getD}
 use Rattle.matrix.specs.Bounded.{count}
 use Rattle.matrix.specs.Bytes.{bit}
+use Rattle.lanes.specs.declared.Matrix.{Matrix}
 use Rattle.lanes.specs.Lists.{Holds}
 
 -- the bits that are set in one of the first r numbers
@@ -41,41 +42,45 @@ markOf n f = placeOf n (since n f)
 abbrev pub faultOf : Bool → ℕ
 faultOf t = cond t 0 1
 
--- the byte of row r and byte column j, where a row has m bytes and the first row begins at byte 7
-abbrev pub byteAt : List ℕ → ℕ → ℕ → ℕ → ℕ
-byteAt b m r j = getD b (7 + r * m + j) 0
+-- the bytes of a row, two for each lane, and the first byte of row r
+abbrev pub rowBytes : Matrix → ℕ
+rowBytes m = 2 * m .lanes
 
--- bit k of the byte of row r and byte column j
-abbrev pub bitIn : List ℕ → ℕ → ℕ → ℕ → ℕ → Bool
-bitIn b m k j r = bit k (byteAt b m r j)
+abbrev pub rowPlace : Matrix → ℕ → ℕ
+rowPlace m r = m .first + r * rowBytes m
 
--- the cell from byte `at` on, as the code reads it: the first byte is the lower one
-abbrev pub wordIn : List ℕ → ℕ → ℕ
-wordIn b at = getD b at 0 + getD b (at + 1) 0 * 256
+-- byte j of row r
+abbrev pub byteAt : List ℕ → Matrix → ℕ → ℕ → ℕ
+byteAt b m r j = getD b (rowPlace m r + j) 0
 
--- the cell of row r and column c, where a row has k cells
-abbrev pub wordAt : List ℕ → ℕ → ℕ → ℕ → ℕ
-wordAt b k r c = wordIn b (7 + r * (2 * k) + 2 * c)
+-- the lane from byte `at` on, as the code reads it: the first byte is the lower one
+abbrev pub laneIn : List ℕ → ℕ → ℕ
+laneIn b at = getD b at 0 + getD b (at + 1) 0 * 256
 
--- the low byte of the cell of row r and column c, which has the own and the control bit
-abbrev pub lowAt : List ℕ → ℕ → ℕ → ℕ → ℕ
-lowAt b k r c = byteAt b (2 * k) r (2 * c + 1)
+-- lane j of row r, its upper byte, and a bit of that
+abbrev pub laneAt : List ℕ → Matrix → ℕ → ℕ → ℕ
+laneAt b m r j = laneIn b (rowPlace m r + 2 * j)
 
--- The bits that are seen in each column from `from` on, after r rows.
-pub record Seen (b : List ℕ) (k r from : ℕ) (seen : List ℕ) : Type 0 where
-  pub size : length seen ≡ 256
-  pub value : (c : ℕ) → from ≤ c → c < k → getD seen c 0 ≡ merged r (λ v. wordAt b k v c)
+abbrev pub upperAt : List ℕ → Matrix → ℕ → ℕ → ℕ
+upperAt b m r j = byteAt b m r (2 * j + 1)
 
--- Of each subject below n: the low bits of its column added up, which is the number of its owners and twice that of those that control it;
--- the bits that an odd number of rows have; and its owner, where it has just one, or 0 where it has none.
-pub record Counted (b : List ℕ) (n k : ℕ) (tally odd marks : List ℕ) : Type 0 where
-  pub sums : Holds 64 n (λ s. lows n (λ v. lowAt b k v s)) tally
-  pub parity : Holds 64 n (λ s. paired n (λ v. lowAt b k v s)) odd
-  pub owner : Holds 64 n (λ s. markOf n (bitIn b (2 * k) 0 (2 * s + 1))) marks
+abbrev pub bitIn : List ℕ → Matrix → ℕ → ℕ → ℕ → Bool
+bitIn b m i j r = bit i (upperAt b m r j)
 
--- bytes that hold n rows of k cells each, for which the lists have room
-pub record Matrix (b : List ℕ) (n k : ℕ) : Type 0 where
-  pub cells : k ≤ 256
-  pub inside : n ≤ k
-  pub rows : n ≤ 64
-  pub holds : 7 + n * (2 * k) ≤ length b
+-- bytes that hold a row or more
+pub record Laid (b : List ℕ) (m : Matrix) : Type 0 where
+  pub some : 1 ≤ m .rows
+  pub holds : rowPlace m (m .rows) ≤ length b
+
+-- The bits that are seen in each lane from `from` on, after r rows, in a list of `room` places.
+pub record Seen (room : ℕ) (b : List ℕ) (m : Matrix) (r from : ℕ) (seen : List ℕ) : Type 0 where
+  pub size : length seen ≡ room
+  pub value : (j : ℕ) → from ≤ j → j < m .lanes → getD seen j 0 ≡ merged r (λ v. laneAt b m v j)
+
+-- Of each lane below `upto`, in lists of `room` places: the low two bits of its upper byte added up, which is how many rows have the lower one
+-- and twice how many have the other; the bits that an odd number of rows have; and the row that has the lowest bit, where just one has it, or
+-- 0 where none has.
+pub record Counted (room : ℕ) (b : List ℕ) (m : Matrix) (upto : ℕ) (tally odd marks : List ℕ) : Type 0 where
+  pub sums : Holds room upto (λ j. lows (m .rows) (λ v. upperAt b m v j)) tally
+  pub parity : Holds room upto (λ j. paired (m .rows) (λ v. upperAt b m v j)) odd
+  pub owner : Holds room upto (λ j. markOf (m .rows) (bitIn b m 0 j)) marks

@@ -1,5 +1,5 @@
 -- Lists that a loop fills from the front, and what a filled list holds.
-use Prim.Native.Nat.{ℕ, _+_, _-_, _≤_, _<_}
+use Prim.Native.Nat.{ℕ, _+_, _≤_, _<_}
 use native.Mathlib.Omega.{arith}
 use native.Mathlib.Nat.{not-suc-le-zero}
 use mathlib.Core.Path.{_≡_, refl, sym, _∙_, subst}
@@ -73,18 +73,19 @@ filled-step at w g old new v s h e =
 pub filled-done : (j w at : ℕ) (g : ℕ → ℕ) (old new : List ℕ) → j ≤ w → w ≤ j → Filled at j g old new → Filled at w g old new
 filled-done j w at g old new h l s = subst (λ (i : ℕ). Filled at i g old new) (omega arith) s
 
+-- values that are the same at those places
+pub filled-same : (at w : ℕ) (f g : ℕ → ℕ) (old new : List ℕ) → ((c : ℕ) → at ≤ c → c < at + w → f c ≡ g c) → Filled at w f old new → Filled at w g old new
+filled-same at w f g old new e s = record { size = s .size; inside = λ c l b. s .inside c l b ∙ e c l b; before = s .before }
+
 -- w places from `start` on that lie below k and bring those that are reached from below c to below c + w
 pub record Part (w k c start : ℕ) : Type 0 where
   pub within : start + w ≤ k
   pub near : start ≤ c
   pub far : (x : ℕ) → x < c + w → x < k → x < start + w
 
--- the next part, and the last one, where the next would go beyond k
+-- a part that begins where the one before it ends
 pub part-next : (w k c start : ℕ) → c + w ≤ k → start ≡ c → Part w k c start
 part-next w k c start h e = record { within = omega arith; near = omega arith; far = λ x l b. omega arith }
-
-pub part-last : (w k c start : ℕ) → w ≤ k → k < c + w → start ≡ k - w → Part w k c start
-part-last w k c start h l e = record { within = omega arith; near = omega arith; far = λ x f b. omega arith }
 
 -- of the places from `from` on below k, those below c hold g
 pub record Reached (room from c k : ℕ) (g : ℕ → ℕ) (l : List ℕ) : Type 0 where

@@ -1,5 +1,5 @@
 -- Tables of owners: what each entry is come to by.
-use Prim.Native.Nat.{ℕ, zero, suc, _+_, _≤_, _<_}
+use Prim.Native.Nat.{ℕ, zero, suc, _+_, _^_, _≤_, _<_}
 use native.Mathlib.Omega.{arith}
 use mathlib.Core.Path.{_≡_, refl, sym, _∙_, ap}
 use mathlib.Core.Logic.{_⊎_, inl, inr, ⊎-elim}
@@ -9,18 +9,23 @@ use lib.Dec.{eqb, ltb}
 use lib.ListN.{length, getD}
 use borrow.Author.Tests.{eqb-true, eq-eqb, ne-eqb, ltb-true}
 use Rattle.matrix.specs.Bounded.{all}
+use Rattle.matrix.specs.Shape.{mostSubjects}
 use Rattle.laws.specs.Tests.{way}
 use Rattle.laws.specs.Bounded.{all-same, all-each, each-all}
 use Rattle.lanes.specs.Lists.{Stored}
 use Rattle.owner_table.specs.Followed.{followed, followed-add, followed-below}
 
+-- the owners that six doublings follow
+abbrev pub reach : ℕ
+reach = 2 ^ 6
+
 -- the owner of subject s
 abbrev pub ownerIn : List ℕ → ℕ → ℕ
 ownerIn marks s = getD marks s 0
 
--- a table of 64 that holds for each subject the one that is come to by following f j times
+-- a table that holds for each subject the one that is come to by following f j times
 pub record Follows (n : ℕ) (f : ℕ → ℕ) (j : ℕ) (l : List ℕ) : Type 0 where
-  pub size : length l ≡ 64
+  pub size : length l ≡ mostSubjects
   pub value : (s : ℕ) → s < n → getD l s 0 ≡ followed f j s
 
 -- every owner is a subject
@@ -32,11 +37,11 @@ unfoldable pub lowerTest : List ℕ → ℕ → Bool
 lowerTest t s = cond (eqb s 0) (eqb (getD t s 0) 0) (ltb (getD t s 0) s)
 
 -- a table of owners, and the table that follows it twice as far
-pub follows-once : (n : ℕ) (t : List ℕ) → length t ≡ 64 → Follows n (ownerIn t) 1 t
+pub follows-once : (n : ℕ) (t : List ℕ) → length t ≡ mostSubjects → Follows n (ownerIn t) 1 t
 unfolding followed
 follows-once n t e = record { size = e; value = λ s l. refl }
 
-pub follows-twice : (n : ℕ) (f : ℕ → ℕ) (j : ℕ) (t old new : List ℕ) → Inside n f → Follows n f j t → length old ≡ 64
+pub follows-twice : (n : ℕ) (f : ℕ → ℕ) (j : ℕ) (t old new : List ℕ) → Inside n f → Follows n f j t → length old ≡ mostSubjects
     → Stored n (λ s. getD t (getD t s 0) 0) old new → Follows n f (j + j) new
 follows-twice n f j t old new k h e g =
     record {
@@ -72,9 +77,9 @@ unfolding lowerTest
 lower-other t s l = let z : eqb s 0 ≡ false = ne-eqb s 0 (λ q. omega arith) in rw z refl
 
 -- where each owner has a lower number, following s owners from s comes to U
-pub lower-rooted : (n : ℕ) (t : List ℕ) → n ≤ 64 → all n (lowerTest t) ≡ true → all n (λ s. eqb (followed (ownerIn t) 64 s) 0) ≡ true
+pub lower-rooted : (n : ℕ) (t : List ℕ) → n ≤ reach → all n (lowerTest t) ≡ true → all n (λ s. eqb (followed (ownerIn t) reach s) 0) ≡ true
 unfolding lowerTest followed
-lower-rooted n t most h = each-all n _ (λ s l. eq-eqb _ 0 (come 64 s l (omega arith)))
+lower-rooted n t most h = each-all n _ (λ s l. eq-eqb _ 0 (come reach s l (omega arith)))
   where
     lower : (s : ℕ) → s < n → (eqb s 0 ≡ true) ⊎ (eqb s 0 ≡ false) → ((s ≡ 0) × (ownerIn t s ≡ 0)) ⊎ (ownerIn t s < s)
     lower s l (inl z) = inl (eqb-true s 0 z, eqb-true _ 0 (rw z at (all-each n (lowerTest t) h s l)))

@@ -4,14 +4,16 @@ ghost use Prim.Native.Nat.{ℕ, _≤_, _<_};
 ghost use lib.Dec.{eqb};
 ghost use lib.ListN.{length, getD};
 ghost use Rattle.matrix.specs.Bounded.{all};
+ghost use Rattle.matrix.specs.Shape.{mostSubjects};
 ghost use Rattle.lanes.specs.Lists.{Stored};
 ghost use Rattle.owner_table.specs.Followed.{followed};
-ghost use Rattle.owner_table.specs.Table.{ownerIn, lowerTest, Inside};
+ghost use Rattle.owner_table.specs.Table.{reach, ownerIn, lowerTest, Inside};
+use lanes::MOST_SUBJECTS;
 
 // U's entry is U, and that of any other subject has a lower number than the subject. Those after U are all looked at, so that the compiler
 // may take many at once.
-fn descends(t: &[u8; 64], n: usize) -> bool
-    requires { ⌜ (1 ≤ n) × (n ≤ 64) × (length (now t) ≡ 64) ⌝ }
+fn descends(t: &[u8; MOST_SUBJECTS], n: usize) -> bool
+    requires { ⌜ (1 ≤ n) × (n ≤ mostSubjects) × (length (now t) ≡ mostSubjects) ⌝ }
     ensures { λ r. ⌜ r ≡ all n (lowerTest (now (t .entry))) ⌝ }
 {
     if t[0] != 0 {
@@ -25,8 +27,8 @@ fn descends(t: &[u8; 64], n: usize) -> bool
 }
 
 // A table that follows t twice.
-fn double(t: &[u8; 64], u: &mut [u8; 64], n: usize)
-    requires { ⌜ (n ≤ 64) × (length (now t) ≡ 64) × (length (now u) ≡ 64) × ((s : ℕ) → s < n → getD (now t) s 0 < n) ⌝ }
+fn double(t: &[u8; MOST_SUBJECTS], u: &mut [u8; MOST_SUBJECTS], n: usize)
+    requires { ⌜ (n ≤ mostSubjects) × (length (now t) ≡ mostSubjects) × (length (now u) ≡ mostSubjects) × ((s : ℕ) → s < n → getD (now t) s 0 < n) ⌝ }
     ensures { λ _. ⌜ Stored n (λ s. getD (now (t .entry)) (getD (now (t .entry)) s 0) 0) (now (u .entry)) (now (u .exit)) ⌝ }
 {
     for s in 0..n {
@@ -35,8 +37,8 @@ fn double(t: &[u8; 64], u: &mut [u8; 64], n: usize)
 }
 
 // The first n entries are all U. All of them are looked at, so that the compiler may take many at once.
-fn all_root(t: &[u8; 64], n: usize) -> bool
-    requires { ⌜ (n ≤ 64) × (length (now t) ≡ 64) ⌝ }
+fn all_root(t: &[u8; MOST_SUBJECTS], n: usize) -> bool
+    requires { ⌜ (n ≤ mostSubjects) × (length (now t) ≡ mostSubjects) ⌝ }
     ensures { λ r. ⌜ r ≡ all n (λ s. eqb (getD (now (t .entry)) s 0) 0) ⌝ }
 {
     let mut any: u8 = 0;
@@ -47,16 +49,17 @@ fn all_root(t: &[u8; 64], n: usize) -> bool
 }
 
 // Following owners from any of the n subjects comes to U: it does where each owner has a lower number than what it owns, and else after six
-// doublings each entry has followed 64 owners. Where all have come to U before, the rest of the doublings is left out.
-pub fn rooted(t: &[u8; 64], n: usize) -> bool
-    requires { ⌜ (1 ≤ n) × (n ≤ 64) × (length (now t) ≡ 64) × Inside n (ownerIn (now t)) ⌝ }
-    ensures { λ r. ⌜ r ≡ all n (λ s. eqb (followed (ownerIn (now (t .entry))) 64 s) 0) ⌝ }
+// doublings each entry has followed 64 owners, and there are no more subjects. Where all have come to U before, the rest of the doublings is
+// left out.
+pub fn rooted(t: &[u8; MOST_SUBJECTS], n: usize) -> bool
+    requires { ⌜ (1 ≤ n) × (n ≤ mostSubjects) × (length (now t) ≡ mostSubjects) × Inside n (ownerIn (now t)) ⌝ }
+    ensures { λ r. ⌜ r ≡ all n (λ s. eqb (followed (ownerIn (now (t .entry))) reach s) 0) ⌝ }
 {
     if descends(t, n) {
         return true;
     }
-    let mut u = [0u8; 64];
-    let mut v = [0u8; 64];
+    let mut u = [0u8; MOST_SUBJECTS];
+    let mut v = [0u8; MOST_SUBJECTS];
     double(t, &mut u, n);
     double(&u, &mut v, n);
     if all_root(&v, n) {

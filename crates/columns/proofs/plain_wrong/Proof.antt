@@ -1,18 +1,30 @@
 -- `columns::plain_wrong` meets its contract. By whether it is owned and not controlled.
-use mathlib.Core.Path.{refl}
-use borrow.Author.Tests.{eq-eqb, ne-eqb}
+use native.Mathlib.Omega.{arith}
+use Rattle.columns.specs.Cells.{last-row}
+use Rattle.columns.specs.Loops.{plain-owned, plain-other}
+use borrow.Author.Needs.{needs}
 use Rattle.columns.proofs.plain_wrong.Statement.{statement}
 use Rattle.columns.proofs.plain_wrong.Tie as tie
 
+last-lane-requires : tie.Need-last-lane-requires
+last-lane-requires c κs = search needs
+
+mul-if1 : tie.Need-mul-if1
+mul-if1 c = record { fits = omega (arith, last-row _ _ (c .before .pre .0) (c .last-lane .ensures)) }
+
+element-copy-out-if1 : tie.Need-element-copy-out-if1
+element-copy-out-if1 c = last-row _ _ (c .before .pre .0) (c .last-lane .ensures)
+
+bits-of-requires : tie.Need-bits-of-requires
+bits-of-requires c κs = search needs
+
 returns : tie.Need-returns
-returns c = rw (eq-eqb _ 1 (c .if1 .taken)) refl
+returns c = plain-owned _ _ _ (c .before .before .last-lane .ensures) (c .if1 .taken)
 
 returns-2 : tie.Need-returns-2
-returns-2 c = rw (ne-eqb _ 1 (c .if1 .left)) refl
+returns-2 c = plain-other _ _ _ (c .before .before .before .last-lane .ensures) _ (c .before .if1 .left) (c .bits-of .ensures)
 
 pub plain-wrong-spec : {M : Type 1} → statement M
 plain-wrong-spec =
     tie.close
-    (tie.spec
-    returns
-    returns-2)
+    (tie.spec last-lane-requires mul-if1 element-copy-out-if1 bits-of-requires returns returns-2)

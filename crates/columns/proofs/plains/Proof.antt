@@ -3,7 +3,6 @@ use borrow.Author.Needs.{needs}
 use Prim.Native.Nat.{ℕ, _+_, _-_, _≤_}
 use mathlib.Core.Path.{_≡_, _∙_, ap}
 use lib.Bits.{bitOr}
-use lib.ListN.{getD}
 use Rattle.lanes.specs.Lanes.{merged}
 use Rattle.lanes.specs.Zeros.{merged-none, merged-more, merged-done}
 use Rattle.columns.specs.Checks.{plainWrong}
@@ -12,7 +11,7 @@ use Rattle.columns.proofs.plains.Statement.{statement}
 use Rattle.columns.proofs.plains.Tie as tie
 
 abbrev Inv-loop : tie.InvT-loop
-Inv-loop seen n p wrong₀ i₀ wrong i = (i ≤ p) × (wrong ≡ merged i (λ k. plainWrong (getD seen (n + k) 0)))
+Inv-loop seen n p wrong₀ i₀ wrong i = (i ≤ p) × (wrong ≡ merged i (λ k. plainWrong seen (n + k)))
 
 abbrev μ-loop : tie.MeasureT-loop
 μ-loop seen n p wrong₀ i₀ wrong i = p - i
@@ -22,12 +21,6 @@ loop-holds c = (search needs, merged-none _)
 
 add-plain-wrong : tie.Need-add-plain-wrong Inv-loop μ-loop
 add-plain-wrong c = search needs
-
-mul-plain-wrong : tie.Need-mul-plain-wrong Inv-loop μ-loop
-mul-plain-wrong c = search needs
-
-element-copy-out-plain-wrong : tie.Need-element-copy-out-plain-wrong Inv-loop μ-loop
-element-copy-out-plain-wrong c = search needs
 
 plain-wrong-requires : tie.Need-plain-wrong-requires Inv-loop μ-loop
 plain-wrong-requires c κs = search needs
@@ -40,9 +33,9 @@ loop-less c = search needs
 
 loop-again : tie.Need-loop-again Inv-loop μ-loop
 loop-again c =
-    let l = c .before .before .before .loop in
-    let a = c .before .before .before .before .args in
-    (search needs, ap (λ (x : ℕ). bitOr (l .wrong) x) (c .plain-wrong .ensures) ∙ merged-more (l .i) (λ k. plainWrong (getD (a .seen .now) (a .n + k) 0)) (l .wrong) (l .inv .1))
+    let l = c .before .before .loop in
+    let a = c .before .before .before .args in
+    (search needs, ap (λ (x : ℕ). bitOr (l .wrong) x) (c .plain-wrong .ensures) ∙ merged-more (l .i) (λ k. plainWrong (a .seen .now) (a .n + k)) (l .wrong) (l .inv .1))
 
 returns : tie.Need-returns Inv-loop μ-loop
 returns c =
@@ -57,8 +50,6 @@ plains-spec =
     μ-loop
     loop-holds
     add-plain-wrong
-    mul-plain-wrong
-    element-copy-out-plain-wrong
     plain-wrong-requires
     add-i
     loop-less

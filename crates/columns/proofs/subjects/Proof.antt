@@ -12,7 +12,7 @@ each-subject-requires : tie.Need-each-subject-requires
 each-subject-requires c κs = search needs
 
 returns : tie.Need-returns
-returns c = c .counts-fit .ensures ∙ counts-test _ _ _ _ _ _ (sym (c .before .before .before .pre .3) ∙ c .before .if1 .taken)
+returns c = c .counts-fit .ensures ∙ counts-test _ _ _ _ _ (sym (c .before .before .before .pre .2) ∙ c .before .if1 .taken)
 
 returns-2 : tie.Need-returns-2
 returns-2 c = search needs

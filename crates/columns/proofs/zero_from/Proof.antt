@@ -9,10 +9,10 @@ use Rattle.columns.proofs.zero_from.Statement.{statement}
 use Rattle.columns.proofs.zero_from.Tie as tie
 
 abbrev Inv-loop : tie.InvT-loop
-Inv-loop b at m any₀ j₀ any j = (j ≤ m) × (any ≡ merged j (λ i. getD b (at + i) 0))
+Inv-loop b at bytes any₀ j₀ any j = (j ≤ bytes) × (any ≡ merged j (λ i. getD b (at + i) 0))
 
 abbrev μ-loop : tie.MeasureT-loop
-μ-loop b at m any₀ j₀ any j = m - j
+μ-loop b at bytes any₀ j₀ any j = bytes - j
 
 loop-holds : tie.Need-loop-holds Inv-loop μ-loop
 loop-holds c = (search needs, merged-none _)

@@ -1,78 +1,97 @@
--- `counting::count` meets its contract. The invariant of both loops: the columns below c are counted. In the second, c is a multiple of 8, so that eight columns from c on fit the lists.
+-- `counting::count` meets its contract. The invariant of both loops: the lanes below c are counted. In the second, c is a whole number of parts, so that the next part fits the lists.
 use borrow.Author.Needs.{needs}
-use Prim.Native.Nat.{_-_, _%_, _≤_}
+use Prim.Native.Nat.{_-_, _%_, _≤_, _<_}
 use native.Mathlib.Omega.{arith}
 use mathlib.Core.Path.{_≡_, refl}
-use mathlib.Core.Logic.{⊎-elim}
-use Rattle.lanes.specs.Lists.{Part, part-next, part-last}
-use Rattle.counting.specs.Blocks.{Below, below-none, below-part, below-done}
+use lib.ListN.{length}
+use Rattle.lanes.specs.Lists.{part-next}
+use Rattle.lanes.specs.LaneLaws.{first-room}
+use Rattle.counting.specs.Blocks.{atOnce, Below, below-none, below-sized, below-part, below-done}
 use Rattle.counting.proofs.count.Statement.{statement}
 use Rattle.counting.proofs.count.Tie as tie
 
 abbrev Inv-loop : tie.InvT-loop
-Inv-loop tally₀ odd₀ marks₀ b n k c₀ tally odd marks c = (c ≤ n) × Below b n k c tally odd marks
+Inv-loop tally₀ odd₀ marks₀ b m upto lanes c₀ tally odd marks c = (c ≤ upto) × Below (length tally₀) b m c tally odd marks
 
 abbrev μ-loop : tie.MeasureT-loop
-μ-loop tally₀ odd₀ marks₀ b n k c₀ tally odd marks c = n - c
+μ-loop tally₀ odd₀ marks₀ b m upto lanes c₀ tally odd marks c = upto - c
 
 abbrev Inv-loop2 : tie.InvT-loop2
-Inv-loop2 tally₀ odd₀ marks₀ b n k c₀ tally odd marks c = (c % 8 ≡ 0) × Below b n k c tally odd marks
+Inv-loop2 tally₀ odd₀ marks₀ b m upto lanes c₀ tally odd marks c = (c % atOnce ≡ 0) × Below (length tally₀) b m c tally odd marks
 
 abbrev μ-loop2 : tie.MeasureT-loop2
-μ-loop2 tally₀ odd₀ marks₀ b n k c₀ tally odd marks c = n - c
+μ-loop2 tally₀ odd₀ marks₀ b m upto lanes c₀ tally odd marks c = upto - c
 
 loop-holds : tie.Need-loop-holds Inv-loop μ-loop Inv-loop2 μ-loop2
-loop-holds c = let p = c .before .before .pre in (search needs, below-none _ _ _ _ _ _ (p .1) (p .2) (p .3))
+loop-holds c = (search needs, below-none _ _ _ _ _ _ (c .before .before .before .before .before .pre .5))
 
 one-requires : tie.Need-one-requires Inv-loop μ-loop Inv-loop2 μ-loop2
 one-requires c κs =
+    let s = c .before .before .before .before .before .before .before .before .before .before in
     let l = c .before .before .before .before .loop in
-    (c .before .before .before .before .before .before .before .pre .0, search needs, search needs, l .inv .1 .sums .size, l .inv .1 .parity .size, l .inv .1 .owner .size)
+    let t : c .before .before .before .before .loop .c < s .args .upto = c .before .before .before .loop-test .taken in
+    (s .pre .0, s .pre .1, omega (arith, s .pre .2), omega (arith, s .pre .3, l .inv .1 .sums .size), below-sized _ _ _ _ _ _ _ _ (l .inv .1 .sums .size) (l .inv .1))
 
 add-c : tie.Need-add-c Inv-loop μ-loop Inv-loop2 μ-loop2
-add-c c = search needs
+add-c c = record { fits = omega (arith, c .before .before .before .before .before .before .before .before .before .before .loop-test .taken) }
 
 loop-less : tie.Need-loop-less Inv-loop μ-loop Inv-loop2 μ-loop2
 loop-less c = search needs
 
 loop-again : tie.Need-loop-again Inv-loop μ-loop Inv-loop2 μ-loop2
 loop-again c =
-    let l = c .before .before .before .before .before .loop in
-    (search needs, below-part _ _ _ _ _ _ _ _ 1 _ _ _ (l .inv .1) (part-next _ _ _ _ (search needs) refl) (c .one .ensures))
+    let l = c .before .before .before .before .before .before .before .before .before .before .before .loop in
+    let s = c .before .before .before .before .before .before .before .before .before .before .before .before .before .before .before .before .before in
+    (search needs, below-part _ _ _ _ _ _ _ _ 1 _ _ _ (l .inv .1) (part-next _ _ _ _ (omega (arith, s .pre .2, c .before .before .before .before .before .before .before .before .before .before .loop-test .taken)) refl) (c .before .before .before .before .before .before .one .ensures))
+
+same-length : tie.Need-same-length Inv-loop μ-loop Inv-loop2 μ-loop2
+same-length c = search needs
+
+same-length-2 : tie.Need-same-length-2 Inv-loop μ-loop Inv-loop2 μ-loop2
+same-length-2 c = search needs
+
+same-length-3 : tie.Need-same-length-3 Inv-loop μ-loop Inv-loop2 μ-loop2
+same-length-3 c = search needs
 
 returns : tie.Need-returns Inv-loop μ-loop Inv-loop2 μ-loop2
-returns c = below-done _ _ _ _ _ _ _ (c .loop-test .left) (c .before .before .before .before .pre .0 .inside) (c .before .loop .inv .1)
+returns c = below-done _ _ _ _ _ _ _ _ (c .loop-test .left) (c .before .before .before .before .before .before .before .pre .2) (c .before .loop .inv .1)
 
 loop2-holds : tie.Need-loop2-holds Inv-loop μ-loop Inv-loop2 μ-loop2
-loop2-holds c = let p = c .before .before .pre in (refl, below-none _ _ _ _ _ _ (p .1) (p .2) (p .3))
+loop2-holds c = (refl, below-none _ _ _ _ _ _ (c .before .before .before .before .before .pre .5))
 
-add-if2 : tie.Need-add-if2 Inv-loop μ-loop Inv-loop2 μ-loop2
-add-if2 c = search needs
+part-requires : tie.Need-part-requires Inv-loop μ-loop Inv-loop2 μ-loop2
+part-requires c κs = search needs
 
--- the eight columns that are taken next
-part : (c : tie.Joined2 Inv-loop μ-loop Inv-loop2 μ-loop2)
-    → Part 8 (c .before .before .before .before .before .args .k) (c .before .before .loop2 .c) (c .if2 .start)
-part c = ⊎-elim (λ w. part-next _ _ _ _ (w .0 .taken) (w .1)) (λ w. part-last _ _ _ _ (c .before .before .before .if1 .left) (w .0 .left) (w .1)) (c .if2 .came)
-
-eight-requires : tie.Need-eight-requires Inv-loop μ-loop Inv-loop2 μ-loop2
-eight-requires c κs =
+several-requires : tie.Need-several-requires Inv-loop μ-loop Inv-loop2 μ-loop2
+several-requires c κs =
+    let s = c .before .before .before .before .before .before .before .before .before .before .before in
     let l = c .before .before .before .before .before .loop2 in
-    let p = part (c .before .before .before) in
-    (c .before .before .before .before .before .before .before .before .pre .0, p .within, omega (arith, p .near), l .inv .1 .sums .size, l .inv .1 .parity .size, l .inv .1 .owner .size)
+    (s .pre .0, s .pre .1, c .part .ensures .within, omega (arith, c .part .ensures .near, s .pre .3, s .pre .4, l .inv .0, l .inv .1 .sums .size, c .before .before .before .before .loop2-test .taken), below-sized _ _ _ _ _ _ _ _ (l .inv .1 .sums .size) (l .inv .1))
 
 add-c-2 : tie.Need-add-c-2 Inv-loop μ-loop Inv-loop2 μ-loop2
-add-c-2 c = search needs
+add-c-2 c =
+    let s = c .before .before .before .before .before .before .before .before .before .before .before .before .before .before .before .before .before .before in
+    record { fits = omega (arith, first-room _ _ (s .pre .0), s .pre .2, c .before .before .before .before .before .before .before .before .before .before .before .loop2-test .taken) }
 
 loop2-less : tie.Need-loop2-less Inv-loop μ-loop Inv-loop2 μ-loop2
 loop2-less c = search needs
 
 loop2-again : tie.Need-loop2-again Inv-loop μ-loop Inv-loop2 μ-loop2
 loop2-again c =
-    let l = c .before .before .before .before .before .before .loop2 in
-    (search needs, below-part _ _ _ _ _ _ _ _ 8 _ _ _ (l .inv .1) (part (c .before .before .before .before)) (c .eight .ensures))
+    let l = c .before .before .before .before .before .before .before .before .before .before .before .before .loop2 in
+    (search needs, below-part _ _ _ _ _ _ _ _ atOnce _ _ _ (l .inv .1) (c .before .before .before .before .before .before .before .part .ensures) (c .before .before .before .before .before .before .several .ensures))
+
+same-length-4 : tie.Need-same-length-4 Inv-loop μ-loop Inv-loop2 μ-loop2
+same-length-4 c = search needs
+
+same-length-5 : tie.Need-same-length-5 Inv-loop μ-loop Inv-loop2 μ-loop2
+same-length-5 c = search needs
+
+same-length-6 : tie.Need-same-length-6 Inv-loop μ-loop Inv-loop2 μ-loop2
+same-length-6 c = search needs
 
 returns-2 : tie.Need-returns-2 Inv-loop μ-loop Inv-loop2 μ-loop2
-returns-2 c = below-done _ _ _ _ _ _ _ (c .loop2-test .left) (c .before .before .before .before .pre .0 .inside) (c .before .loop2 .inv .1)
+returns-2 c = below-done _ _ _ _ _ _ _ _ (c .loop2-test .left) (c .before .before .before .before .before .before .before .pre .2) (c .before .loop2 .inv .1)
 
 pub count-spec : {M : Type 1} → statement M
 count-spec =
@@ -87,11 +106,17 @@ count-spec =
     add-c
     loop-less
     loop-again
+    same-length
+    same-length-2
+    same-length-3
     returns
     loop2-holds
-    add-if2
-    eight-requires
+    part-requires
+    several-requires
     add-c-2
     loop2-less
     loop2-again
+    same-length-4
+    same-length-5
+    same-length-6
     returns-2)

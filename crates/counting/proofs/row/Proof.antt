@@ -1,29 +1,29 @@
--- `counting::row` meets its contract. The invariant: in each of the three lists the columns below j have the row, those from j on are as before.
+-- `counting::row` meets its contract. The invariant: in each of the three lists the lanes below j have the row, those from j on are as before.
 use borrow.Author.Needs.{needs}
 use Prim.Native.Nat.{_-_, _≤_}
 use native.Mathlib.Nat.{le-refl}
 use native.Mathlib.Omega.{arith}
-use Rattle.counting.specs.Blocks.{Joined, joined-none, joined-step, joined-done}
+use Rattle.counting.specs.Blocks.{atOnce, Joined, joined-none, joined-step, joined-done}
 use Rattle.counting.proofs.row.Statement.{statement}
 use Rattle.counting.proofs.row.Tie as tie
 
 abbrev Inv-loop : tie.InvT-loop
-Inv-loop low₀ odd₀ since₀ b at j₀ low odd since j = (j ≤ 8) × Joined b at j low₀ odd₀ since₀ low odd since
+Inv-loop low₀ odd₀ since₀ b at j₀ low odd since j = (j ≤ atOnce) × Joined b at j low₀ odd₀ since₀ low odd since
 
 abbrev μ-loop : tie.MeasureT-loop
-μ-loop low₀ odd₀ since₀ b at j₀ low odd since j = 8 - j
+μ-loop low₀ odd₀ since₀ b at j₀ low odd since j = atOnce - j
 
 loop-holds : tie.Need-loop-holds Inv-loop μ-loop
 loop-holds c = (search needs, joined-none _ _ _ _ _)
 
-mul-cell : tie.Need-mul-cell Inv-loop μ-loop
-mul-cell c = search needs
+mul-lane : tie.Need-mul-lane Inv-loop μ-loop
+mul-lane c = search needs
 
-add-cell : tie.Need-add-cell Inv-loop μ-loop
-add-cell c = search needs
+add-lane : tie.Need-add-lane Inv-loop μ-loop
+add-lane c = search needs
 
-cell-requires : tie.Need-cell-requires Inv-loop μ-loop
-cell-requires c κs = search needs
+lane-requires : tie.Need-lane-requires Inv-loop μ-loop
+lane-requires c κs = search needs
 
 mul-low : tie.Need-mul-low Inv-loop μ-loop
 mul-low c = search needs
@@ -94,7 +94,7 @@ loop-again : tie.Need-loop-again Inv-loop μ-loop
 loop-again c =
     let i = c .before .before .before .before in
     let l = i .before .before .loop in
-    (search needs, joined-step _ _ _ _ _ _ _ _ _ _ (l .inv .1) (i .before .before .before .before .pre) (i .before .loop-test .taken) (i .cell .ensures .0) (i .cell .ensures .1))
+    (search needs, joined-step _ _ _ _ _ _ _ _ _ _ (l .inv .1) (i .before .before .before .before .pre) (i .before .loop-test .taken) (i .lane .ensures .0) (i .lane .ensures .1))
 
 returns : tie.Need-returns Inv-loop μ-loop
 returns c = let l = c .before .loop in joined-done _ _ _ _ _ _ _ _ _ _ (l .inv .0) (c .loop-test .left) (l .inv .1)
@@ -106,9 +106,9 @@ row-spec =
     Inv-loop
     μ-loop
     loop-holds
-    mul-cell
-    add-cell
-    cell-requires
+    mul-lane
+    add-lane
+    lane-requires
     mul-low
     element-copy-out-low
     mul-low-2

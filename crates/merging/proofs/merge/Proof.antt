@@ -1,50 +1,55 @@
--- `merging::merge` meets its contract. The invariant: the columns from `from` on below c hold what is seen.
+-- `merging::merge` meets its contract. The invariant: the lanes from `from` on below c hold what is seen.
 use borrow.Author.Needs.{needs}
 use Prim.Native.Nat.{_-_}
 use native.Mathlib.Omega.{arith}
-use mathlib.Core.Logic.{⊎-elim}
-use Rattle.lanes.specs.Lists.{Part, Reached, part-next, part-last, reached-none, reached-part}
-use Rattle.lanes.specs.Lanes.{merged, wordAt}
+use mathlib.Core.Path.{refl}
+use lib.ListN.{length}
+use Rattle.lanes.specs.Lists.{Reached, reached-none, reached-part}
+use Rattle.lanes.specs.Lanes.{merged, laneAt}
+use Rattle.lanes.specs.LaneLaws.{first-room}
 use Rattle.merging.proofs.merge.Statement.{statement}
 use Rattle.merging.proofs.merge.Tie as tie
 
 abbrev Inv-loop : tie.InvT-loop
-Inv-loop seen₀ b n k from c₀ seen c = Reached 256 from c k (λ x. merged n (λ v. wordAt b k v x)) seen
+Inv-loop seen₀ b m from lanes c₀ seen c = Reached (length seen₀) from c (m .lanes) (λ x. merged (m .rows) (λ v. laneAt b m v x)) seen
 
 abbrev μ-loop : tie.MeasureT-loop
-μ-loop seen₀ b n k from c₀ seen c = k - c
+μ-loop seen₀ b m from lanes c₀ seen c = m .lanes - c
 
 narrow-requires : tie.Need-narrow-requires Inv-loop μ-loop
 narrow-requires c κs = search needs
 
+same-length : tie.Need-same-length Inv-loop μ-loop
+same-length c = search needs
+
 returns : tie.Need-returns Inv-loop μ-loop
-returns c = c .narrow .ensures
+returns c = c .before .before .narrow .ensures
 
 loop-holds : tie.Need-loop-holds Inv-loop μ-loop
-loop-holds c = reached-none _ _ _ _ _ (c .before .before .pre .1 .size)
+loop-holds c = reached-none _ _ _ _ _ refl
 
-add-if2 : tie.Need-add-if2 Inv-loop μ-loop
-add-if2 c = search needs
-
--- where the next part starts
-part : (c : tie.Joined2 Inv-loop μ-loop) → Part 32 (c .before .before .before .before .before .args .k) (c .before .before .loop .c) (c .if2 .start)
-part c = ⊎-elim (λ w. part-next _ _ _ _ (w .0 .taken) (w .1)) (λ w. part-last _ _ _ _ (c .before .before .before .if1 .left) (w .0 .left) (w .1)) (c .if2 .came)
+part-requires : tie.Need-part-requires Inv-loop μ-loop
+part-requires c κs = search needs
 
 wide-requires : tie.Need-wide-requires Inv-loop μ-loop
 wide-requires c κs =
-    let s = c .before .before .before .before .before .before in
-    (s .pre .0, part (c .before) .within, c .before .before .before .loop .inv .size)
+    let s = c .before .before .before .before .before .before .before in
+    (s .pre .0, c .part .ensures .within, omega (arith, s .pre .1, c .before .before .before .loop .inv .size))
 
 add-c : tie.Need-add-c Inv-loop μ-loop
-add-c c = search needs
+add-c c =
+    let s = c .before .before .before .before .before .before .before .before .before .before in
+    record { fits = omega (arith, first-room (s .args .b .now) (s .args .m) (s .pre .0), c .before .before .before .before .before .loop-test .taken) }
 
 loop-less : tie.Need-loop-less Inv-loop μ-loop
 loop-less c = search needs
 
 loop-again : tie.Need-loop-again Inv-loop μ-loop
 loop-again c =
-    let l = c .before .before .before .before .loop in
-    reached-part _ _ _ _ _ _ _ _ _ (l .inv) (part (c .before .before)) (c .wide .ensures)
+    reached-part _ _ _ _ _ _ _ _ _ (c .before .before .before .before .before .before .loop .inv) (c .before .before .before .part .ensures) (c .before .before .wide .ensures)
+
+same-length-2 : tie.Need-same-length-2 Inv-loop μ-loop
+same-length-2 c = search needs
 
 returns-2 : tie.Need-returns-2 Inv-loop μ-loop
 returns-2 c =
@@ -58,11 +63,13 @@ merge-spec =
     Inv-loop
     μ-loop
     narrow-requires
+    same-length
     returns
     loop-holds
-    add-if2
+    part-requires
     wide-requires
     add-c
     loop-less
     loop-again
+    same-length-2
     returns-2)

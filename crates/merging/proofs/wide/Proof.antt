@@ -1,45 +1,44 @@
--- `merging::wide` meets its contract. The invariants: row r has joined the places below j of `kept`, the rows before it all of them, and its cell of column c is at `at`; then the columns from c on below c + j of `seen` are filled.
+-- `merging::wide` meets its contract. The invariants: row r has joined the places below j of `kept`, the rows before it all of them, and its lane c is at `at`; then the lanes from c on below c + j of `seen` are filled from `kept`.
 use borrow.Author.Needs.{needs}
 use Prim.Native.Nat.{ℕ, _+_, _*_, _-_, _≤_, _<_}
-use native.Mathlib.Nat.{zero-mul, le-refl}
+use native.Mathlib.Nat.{le-refl}
 use native.Mathlib.Omega.{arith}
 use mathlib.Core.Path.{_≡_, refl, _∙_, ap}
-use lib.ListN.{length, getD-replicate}
-use Rattle.lanes.specs.Lists.{Filled, filled-none, filled-step, filled-done}
-use Rattle.lanes.specs.Lanes.{merged, wordIn, wordAt}
-use Rattle.lanes.specs.LaneLaws.{next-place, row-room}
+use lib.ListN.{length, getD, getD-replicate}
+use Rattle.lanes.specs.Lists.{Filled, filled-none, filled-step, filled-done, filled-same}
+use Rattle.lanes.specs.Lanes.{merged, rowBytes, rowPlace, laneIn, laneAt}
+use Rattle.lanes.specs.LaneLaws.{first-place, first-room, next-place, row-room}
 use Rattle.lanes.specs.Zeros.{merged-none}
-use Rattle.merging.specs.Rows.{Joined, joined-none, joined-step, joined-row, joined-all}
+use Rattle.merging.specs.Rows.{atOnce, Joined, joined-none, joined-step, joined-row, joined-all}
 use Rattle.merging.proofs.wide.Statement.{statement}
 use Rattle.merging.proofs.wide.Tie as tie
 
 abbrev Inv-loop2 : tie.InvT-loop2
-Inv-loop2 seen b n k c kept₀ at r j₀ kept j = Joined 32 0 32 (λ v i. wordAt b k v (c + i)) r j kept
+Inv-loop2 seen b m c rows kept₀ at r j₀ kept j = Joined atOnce 0 atOnce (λ v i. laneAt b m v (c + i)) r j kept
 
 abbrev μ-loop2 : tie.MeasureT-loop2
-μ-loop2 seen b n k c kept₀ at r j₀ kept j = 32 - j
+μ-loop2 seen b m c rows kept₀ at r j₀ kept j = atOnce - j
 
 abbrev Inv-loop : tie.InvT-loop
-Inv-loop seen b n k c kept₀ at₀ r₀ kept at r = (r ≤ n) × (at ≡ 7 + r * (2 * k) + 2 * c) × Joined 32 0 32 (λ v i. wordAt b k v (c + i)) r 0 kept
+Inv-loop seen b m c rows kept₀ at₀ r₀ kept at r = (r ≤ rows) × (at ≡ rowPlace m r + 2 * c) × Joined atOnce 0 atOnce (λ v i. laneAt b m v (c + i)) r 0 kept
 
 abbrev μ-loop : tie.MeasureT-loop
-μ-loop seen b n k c kept₀ at₀ r₀ kept at r = n - r
+μ-loop seen b m c rows kept₀ at₀ r₀ kept at r = rows - r
 
 abbrev Inv-loop3 : tie.InvT-loop3
-Inv-loop3 seen₀ b n k c kept at j₀ seen j = (j ≤ 32) × Filled c j (λ x. merged n (λ v. wordAt b k v x)) seen₀ seen
+Inv-loop3 seen₀ b c rows kept at j₀ seen j = (j ≤ atOnce) × Filled c j (λ x. getD kept (x - c) 0) seen₀ seen
 
 abbrev μ-loop3 : tie.MeasureT-loop3
-μ-loop3 seen₀ b n k c kept at j₀ seen j = 32 - j
+μ-loop3 seen₀ b c rows kept at j₀ seen j = atOnce - j
 
 mul-at : tie.Need-mul-at Inv-loop2 μ-loop2 Inv-loop μ-loop Inv-loop3 μ-loop3
-mul-at c = search needs
+mul-at c = let s = c .before .before in record { fits = omega (arith, s .pre .1, first-room (s .args .b .now) (s .args .m) (s .pre .0)) }
 
 add-at : tie.Need-add-at Inv-loop2 μ-loop2 Inv-loop μ-loop Inv-loop3 μ-loop3
-add-at c = search needs
+add-at c = let s = c .before .before .before in record { fits = omega (arith, s .pre .1, first-room (s .args .b .now) (s .args .m) (s .pre .0)) }
 
 loop-holds : tie.Need-loop-holds Inv-loop2 μ-loop2 Inv-loop μ-loop Inv-loop3 μ-loop3
-loop-holds c =
-    (search needs, omega (arith, zero-mul (2 * c .before .args .k)), joined-none _ _ _ _ _ _ refl (λ j a b. getD-replicate 32 j 0 0 b ∙ merged-none _))
+loop-holds c = (search needs, ap (λ (i : ℕ). i + 2 * c .before .before .before .args .c) (first-place (c .before .before .before .args .m)), joined-none _ _ _ _ _ _ refl (λ j a b. getD-replicate atOnce j 0 0 b ∙ merged-none _))
 
 loop2-holds : tie.Need-loop2-holds Inv-loop2 μ-loop2 Inv-loop μ-loop Inv-loop3 μ-loop3
 loop2-holds c = c .before .loop .inv .2
@@ -50,22 +49,22 @@ mul-kept c = search needs
 array-read-kept : tie.Need-array-read-kept Inv-loop2 μ-loop2 Inv-loop μ-loop Inv-loop3 μ-loop3
 array-read-kept c = search needs
 
-mul-cell : tie.Need-mul-cell Inv-loop2 μ-loop2 Inv-loop μ-loop Inv-loop3 μ-loop3
-mul-cell c = search needs
+mul-lane : tie.Need-mul-lane Inv-loop2 μ-loop2 Inv-loop μ-loop Inv-loop3 μ-loop3
+mul-lane c = search needs
 
--- the cell that is read lies in the bytes
+-- the lane that is read lies in the bytes
 inside : (c : tie.In-loop2 Inv-loop2 μ-loop2 Inv-loop μ-loop Inv-loop3 μ-loop3)
-    → c .before .before .before .loop .at + 2 * c .before .loop2 .j + 1 < length (c .before .before .before .before .before .args .b .now)
+    → c .before .before .before .loop .at + 2 * c .before .loop2 .j + 1 < length (c .before .before .before .before .before .before .before .args .b .now)
 inside c =
-    let s = c .before .before .before .before .before in
+    let s = c .before .before .before .before .before .before .before in
     let o = c .before .before .before .loop in
-    omega (arith, s .pre .1, o .inv .1, c .loop2-test .taken, row-room (s .args .b .now) (s .args .n) (s .args .k) (o .r) (s .pre .0) (c .before .before .loop-test .taken))
+    omega (arith, s .pre .1, o .inv .1, c .loop2-test .taken, row-room (s .args .b .now) (s .args .m) (o .r) (s .pre .0) (c .before .before .loop-test .taken))
 
-add-cell : tie.Need-add-cell Inv-loop2 μ-loop2 Inv-loop μ-loop Inv-loop3 μ-loop3
-add-cell c = record { fits = omega (arith, inside c) }
+add-lane : tie.Need-add-lane Inv-loop2 μ-loop2 Inv-loop μ-loop Inv-loop3 μ-loop3
+add-lane c = record { fits = omega (arith, inside c) }
 
-cell-requires : tie.Need-cell-requires Inv-loop2 μ-loop2 Inv-loop μ-loop Inv-loop3 μ-loop3
-cell-requires c κs = inside c
+lane-requires : tie.Need-lane-requires Inv-loop2 μ-loop2 Inv-loop μ-loop Inv-loop3 μ-loop3
+lane-requires c κs = inside c
 
 mul-kept-2 : tie.Need-mul-kept-2 Inv-loop2 μ-loop2 Inv-loop μ-loop Inv-loop3 μ-loop3
 mul-kept-2 c = search needs
@@ -81,20 +80,25 @@ loop2-less c = search needs
 
 loop2-again : tie.Need-loop2-again Inv-loop2 μ-loop2 Inv-loop μ-loop Inv-loop3 μ-loop3
 loop2-again c =
-    let s = c .before .before .before .before .before .before in
+    let s = c .before .before .before .before .before .before .before .before in
     let o = c .before .before .before .before .loop in
     let l = c .before .before .loop2 in
-    let e : o .at + 2 * l .j ≡ 7 + o .r * (2 * s .args .k) + 2 * (s .args .c + l .j) = omega (arith, o .inv .1) in
-    joined-step _ _ _ _ _ _ _ _ (l .inv) (c .before .loop2-test .taken) (le-refl 32) (c .cell .ensures .0 ∙ ap (λ (i : ℕ). wordIn (s .args .b .now) i) e)
+    let e : o .at + 2 * l .j ≡ rowPlace (s .args .m) (o .r) + 2 * (s .args .c + l .j) = omega (arith, o .inv .1) in
+    joined-step _ _ _ _ _ _ _ _ (l .inv) (c .before .loop2-test .taken) (le-refl atOnce) (c .lane .ensures .0 ∙ ap (λ (i : ℕ). laneIn (s .args .b .now) i) e)
+
+-- so does the row
+within : (c : tie.After-struct-known2 Inv-loop2 μ-loop2 Inv-loop μ-loop Inv-loop3 μ-loop3)
+    → let s = c .before .before .before .before .before .before .before .before in
+    rowPlace (s .args .m) (c .before .before .before .before .loop .r) + rowBytes (s .args .m) ≤ length (s .args .b .now)
+within c =
+    let s = c .before .before .before .before .before .before .before .before in
+    row-room (s .args .b .now) (s .args .m) (c .before .before .before .before .loop .r) (s .pre .0) (c .before .before .before .loop-test .taken)
 
 mul-at-2 : tie.Need-mul-at-2 Inv-loop2 μ-loop2 Inv-loop μ-loop Inv-loop3 μ-loop3
-mul-at-2 c = search needs
+mul-at-2 c = record { fits = omega (arith, within c) }
 
 add-at-2 : tie.Need-add-at-2 Inv-loop2 μ-loop2 Inv-loop μ-loop Inv-loop3 μ-loop3
-add-at-2 c =
-    let s = c .before .before .before .before .before in
-    let o = c .before .before .before .loop in
-    record { fits = omega (arith, s .pre .1, s .pre .0 .cells, o .inv .1, row-room (s .args .b .now) (s .args .n) (s .args .k) (o .r) (s .pre .0) (c .before .before .loop-test .taken)) }
+add-at-2 c = record { fits = omega (arith, c .before .before .before .before .loop .inv .1, c .before .before .before .before .before .before .before .before .pre .1, within c) }
 
 add-r : tie.Need-add-r Inv-loop2 μ-loop2 Inv-loop μ-loop Inv-loop3 μ-loop3
 add-r c = search needs
@@ -104,11 +108,11 @@ loop-less c = search needs
 
 loop-again : tie.Need-loop-again Inv-loop2 μ-loop2 Inv-loop μ-loop Inv-loop3 μ-loop3
 loop-again c =
-    let s = c .before .before .before .before .before in
-    let o = c .before .before .before .loop in (
+    let s = c .before .before .before .before .before .before .before .before in
+    let o = c .before .before .before .before .loop in (
       search needs,
-      omega (arith, o .inv .1, next-place (o .r) (2 * s .args .k) (7 + o .r * (2 * s .args .k)) refl),
-      joined-row _ _ _ _ _ _ _ (c .before .loop2 .inv) (c .loop2-test .left),
+      omega (arith, o .inv .1, next-place (s .args .m) (o .r) (rowPlace (s .args .m) (o .r)) refl),
+      joined-row _ _ _ _ _ _ _ _ refl (c .before .before .loop2 .inv) (c .before .loop2-test .left),
     )
 
 loop3-holds : tie.Need-loop3-holds Inv-loop2 μ-loop2 Inv-loop μ-loop Inv-loop3 μ-loop3
@@ -126,9 +130,8 @@ add-seen c = search needs
 mul-seen-2 : tie.Need-mul-seen-2 Inv-loop2 μ-loop2 Inv-loop μ-loop Inv-loop3 μ-loop3
 mul-seen-2 c = search needs
 
-element-write-seen :
-    tie.Need-element-write-seen Inv-loop2 μ-loop2 Inv-loop μ-loop Inv-loop3 μ-loop3
-element-write-seen c = search needs
+slice-write-seen : tie.Need-slice-write-seen Inv-loop2 μ-loop2 Inv-loop μ-loop Inv-loop3 μ-loop3
+slice-write-seen c = omega (arith, c .before .loop3 .inv .1 .size, c .before .before .before .before .before .before .before .pre)
 
 add-j-2 : tie.Need-add-j-2 Inv-loop2 μ-loop2 Inv-loop μ-loop Inv-loop3 μ-loop3
 add-j-2 c = search needs
@@ -138,12 +141,21 @@ loop3-less c = search needs
 
 loop3-again : tie.Need-loop3-again Inv-loop2 μ-loop2 Inv-loop μ-loop Inv-loop3 μ-loop3
 loop3-again c =
-    let o = c .before .before .before .loop in
     let l = c .before .loop3 in
-    (search needs, filled-step _ _ _ _ _ _ (l .inv .1) (search needs) (joined-all _ _ _ _ _ _ _ (o .inv .0) (c .before .before .loop-test .left) (o .inv .2) (l .j) (omega arith) (c .loop3-test .taken)))
+    (search needs, filled-step _ _ _ _ _ _ (l .inv .1) (slice-write-seen c) (ap (λ (i : ℕ). getD (c .before .before .before .loop .kept) i 0) (omega arith)))
+
+same-length : tie.Need-same-length Inv-loop2 μ-loop2 Inv-loop μ-loop Inv-loop3 μ-loop3
+same-length c = search needs
 
 returns : tie.Need-returns Inv-loop2 μ-loop2 Inv-loop μ-loop Inv-loop3 μ-loop3
-returns c = filled-done _ _ _ _ _ _ (c .before .loop3 .inv .0) (c .loop3-test .left) (c .before .loop3 .inv .1)
+returns c =
+    let s = c .before .before .before .before .before .before .before in
+    let o = c .before .before .before .loop in
+    let l = c .before .loop3 in
+    filled-same _ _ _ _ _ _
+    (λ x a b. joined-all _ _ _ _ _ _ _ (o .inv .0) (c .before .before .loop-test .left) (o .inv .2) (x - s .args .c) (omega arith) (omega arith)
+    ∙ ap (λ (i : ℕ). merged (s .args .m .rows) (λ v. laneAt (s .args .b .now) (s .args .m) v i)) (omega arith))
+    (filled-done _ _ _ _ _ _ (l .inv .0) (c .loop3-test .left) (l .inv .1))
 
 pub wide-spec : {M : Type 1} → statement M
 wide-spec =
@@ -161,9 +173,9 @@ wide-spec =
     loop2-holds
     mul-kept
     array-read-kept
-    mul-cell
-    add-cell
-    cell-requires
+    mul-lane
+    add-lane
+    lane-requires
     mul-kept-2
     array-write-kept
     add-j
@@ -179,8 +191,9 @@ wide-spec =
     array-read-seen
     add-seen
     mul-seen-2
-    element-write-seen
+    slice-write-seen
     add-j-2
     loop3-less
     loop3-again
+    same-length
     returns)

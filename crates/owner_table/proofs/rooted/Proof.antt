@@ -1,6 +1,7 @@
--- `owner_table::rooted` meets its contract. After each doubling the table written last follows owners twice as often as the one before: 2, 4 and so on to 64.
+-- `owner_table::rooted` meets its contract. After each doubling the table written last follows owners twice as often as the one before: 2, 4 and so on to `reach`.
+use native.Mathlib.Omega.{arith}
 use mathlib.Core.Path.{refl, sym, _∙_}
-use Rattle.owner_table.specs.Table.{ownerIn, Follows, follows-once, follows-twice, follows-inside, lower-rooted, rooted-twice, follows-rooted}
+use Rattle.owner_table.specs.Table.{reach, ownerIn, Follows, follows-once, follows-twice, follows-inside, lower-rooted, rooted-twice, follows-rooted}
 use borrow.Author.Needs.{needs}
 use Rattle.owner_table.proofs.rooted.Statement.{statement}
 use Rattle.owner_table.proofs.rooted.Tie as tie
@@ -43,11 +44,11 @@ after-double4 c = follows-twice _ _ 8 _ _ _ (start16 c .pre .3) (after-double3 (
 after-double5 : (c : tie.After-double5) → Follows (start32 c .args .n) (ownerIn (start32 c .args .t .now)) 32 (c .double5 .last .1 .0)
 after-double5 c = follows-twice _ _ 16 _ _ _ (start32 c .pre .3) (after-double4 (c .before .before .before .before .before .before)) (after-double3 (c .before .before .before .before .before .before .before .before .before) .size) (c .double5 .ensures)
 
-after-double6 : (c : tie.After-double6) → Follows (start64 c .args .n) (ownerIn (start64 c .args .t .now)) 64 (c .double6 .last .1 .0)
+after-double6 : (c : tie.After-double6) → Follows (start64 c .args .n) (ownerIn (start64 c .args .t .now)) reach (c .double6 .last .1 .0)
 after-double6 c = follows-twice _ _ 32 _ _ _ (start64 c .pre .3) (after-double5 (c .before .before .before)) (after-double4 (c .before .before .before .before .before .before .before .before .before) .size) (c .double6 .ensures)
 
 returns : tie.Need-returns
-returns c = sym (lower-rooted _ _ (c .before .before .pre .1) (sym (c .before .descends .ensures) ∙ c .if1 .taken))
+returns c = sym (lower-rooted _ _ (omega (arith, c .before .before .pre .1)) (sym (c .before .descends .ensures) ∙ c .if1 .taken))
 
 double-requires : tie.Need-double-requires
 double-requires c κs = search needs
@@ -88,7 +89,7 @@ returns-3 : tie.Need-returns-3
 returns-3 c = sym (rooted-twice _ _ 32 (rooted-twice _ _ 16 (sym (follows-rooted _ _ 16 _ (after-double4 (c .before .before .before)) (c .before .all-root2 .ensures)) ∙ c .if3 .taken)))
 
 returns-4 : tie.Need-returns-4
-returns-4 c = follows-rooted _ _ 64 _ (after-double6 (c .before .before)) (c .all-root3 .ensures)
+returns-4 c = follows-rooted _ _ reach _ (after-double6 (c .before .before)) (c .all-root3 .ensures)
 
 pub rooted-spec : {M : Type 1} → statement M
 rooted-spec =

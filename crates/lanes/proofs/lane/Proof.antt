@@ -1,10 +1,10 @@
--- `lanes::cell` meets its contract: the first of two bytes is below 256, so it does not reach the upper part.
+-- `lanes::lane` meets its contract: the first of two bytes is below 256, so it does not reach the upper part.
 use borrow.Author.Needs.{needs}
 use Prim.Native.Nat.{_+_}
 use native.Mathlib.Omega.{arith}
 use mathlib.Core.Path.{refl}
-use Rattle.lanes.proofs.cell.Statement.{statement}
-use Rattle.lanes.proofs.cell.Tie as tie
+use Rattle.lanes.proofs.lane.Statement.{statement}
+use Rattle.lanes.proofs.lane.Tie as tie
 
 shared-slice-read-result : tie.Need-shared-slice-read-result
 shared-slice-read-result c = search needs
@@ -32,8 +32,8 @@ add-result-2 c =
 returns : tie.Need-returns
 returns c = (refl, omega (arith, c .shared-slice-known2 .given (c .before .before .args .at)))
 
-pub cell-spec : {M : Type 1} → statement M
-cell-spec =
+pub lane-spec : {M : Type 1} → statement M
+lane-spec =
     tie.close
     (tie.spec
     shared-slice-read-result
