@@ -16,7 +16,8 @@ use Rattle.matrix.specs.Names.{nameOf, columnOf, named}
 use Rattle.matrix.specs.Rights.{codeOf, rightOf}
 use Rattle.matrix.specs.State.{State, has}
 use Rattle.matrix.specs.Bytes.{bytesOfNumber, bit, joined}
-use Rattle.matrix.specs.Shape.{Shape, shapeOf, headerBytes, columns, cellPlace, bitsOf}
+use Rattle.matrix.specs.declared.Shape.{Shape}
+use Rattle.matrix.specs.Shape.{shapeOf, headerBytes, columns, cellPlace, bitsOf}
 use Rattle.matrix.specs.Reading.{cellAt, content, contentOf, cellOf, rowOf, header, bitAt, stateOf, bytesOf}
 use Rattle.matrix.specs.Shaped.{Shaped, Octets, Within}
 use Rattle.laws.specs.Tests.{same-test, and-left, and-right}

@@ -11,7 +11,8 @@ use lib.ListN.{getD}
 use borrow.Author.Tests.{eqb-true, eq-eqb}
 use Rattle.matrix.specs.Bounded.{all}
 use Rattle.matrix.specs.Bytes.{numberAt, bit}
-use Rattle.matrix.specs.Shape.{Shape, shapeOf, mostSubjects, mostPlain, columns, cellPlace, sizeOf}
+use Rattle.matrix.specs.declared.Shape.{Shape}
+use Rattle.matrix.specs.Shape.{shapeOf, mostSubjects, mostPlain, columns, cellPlace, sizeOf}
 use Rattle.matrix.specs.Reading.{cellAt}
 use Rattle.laws.specs.Tests.{same-test}
 use Rattle.laws.specs.Bounded.{all-same}

@@ -25,7 +25,8 @@ use Rattle.matrix.specs.Owners.{walk, linksOf}
 use Rattle.matrix.specs.Commands.{Raw, ruleOf, decode}
 use Rattle.matrix.specs.Bytes.{bytesOfNumber, joined}
 use Rattle.matrix.specs.Step.{walkLinks, refusal, links, next}
-use Rattle.matrix.specs.Shape.{Shape, shapeOf, basicsOf, bitsOf, columns, cellPlace}
+use Rattle.matrix.specs.declared.Shape.{Shape}
+use Rattle.matrix.specs.Shape.{shapeOf, basicsOf, bitsOf, columns, cellPlace}
 use Rattle.matrix.specs.Shaped.{Octets}
 use Rattle.matrix.specs.Reading.{Content, stateOf, content, contentOf, header, rowOf, cellAt, cellOf, bytesOf}
 use Rattle.matrix.specs.Record.{recordRefusal}

@@ -15,7 +15,8 @@ use Rattle.matrix.specs.Owners.{walk, meets}
 use Rattle.matrix.specs.Valid.{Valid}
 use Rattle.matrix.specs.Commands.{known}
 use Rattle.matrix.specs.Tests.{otherController}
-use Rattle.matrix.specs.Shape.{Shape, shapeOf, knownVersion, inRange, sized, basicsOf}
+use Rattle.matrix.specs.declared.Shape.{Shape}
+use Rattle.matrix.specs.Shape.{shapeOf, headerBytes, knownVersion, inRange, sized, basicsOf}
 use Rattle.matrix.specs.Reading.{stateOf}
 use Rattle.matrix.specs.CommandList.{wellFormed}
 use Rattle.matrix.specs.Calls.{questionFits, namesFit}
@@ -25,7 +26,7 @@ use Rattle.demands.specs.First.{Condition, condition}
 -- 1 to 5: the record is too short; its version is unknown; n or p is out of range; L or the length is wrong; the matrix is not valid
 abbrev pub recordConditions : List ℕ → List Condition
 recordConditions b =
-    condition 1 (length b < 7) ∷
+    condition 1 (length b < headerBytes) ∷
     condition 2 (knownVersion (shapeOf b .version) ≡ false) ∷
     condition 3 (inRange (shapeOf b) ≡ false) ∷
     condition 4 (sized b ≡ false) ∷

@@ -15,7 +15,8 @@ use Rattle.matrix.specs.Valid.{Valid}
 use Rattle.matrix.specs.Commands.{known, ruleOf, fieldsFit, decode}
 use Rattle.matrix.specs.Tests.{Test, test, firstFailed, commandTests}
 use Rattle.matrix.specs.Step.{refusalOf, refusal}
-use Rattle.matrix.specs.Shape.{Shape, shapeOf, basicsOf}
+use Rattle.matrix.specs.declared.Shape.{Shape}
+use Rattle.matrix.specs.Shape.{shapeOf, headerBytes, basicsOf}
 use Rattle.matrix.specs.Reading.{stateOf}
 use Rattle.matrix.specs.Record.{validMatrix, recordRefusal}
 use Rattle.matrix.specs.CommandList.{wellFormed}
@@ -48,9 +49,9 @@ record-numbered b =
     numbered (recordTests b) (recordConditions b)
     (short, λ a. (fails-test 2 _ (omega arith), λ c. (fails-test 3 _ (omega arith), λ d. (fails-test 4 _ (omega arith), λ e. (matrix, λ f. tt)))))
   where
-    short : Against (test 1 (leb 7 (length b))) (condition 1 (length b < 7))
+    short : Against (test 1 (leb headerBytes (length b))) (condition 1 (length b < headerBytes))
     short =
-        record { number = refl; some = omega arith; failed = λ e. leb-false 7 (length b) e; passed = λ e h. let l = leb-true 7 (length b) e in omega arith }
+        record { number = refl; some = omega arith; failed = λ e. leb-false headerBytes (length b) e; passed = λ e h. let l = leb-true headerBytes (length b) e in omega arith }
 
     matrix : Against (test 5 (validMatrix (shapeOf b) (stateOf b))) (condition 5 (Valid (stateOf b) → ⊥))
     matrix =

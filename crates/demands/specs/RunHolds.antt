@@ -13,7 +13,8 @@ use Rattle.matrix.specs.declared.Fields.{Fields}
 use Rattle.matrix.specs.declared.Outcome.{Outcome}
 use Rattle.matrix.specs.Numbers.{runNumbers}
 use Rattle.matrix.specs.State.{State}
-use Rattle.matrix.specs.Shape.{Shape, shapeOf}
+use Rattle.matrix.specs.declared.Shape.{Shape}
+use Rattle.matrix.specs.Shape.{shapeOf}
 use Rattle.matrix.specs.Shaped.{Octets}
 use Rattle.matrix.specs.Reading.{stateOf}
 use Rattle.matrix.specs.CommandList.{commandPlace, commandsIn, wellFormed, fieldsAt, commandsOf}

@@ -11,7 +11,7 @@ use borrow.Author.Tests.{eqb-true, eq-eqb}
 use Rattle.matrix.specs.declared.Fields.{Fields}
 use Rattle.matrix.specs.Bounded.{all}
 use Rattle.matrix.specs.Bytes.{numberAt, setNumber}
-use Rattle.matrix.specs.CommandList.{recordBytes, mostListBytes, commandPlace, commandsIn, wellFormed, fieldsAt, commandsFrom, commandsOf}
+use Rattle.matrix.specs.CommandList.{listHead, recordBytes, mostListBytes, lengthByte, commandPlace, commandsIn, wellFormed, fieldsAt, commandsFrom, commandsOf}
 use Rattle.laws.specs.Tests.{and-left, and-right}
 use Rattle.laws.specs.Bounded.{all-each, each-all}
 use Rattle.codec.specs.Numbers.{numberAt-agree, length-setNumber, getD-setNumber-other, numberAt-set-same}
@@ -35,14 +35,14 @@ version-right a b c d e f h =
 module _ (l : List ℕ) (right : wellFormed l ≡ true) where
   version : getD l 0 0 ≡ 1
   unfolding wellFormed
-  version = eqb-true (getD l 0 0) 1 (version-right (leb 5 (length l)) (eqb (getD l 0 0) 1) (eqb (5 + numberAt l 1 4) (length l)) (leb (numberAt l 1 4) mostListBytes) (eqb (numberAt l 1 4 % recordBytes) 0) (all (commandsIn l) (λ j. eqb (getD l (commandPlace j) 0) 5)) right)
+  version = eqb-true (getD l 0 0) 1 (version-right (leb listHead (length l)) (eqb (getD l 0 0) 1) (eqb (listHead + numberAt l 1 4) (length l)) (leb (numberAt l 1 4) mostListBytes) (eqb (numberAt l 1 4 % recordBytes) 0) (all (commandsIn l) (λ j. eqb (getD l (commandPlace j) 0) lengthByte)) right)
 
-  lengths : (j : ℕ) → j < commandsIn l → getD l (commandPlace j) 0 ≡ 5
+  lengths : (j : ℕ) → j < commandsIn l → getD l (commandPlace j) 0 ≡ lengthByte
   unfolding wellFormed
   lengths j h =
-      let front = leb 5 (length l) && eqb (getD l 0 0) 1 && eqb (5 + numberAt l 1 4) (length l) && leb (numberAt l 1 4) mostListBytes && eqb (numberAt l 1 4 % recordBytes) 0 in
-      let each = and-right front (all (commandsIn l) (λ j. eqb (getD l (commandPlace j) 0) 5)) right in
-      eqb-true (getD l (commandPlace j) 0) 5 (all-each (commandsIn l) (λ j. eqb (getD l (commandPlace j) 0) 5) each j h)
+      let front = leb listHead (length l) && eqb (getD l 0 0) 1 && eqb (listHead + numberAt l 1 4) (length l) && leb (numberAt l 1 4) mostListBytes && eqb (numberAt l 1 4 % recordBytes) 0 in
+      let each = and-right front (all (commandsIn l) (λ j. eqb (getD l (commandPlace j) 0) lengthByte)) right in
+      eqb-true (getD l (commandPlace j) 0) lengthByte (all-each (commandsIn l) (λ j. eqb (getD l (commandPlace j) 0) lengthByte) each j h)
 
   module _ (m : ℕ) (few : m ≤ commandsIn l) where
     abbrev cut : List ℕ
@@ -53,17 +53,17 @@ module _ (l : List ℕ) (right : wellFormed l ≡ true) where
     inside =
         let f = formed l right in
         let n : ℕ = numberAt l 1 4 in
-        let size : 5 + n ≡ length l = f .size in
-        let whole : n % 6 ≡ 0 = f .whole in
-        let most : m ≤ n / 6 = few in
+        let size : listHead + n ≡ length l = f .size in
+        let whole : n % recordBytes ≡ 0 = f .whole in
+        let most : m ≤ n / recordBytes = few in
         omega arith
 
     small : recordBytes * m ≤ mostListBytes
     small =
         let f = formed l right in
         let n : ℕ = numberAt l 1 4 in
-        let most : m ≤ n / 6 = few in
-        let bounded : n ≤ 60000 = f .bounded in
+        let most : m ≤ n / recordBytes = few in
+        let bounded : n ≤ mostListBytes = f .bounded in
         omega arith
 
     changed : List ℕ
@@ -77,7 +77,7 @@ module _ (l : List ℕ) (right : wellFormed l ≡ true) where
     unfolding changed
     cut-at i h = getD-take (commandPlace m) changed i 0 h
 
-    other-at : (i : ℕ) → i < commandPlace m → (1 ≤ i → i < 5 → ⊥) → getD cut i 0 ≡ getD l i 0
+    other-at : (i : ℕ) → i < commandPlace m → (1 ≤ i → i < listHead → ⊥) → getD cut i 0 ≡ getD l i 0
     unfolding changed
     other-at i h apart = cut-at i h ∙ getD-setNumber-other l 1 4 (recordBytes * m) i apart
 
@@ -93,7 +93,7 @@ module _ (l : List ℕ) (right : wellFormed l ≡ true) where
 
     each-length : lengthsRight cut m ≡ true
     unfolding lengthsRight
-    each-length = each-all m (lengthRight cut) (λ j h. eq-eqb (getD cut (commandPlace j) 0) 5 (other-at (commandPlace j) (omega arith) (λ a b. omega arith) ∙ lengths j (omega arith)))
+    each-length = each-all m (lengthRight cut) (λ j h. eq-eqb (getD cut (commandPlace j) 0) lengthByte (other-at (commandPlace j) (omega arith) (λ a b. omega arith) ∙ lengths j (omega arith)))
 
     number-of : recordBytes * m / recordBytes ≡ m
     number-of = omega arith

@@ -9,7 +9,8 @@ use Rattle.matrix.specs.declared.Fields.{Fields}
 use Rattle.matrix.specs.declared.Answer.{Answer}
 use Rattle.matrix.specs.Numbers.{commandNumbers}
 use Rattle.matrix.specs.State.{State}
-use Rattle.matrix.specs.Shape.{Shape, shapeOf}
+use Rattle.matrix.specs.declared.Shape.{Shape}
+use Rattle.matrix.specs.Shape.{shapeOf}
 use Rattle.matrix.specs.Shaped.{Octets}
 use Rattle.matrix.specs.Reading.{Content, stateOf, content, bytesOf}
 use Rattle.matrix.specs.Record.{recordRefusal}

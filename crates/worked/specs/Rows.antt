@@ -17,7 +17,8 @@ use Rattle.matrix.specs.Tests.{firstFailed}
 use Rattle.matrix.specs.Step.{refusalOf, refusal, links, next}
 use Rattle.matrix.specs.Bytes.{numberAt, bit, fromBits}
 use Rattle.matrix.specs.State.{State}
-use Rattle.matrix.specs.Shape.{Shape, shapeOf, basicsOf}
+use Rattle.matrix.specs.declared.Shape.{Shape}
+use Rattle.matrix.specs.Shape.{shapeOf, basicsOf}
 use Rattle.matrix.specs.Reading.{cellAt, bitAt, stateOf}
 use Rattle.matrix.specs.Record.{climb, validMatrix, recordRefusal}
 use Rattle.matrix.specs.Calls.{questionFits, rawOf, namesFit, refusalOn, linksOn, nextOn, runFrom}
