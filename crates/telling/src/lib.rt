@@ -2,9 +2,9 @@
 
 use matrix::Fields;
 use matrix::Form;
+use matrix::MOST_SUBJECTS;
 use matrix::Name;
 use matrix::Right;
-use matrix::MOST_SUBJECTS;
 ghost use mathlib.Core.Path.{_≡_};
 ghost use mathlib.Core.Bool.{cond, false, _&&_};
 ghost use mathlib.Core.List.{[], _∷_, _++_};
