@@ -10,6 +10,7 @@ use borrow.Author.Tests.{lt-ltb, le-ltb}
 use Rattle.matrix.specs.declared.Name.{Name}
 use Rattle.matrix.specs.declared.Right.{Right}
 use Rattle.matrix.specs.declared.Fields.{Fields}
+use Rattle.matrix.specs.declared.Shape.{Shape}
 use Rattle.matrix.specs.Bounded.{least}
 use Rattle.matrix.specs.State.{State, held, existsName}
 use Rattle.matrix.specs.Reading.{stateOf}
@@ -26,8 +27,8 @@ use Rattle.told.specs.Told.{Told}
 use Rattle.safety.specs.Asks.{Asks, Headed, PathOf}
 
 -- the same question with another name for its way
-pub asks-at : {b : List ℕ} {n p s : ℕ} {x : Name} {y : Right} {v w : Way} {out : List ℕ} → v ≡ w → Asks b n p s x y v out → Asks b n p s x y w out
-asks-at {b} {n} {p} {s} {x} {y} {out = out} e h = subst (λ (w : Way). Asks b n p s x y w out) e h
+pub asks-at : {b : List ℕ} {f : Shape} {s : ℕ} {x : Name} {y : Right} {v w : Way} {out : List ℕ} → v ≡ w → Asks b f s x y v out → Asks b f s x y w out
+asks-at {b} {f} {s} {x} {y} {out = out} e h = subst (λ (w : Way). Asks b f s x y w out) e h
 
 pub told-at : {S : State} {s : ℕ} {x : Name} {y : Right} {v w : Way} {out out′ : List ℕ} {r : Safety} → v ≡ w → Told S s x y w out out′ r → Told S s x y v out out′ r
 told-at {S} {s} {x} {y} {out = out} {out′ = out′} {r = r} e h = subst (λ (w : Way). Told S s x y w out out′ r) (sym e) h

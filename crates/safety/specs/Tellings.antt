@@ -1,7 +1,7 @@
 -- What is told of a way, from the parts that were written.
 use Prim.Native.Nat.{ℕ, _+_, _≤_, _<_}
 use native.Mathlib.Omega.{arith}
-use mathlib.Core.Path.{_≡_, refl, sym, _∙_, ap, ap₂}
+use mathlib.Core.Path.{_≡_, sym, _∙_, ap, ap₂}
 use mathlib.Core.Bool.{Bool, true, false, cond, not, _&&_, _||_}
 use mathlib.Core.List.{List, [], _∷_, _++_, append-nil}
 use lib.Dec.{eqb}
@@ -11,12 +11,15 @@ use Rattle.matrix.specs.declared.Name.{Name}
 use Rattle.matrix.specs.declared.Name.the-variants.{Subject}
 use Rattle.matrix.specs.declared.Right.{Right}
 use Rattle.matrix.specs.declared.Fields.{Fields}
+use Rattle.matrix.specs.declared.Shape.{Shape}
 use Rattle.matrix.specs.Names.{columnOf, sameName}
 use Rattle.matrix.specs.State.{State, exists}
+use Rattle.matrix.specs.Shape.{mostSubjects, basicsOf}
 use Rattle.matrix.specs.Reading.{stateOf}
-use Rattle.cells.specs.Places.{subjects-few, plains-few}
 use Rattle.codec.specs.Columns.{named-below}
-use Rattle.states.specs.Needs.{basicOf}
+use Rattle.codec.specs.ShapeRight.{ShapeRight, width-some, width-most}
+use Rattle.cells.specs.Station.{right-shape}
+use Rattle.states.specs.Needs.{RightIn}
 use Rattle.question.specs.declared.Safety.{Safety}
 use Rattle.question.specs.declared.Safety.the-variants.{Leaks}
 use Rattle.question.specs.Asked.{listRoom}
@@ -27,15 +30,16 @@ use Rattle.ways.specs.Ways.{Way, held-now, by-star, by-creation, from-above, li
 use Rattle.writing.specs.Put.{putAll, putList, HeadRoom}
 use Rattle.telling.specs.Tells.{Tells, tells-length}
 use Rattle.telling.specs.Parts.{Part}
+use Rattle.telling.specs.Paths.{PathRoom}
 use Rattle.told.specs.Told.{Told}
-use Rattle.safety.specs.Asks.{Asks, Headed}
+use Rattle.safety.specs.Asks.{Asks, Headed, PathOf}
 use Rattle.safety.specs.Steps.{headed-list}
 
--- the number of a basic right is called by two names
-pub same-basic : (y : Right) → basicNumber y ≡ basicOf y
-same-basic Right.Own = refl
-same-basic Right.Control = refl
-same-basic (Right.Basic k f) = refl
+-- the number of a right of a shape, 0 where it has none, is one of its basic rights'
+pub number-in : {f : Shape} (y : Right) → ShapeRight f → RightIn f y → basicNumber y < basicsOf f
+number-in {f} Right.Own g h = omega (arith, width-some f g)
+number-in {f} Right.Control g h = omega (arith, width-some f g)
+number-in (Right.Basic k e) g h = h
 
 -- a list that is written whole and headed is told
 pub told-held : {S : State} {s : ℕ} {x : Name} {y : Right} {out out′ : List ℕ} {r : Safety} → Headed out out′ 0 r → Told S s x y held-now out out′ r
@@ -80,51 +84,58 @@ module _ {S : State} {s : ℕ} {x : Name} {y : Right} {out mid out′ : List ℕ
 
 -- ---- the rooms for what is written
 
-module _ {b : List ℕ} {n p s : ℕ} {x : Name} {y : Right} {w : Way} {out : List ℕ} (q : Asks b n p s x y w out) where
-  few-subjects : n ≤ 64
-  few-subjects = subjects-few b n p (q .bit .station)
+module _ {b : List ℕ} {f : Shape} {s : ℕ} {x : Name} {y : Right} {w : Way} {out : List ℕ} (q : Asks b f s x y w out) where
+  shape : ShapeRight f
+  shape = right-shape (q .bit .station)
 
   columns-few : columnOf x < 256
-  columns-few =
-      let c : columnOf x < n + p = named-below n p x (q .bit .column) in
-      let k : p ≤ 192 = plains-few b n p (q .bit .station) in
-      let h : n ≤ 64 = few-subjects in
-      omega arith
+  columns-few = omega (arith, named-below (f .n) (f .p) x (q .bit .column), shape .high, shape .plain)
 
   -- a part of k commands from number j on, by subject v of the record
-  pub part-of : (v j k : ℕ) {mid : List ℕ} → v < n → j + k ≤ n + 2 → length mid ≡ length out → Part mid j k v s x y
-  part-of v j k l f e =
-      let r : listRoom (n + 2) ≤ length out = q .room in
-      let h : n ≤ 64 = few-subjects in
-      let t : s < n = q .bit .row in
-      let i : basicNumber y ≡ basicOf y = same-basic y in
-      let m : basicOf y < 7 = q .bit .right in
-      record { room = record { fits = omega arith }; by = omega arith; to = omega arith; over = columns-few; number = omega arith }
+  pub part-of : (v j k : ℕ) {mid : List ℕ} → v < f .n → j + k ≤ f .n + 2 → length mid ≡ length out → Part mid j k v s x y
+  part-of v j k l e h =
+      let r : listRoom (f .n + 2) ≤ length out = q .room in
+      let t : s < f .n = q .bit .row in
+      let few = shape .high in
+      record {
+        room = record { fits = omega arith };
+        by = omega (arith, few);
+        to = omega (arith, few);
+        over = columns-few;
+        number = omega (arith, number-in y shape (q .bit .right), width-most f shape);
+      }
 
-  pub head-of : {mid : List ℕ} {k : ℕ} → k ≤ n + 2 → length mid ≡ length out → HeadRoom mid k
-  head-of f e =
-      let r : listRoom (n + 2) ≤ length out = q .room in
-      let h : n ≤ 64 = few-subjects in
-      record { fits = omega arith; few = omega arith }
+  pub head-of : {mid : List ℕ} {k : ℕ} → k ≤ f .n + 2 → length mid ≡ length out → HeadRoom mid k
+  head-of e h = let r : listRoom (f .n + 2) ≤ length out = q .room in record { fits = omega arith; few = omega (arith, shape .high) }
 
   -- room for the head of a list of the way that was written whole
   pub head-by : {mid : List ℕ} {k : ℕ} {cs : List Fields} → cs ≡ listOf (stateOf b) s x y w → Tells out mid 0 cs k → HeadRoom mid k
   head-by {k = k} {cs = cs} e t =
-      let f : k ≡ 0 + length cs = t .next in
+      let i : k ≡ 0 + length cs = t .next in
       let g : length cs ≡ length (listOf (stateOf b) s x y w) = ap length e in
-      let h : length (listOf (stateOf b) s x y w) ≤ n + 2 = q .few in
+      let h : length (listOf (stateOf b) s x y w) ≤ f .n + 2 = q .few in
       head-of (omega arith) (tells-length t)
 
+  -- room for the subjects of a path, whose number is that of a path's entries at most
+  pub path-short : {path : List ℕ} {v m : ℕ} → PathOf path (f .n) v m → m ≤ mostSubjects
+  path-short h = omega (arith, h .passed, shape .high)
+
+  pub path-room : {path : List ℕ} {v m : ℕ} → PathOf path (f .n) v m → PathRoom out v m
+  path-room h =
+      let r : listRoom (f .n + 2) ≤ length out = q .room in
+      let l = h .passed in
+      record { room = record { fits = omega arith }; by = omega (arith, h .subject, shape .high); short = path-short h }
+
 -- room for the end of a list after the subjects of a path were destroyed
-pub finish-part : {b : List ℕ} {n p s : ℕ} {x : Name} {y : Right} {out first : List ℕ} {j : ℕ} (absent again : Bool) (v : ℕ) (ws : List ℕ) → Asks b n p s x y (from-above v ws) out → v < n
+pub finish-part : {b : List ℕ} {f : Shape} {s : ℕ} {x : Name} {y : Right} {out first : List ℕ} {j : ℕ} (absent again : Bool) (v : ℕ) (ws : List ℕ) → Asks b f s x y (from-above v ws) out → v < f .n
     → (destroysAll v ws ++ finish v s x y absent again) ≡ listOf (stateOf b) s x y (from-above v ws) → Tells out first 0 (destroysAll v ws) j
     → Part first j (cond again 2 0 + cond absent 2 1) v s x y
-finish-part {b} {n = n} {s = s} {x} {y} {j = j} absent again v ws q l e d =
-    let f : j ≡ 0 + length (destroysAll v ws) = d .next in
+finish-part {b} {f} {s = s} {x} {y} {j = j} absent again v ws q l e d =
+    let i : j ≡ 0 + length (destroysAll v ws) = d .next in
     let g : length (destroysAll v ws ++ finish v s x y absent again) ≡ length (listOf (stateOf b) s x y (from-above v ws)) = ap length e in
     let h : length (destroysAll v ws ++ finish v s x y absent again) ≡ length (destroysAll v ws) + length (finish v s x y absent again) = length-append (destroysAll v ws) (finish v s x y absent again) in
     let k : length (finish v s x y absent again) ≡ cond again 2 0 + cond absent 2 1 = finish-length v s x y absent again in
-    let m : length (listOf (stateOf b) s x y (from-above v ws)) ≤ n + 2 = q .few in
+    let m : length (listOf (stateOf b) s x y (from-above v ws)) ≤ f .n + 2 = q .few in
     part-of q v j (cond again 2 0 + cond absent 2 1) l (omega arith) (tells-length d)
 
 -- whether s still has to be created once x is, by the kind of x

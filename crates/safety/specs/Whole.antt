@@ -1,10 +1,9 @@
 -- The whole question on a record: from what the code tests and tells to what the call promises.
-use Prim.Native.Nat.{ℕ, _+_, _^_, _≤_, _<_}
+use Prim.Native.Nat.{ℕ, _+_, _≤_, _<_}
 use native.Mathlib.Omega.{arith}
-use mathlib.Core.Path.{_≡_, refl, sym, _∙_, ap, ap₂, subst, subst₂}
+use mathlib.Core.Path.{_≡_, refl, sym, _∙_, ap, subst, subst₂}
 use mathlib.Core.Bool.{Bool, true, false, _&&_}
 use mathlib.Core.List.{List}
-use lib.Dec.{ltb}
 use lib.ListN.{length}
 use Rattle.matrix.specs.declared.Name.{Name}
 use Rattle.matrix.specs.declared.Right.{Right}
@@ -19,9 +18,8 @@ use Rattle.matrix.specs.Calls.{questionFits}
 use Rattle.laws.specs.Tests.{and-left}
 use Rattle.codec.specs.RoundTrip.{within-read}
 use Rattle.owners.specs.Read.{valid-record}
-use Rattle.cells.specs.Station.{Station}
-use Rattle.states.specs.Needs.{basicOf, BitIn}
-use Rattle.holding.specs.Held.{withinQuestion}
+use Rattle.cells.specs.Station.{Station, right-shape}
+use Rattle.states.specs.Needs.{RightIn, BitIn}
 use Rattle.holding.specs.Asked.{asked-in}
 use Rattle.question.specs.declared.Safety.{Safety}
 use Rattle.question.specs.declared.Safety.the-variants.{Refused}
@@ -33,7 +31,7 @@ use Rattle.decision.specs.Decides.{Says, decides}
 use Rattle.told.specs.Told.{Told}
 use Rattle.told.specs.Decided.{Askable, told-decided, told-size}
 use Rattle.safety.specs.Asks.{Asks}
-use Rattle.safety.specs.Tellings.{same-basic}
+use Rattle.safety.specs.Tellings.{number-in}
 use Rattle.safety.specs.Turned.{turned-seven, turned-fifteen, answers}
 
 -- the list of a way has at most n + 2 commands
@@ -44,57 +42,54 @@ few-said f S trusted s x y (by-creation v) h = h .few
 few-said f S trusted s x y (from-above v ws) h = h .few
 few-said f S trusted s x y no-way h = omega arith
 
-module _ {b : List ℕ} {n p : ℕ} (valid : recordRefusal b ≡ 0) (station : Station b n p) where
-  same-named : (x : Name) → named n p x ≡ true → named (shapeOf b .n) (shapeOf b .p) x ≡ true
-  same-named x h = subst₂ (λ (m q : ℕ). named m q x ≡ true) (station .subjects) (station .plains) h
+module _ {b : List ℕ} {f : Shape} (valid : recordRefusal b ≡ 0) (station : Station b f) where
+  same-named : (x : Name) → named (f .n) (f .p) x ≡ true → named (shapeOf b .n) (shapeOf b .p) x ≡ true
+  same-named x h = rw (← station .shape) h
 
-  small-basic : (y : Right) → basicOf y < 7 → basicNumber y < basicsOf (shapeOf b)
-  unfolding shapeOf
-  small-basic y h = subst (λ (k : ℕ). k < 7) (sym (same-basic y)) h
+  same-number : (y : Right) → RightIn f y → basicNumber y < basicsOf (shapeOf b)
+  same-number y h = rw (← station .shape) (number-in y (right-shape station) h)
 
   -- a question of the record's names and rights asks what its way needs
-  pub asks-of : (trusted : ℕ → Bool) {s : ℕ} {x : Name} {y : Right} {out : List ℕ} → BitIn b n p y s x → listRoom (n + 2) ≤ length out → Asks b n p s x y (wayOf (stateOf b) trusted s x y) out
+  pub asks-of : (trusted : ℕ → Bool) {s : ℕ} {x : Name} {y : Right} {out : List ℕ} → BitIn b f y s x → listRoom (f .n + 2) ≤ length out → Asks b f s x y (wayOf (stateOf b) trusted s x y) out
   asks-of trusted {s} {x} {y} q room =
       let w = wayOf (stateOf b) trusted s x y in
-      let l : s < shapeOf b .n = subst (λ (m : ℕ). s < m) (station .subjects) (q .row) in
-      let h : length (listOf (stateOf b) s x y w) ≤ shapeOf b .n + 2 = few-said (shapeOf b) (stateOf b) trusted s x y w (decides (shapeOf b) (stateOf b) trusted s x y (valid-record b valid) (within-read b) l (same-named x (q .column)) (small-basic y (q .right))) in
-      record { bit = q; few = subst (λ (m : ℕ). length (listOf (stateOf b) s x y w) ≤ m + 2) (sym (station .subjects)) h; room = room }
+      let l : s < shapeOf b .n = rw (← station .shape) (q .row) in
+      let h : length (listOf (stateOf b) s x y w) ≤ shapeOf b .n + 2 = few-said (shapeOf b) (stateOf b) trusted s x y w (decides (shapeOf b) (stateOf b) trusted s x y (valid-record b valid) (within-read b) l (same-named x (q .column)) (same-number y (q .right))) in
+      record { bit = q; few = subst (λ (e : Shape). length (listOf (stateOf b) s x y w) ≤ e .n + 2) (sym (station .shape)) h; room = room }
 
-  fits-same : (mask s o right : ℕ) → (withinQuestion n p s o right && ltb mask (2 ^ n)) ≡ (questionFits (shapeOf b) s o right && trustFits (shapeOf b) mask)
-  unfolding shapeOf
-  fits-same mask s o right = ap₂ (λ (m q : ℕ). withinQuestion m q s o right && ltb mask (2 ^ m)) (station .subjects) (station .plains)
+  fits-same : (mask s o right : ℕ) → (questionFits f s o right && trustFits f mask) ≡ (questionFits (shapeOf b) s o right && trustFits (shapeOf b) mask)
+  fits-same mask s o right = ap (λ (e : Shape). questionFits e s o right && trustFits e mask) (station .shape)
 
-  module _ (mask s o right : ℕ) (out : List ℕ) {t : Bool} (fits : t ≡ (withinQuestion n p s o right && ltb mask (2 ^ n))) where
+  module _ (mask s o right : ℕ) (out : List ℕ) {t : Bool} (fits : t ≡ (questionFits f s o right && trustFits f mask)) where
     pub unfit : t ≡ false → Answers b mask s o right out out (Refused 7)
     unfit h = turned-seven b mask s o right out valid (fits ∙ fits-same mask s o right) h
 
     module _ (fit : t ≡ true) where
-      pub no-room : length out < listRoom (n + 2) → Answers b mask s o right out out (Refused 15)
+      pub no-room : length out < listRoom (f .n + 2) → Answers b mask s o right out out (Refused 15)
       no-room l =
           turned-fifteen b mask s o right out valid (fits ∙ fits-same mask s o right) fit
-          (subst (λ (m : ℕ). length out < listRoom (m + 2)) (station .subjects) l)
+          (subst (λ (e : Shape). length out < listRoom (e .n + 2)) (station .shape) l)
 
-      module _ {x : Name} {y : Right} (object : x ≡ nameOf n o) (code : y ≡ rightOf right) (room : listRoom (n + 2) ≤ length out) where
-        pub bit-asked : BitIn b n p y s x
-        bit-asked = asked-in b n p s o right station refl (and-left (withinQuestion n p s o right) (ltb mask (2 ^ n)) (sym fits ∙ fit)) code object
+      module _ {x : Name} {y : Right} (object : x ≡ nameOf (f .n) o) (code : y ≡ rightOf right) (room : listRoom (f .n + 2) ≤ length out) where
+        pub bit-asked : BitIn b f y s x
+        bit-asked = asked-in b f s o right station refl (and-left (questionFits f s o right) (trustFits f mask) (sym fits ∙ fit)) code object
+
+        here : x ≡ nameOf (shapeOf b .n) o
+        here = object ∙ ap (λ (e : Shape). nameOf (e .n) o) (station .shape)
 
         askable : Askable b s o right out
         askable =
             let q = bit-asked in
             record {
               valid = valid;
-              subject = subst (λ (m : ℕ). s < m) (station .subjects) (q .row);
+              subject = rw (← station .shape) (q .row);
               object = subst (λ (z : Name). named (shapeOf b .n) (shapeOf b .p) z ≡ true) here (same-named x (q .column));
-              basic = subst (λ (z : Right). basicNumber z < basicsOf (shapeOf b)) code (small-basic y (q .right));
-              room = subst (λ (m : ℕ). listRoom (m + 2) ≤ length out) (station .subjects) room;
+              basic = subst (λ (z : Right). basicNumber z < basicsOf (shapeOf b)) code (same-number y (q .right));
+              room = subst (λ (e : Shape). listRoom (e .n + 2) ≤ length out) (station .shape) room;
             }
-          where
-            here : x ≡ nameOf (shapeOf b .n) o
-            here = object ∙ ap (λ (m : ℕ). nameOf m o) (station .subjects)
 
         pub answered : {out′ : List ℕ} {r : Safety} → Told (stateOf b) s x y (wayOf (stateOf b) (trustedBy mask) s x y) out out′ r → Answers b mask s o right out out′ r
         answered {out′} {r} h =
-            let here : x ≡ nameOf (shapeOf b .n) o = object ∙ ap (λ (m : ℕ). nameOf m o) (station .subjects) in
             let g : Told (stateOf b) s (nameOf (shapeOf b .n) o) (rightOf right) (wayOf (stateOf b) (trustedBy mask) s (nameOf (shapeOf b .n) o) (rightOf right)) out out′ r =
             subst₂ (λ (x : Name) (y : Right). Told (stateOf b) s x y (wayOf (stateOf b) (trustedBy mask) s x y) out out′ r) here code h in
             answers b mask s o right out valid (fits ∙ fits-same mask s o right) fit (askable .room) (told-decided b mask s o right out askable g) (told-size b mask s o right out askable g)

@@ -5,8 +5,7 @@ use borrow.Author.Tests.{not-true, not-false}
 use Rattle.matrix.specs.Record.{recordRefusal}
 use Rattle.matrix.specs.Shaped.{Octets}
 use Rattle.owners.specs.Read.{valid-record}
-use Rattle.cells.specs.Station.{Station}
-use Rattle.cells.specs.Places.{subjects-few, plains-few}
+use Rattle.cells.specs.Station.{Station, right-shape}
 use Rattle.opening.specs.Opened.{station-of, long-enough}
 use Rattle.question.specs.Trust.{trustedBy}
 use Rattle.safety.specs.Turned.{turned-record}
@@ -25,39 +24,38 @@ right c = sym (c .before .refusal-with .ensures .0) ∙ c .if1 .left
 octets : (c : tie.Else1) → Octets (c .before .before .before .before .before .args .b .now)
 octets c = record { octet = λ j. c .before .before .before .before .shared-slice-known .given j .fits }
 
-opened : (c : tie.After-byte2) → Station (c .before .before .before .before .before .before .before .args .b .now) (c .before .byte .result) (c .byte2 .result)
-opened c = station-of (octets (c .before .before)) (right (c .before .before)) (c .before .byte .ensures) (c .byte2 .ensures)
+opened : (c : tie.After-shape) → Station (c .before .before .before .before .before .before .args .b .now) (c .shape .result)
+opened c = station-of (octets (c .before)) (right (c .before)) (c .shape .ensures)
 
 returns : tie.Need-returns
 returns c = turned-record _ _ _ _ _ _ (c .before .refusal-with .ensures .0) (c .if1 .taken)
 
-byte-requires : tie.Need-byte-requires
-byte-requires c κs = omega (arith, long-enough _ (right c))
-
-byte-requires-2 : tie.Need-byte-requires-2
-byte-requires-2 c κs = omega (arith, long-enough _ (right (c .before)))
+shape-requires : tie.Need-shape-requires
+shape-requires c κs = long-enough _ (right c)
 
 within-bounds-requires : tie.Need-within-bounds-requires
-within-bounds-requires c κs = (subjects-few _ _ _ (opened c), plains-few _ _ _ (opened c))
+within-bounds-requires c κs = right-shape (opened c)
 
 returns-2 : tie.Need-returns-2
 returns-2 c =
-    let a = c .before .before .before .before .before .before .before .before .before .args in
-    unfit (right (c .before .before .before .before)) (opened (c .before .before)) (a .trust) (a .s) (a .o) (a .right) (a .out .now) (c .before .within-bounds .ensures) (not-true _ (c .if2 .taken))
+    let f = c .before .before in
+    let a = f .before .before .before .before .before .before .args in
+    unfit (right (f .before)) (opened f) (a .trust) (a .s) (a .o) (a .right) (a .out .now) (c .before .within-bounds .ensures) (not-true _ (c .if2 .taken))
 
 add-if3 : tie.Need-add-if3
-add-if3 c = omega (arith, subjects-few _ _ _ (opened (c .before .before)))
+add-if3 c = omega (arith, right-shape (opened (c .before .before .before)) .high)
 
 mul-if3 : tie.Need-mul-if3
-mul-if3 c = omega (arith, subjects-few _ _ _ (opened (c .before .before)))
+mul-if3 c = omega (arith, right-shape (opened (c .before .before .before)) .high)
 
 add-if3-2 : tie.Need-add-if3-2
-add-if3-2 c = omega (arith, subjects-few _ _ _ (opened (c .before .before)))
+add-if3-2 c = omega (arith, right-shape (opened (c .before .before .before)) .high)
 
 returns-3 : tie.Need-returns-3
 returns-3 c =
-    let a = c .before .before .before .before .before .before .before .before .before .before .args in
-    no-room (right (c .before .before .before .before .before)) (opened (c .before .before .before)) (a .trust) (a .s) (a .o) (a .right) (a .out .now) (c .before .before .within-bounds .ensures) (not-false _ (c .before .if2 .left)) (c .if3 .taken)
+    let f = c .before .before .before .before in
+    let a = f .before .before .before .before .before .before .args in
+    no-room (right (f .before)) (opened f) (a .trust) (a .s) (a .o) (a .right) (a .out .now) (c .before .before .before .within-bounds .ensures) (not-false _ (c .before .before .if2 .left)) (c .if3 .taken)
 
 name-of-requires : tie.Need-name-of-requires
 name-of-requires c κs = search needs
@@ -68,14 +66,14 @@ right-of-requires c κs = search needs
 decide-requires : tie.Need-decide-requires
 decide-requires c κs =
     let r = c .before .before in
-    let o = opened (r .before .before .before .before .before) in
-    let e1 = r .before .before .before .before .before .before .before in
-    let a = e1 .before .before .before .before .before .args in
+    let f = r .before .before .before .before .before .before in
+    let e = f .before in
+    let a = e .before .before .before .before .before .args in
     let room = r .before .before .if3 .left in (
-      asks-of (right e1) o (trustedBy (a .trust))
-          (bit-asked (right e1) o (a .trust) (a .s) (a .o) (a .right) (a .out .now) (r .before .before .before .before .within-bounds .ensures) (not-false _ (r .before .before .before .if2 .left)) (r .before .name-of .ensures) (r .right-of .ensures) room)
+      asks-of (right e) (opened f) (trustedBy (a .trust))
+          (bit-asked (right e) (opened f) (a .trust) (a .s) (a .o) (a .right) (a .out .now) (r .before .before .before .before .before .within-bounds .ensures) (not-false _ (r .before .before .before .before .if2 .left)) (r .before .name-of .ensures) (r .right-of .ensures) room)
           room,
-      record { station = o; valid = valid-record _ (right e1); size = e1 .before .refusal-with .ensures .1 },
+      record { station = opened f; valid = valid-record _ (right e); size = e .before .refusal-with .ensures .1 },
     )
 
 same-length : tie.Need-same-length
@@ -84,9 +82,10 @@ same-length c = search needs
 returns-4 : tie.Need-returns-4
 returns-4 c =
     let r = c .before .before .before .before .before in
-    let e1 = r .before .before .before .before .before .before .before in
-    let a = e1 .before .before .before .before .before .args in
-    answered (right e1) (opened (r .before .before .before .before .before)) (a .trust) (a .s) (a .o) (a .right) (a .out .now) (r .before .before .before .before .within-bounds .ensures) (not-false _ (r .before .before .before .if2 .left)) (r .before .name-of .ensures) (r .right-of .ensures) (r .before .before .if3 .left) (c .before .before .decide .ensures)
+    let f = r .before .before .before .before .before .before in
+    let e = f .before in
+    let a = e .before .before .before .before .before .args in
+    answered (right e) (opened f) (a .trust) (a .s) (a .o) (a .right) (a .out .now) (r .before .before .before .before .before .within-bounds .ensures) (not-false _ (r .before .before .before .before .if2 .left)) (r .before .name-of .ensures) (r .right-of .ensures) (r .before .before .if3 .left) (c .before .before .decide .ensures)
 
 pub ask-spec : {M : Type 1} → statement M
 ask-spec =
@@ -94,8 +93,7 @@ ask-spec =
     (tie.spec
     refusal-with-requires
     returns
-    byte-requires
-    byte-requires-2
+    shape-requires
     within-bounds-requires
     returns-2
     add-if3

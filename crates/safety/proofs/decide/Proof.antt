@@ -30,34 +30,34 @@ star-holder-requires : tie.Need-star-holder-requires
 star-holder-requires c κs = search needs
 
 by-star-requires : tie.Need-by-star-requires
-by-star-requires c κs = (asks-at (way-star _ _ _ _ _ (c .before .before .before .before .before .before .is-held .ensures) (c .before .before .before .before .before .if1 .left) (c .before .before .before .before .is-possible .ensures) (not-false _ (c .before .before .before .if2 .left)) (top-is _ _ _ (c .before .before .before .before .before .before .before .before .before .pre .0 .bit .station)) (c .before .before .star-holder .ensures) (c .before .if3 .taken)) (c .before .before .before .before .before .before .before .before .before .pre .0), c .before .if3 .taken)
+by-star-requires c κs = (asks-at (way-star _ _ _ _ _ (c .before .before .before .before .before .before .is-held .ensures) (c .before .before .before .before .before .if1 .left) (c .before .before .before .before .is-possible .ensures) (not-false _ (c .before .before .before .if2 .left)) (top-is _ _ (c .before .before .before .before .before .before .before .before .before .pre .0 .bit .station)) (c .before .before .star-holder .ensures) (c .before .if3 .taken)) (c .before .before .before .before .before .before .before .before .before .pre .0), c .before .if3 .taken)
 
 same-length-2 : tie.Need-same-length-2
 same-length-2 c = search needs
 
 returns-3 : tie.Need-returns-3
-returns-3 c = told-at (way-star _ _ _ _ _ (c .before .before .before .before .before .before .before .before .before .is-held .ensures) (c .before .before .before .before .before .before .before .before .if1 .left) (c .before .before .before .before .before .before .before .is-possible .ensures) (not-false _ (c .before .before .before .before .before .before .if2 .left)) (top-is _ _ _ (c .before .before .before .before .before .before .before .before .before .before .before .before .pre .0 .bit .station)) (c .before .before .before .before .before .star-holder .ensures) (c .before .before .before .before .if3 .taken)) (c .before .before .by-star .ensures)
+returns-3 c = told-at (way-star _ _ _ _ _ (c .before .before .before .before .before .before .before .before .before .is-held .ensures) (c .before .before .before .before .before .before .before .before .if1 .left) (c .before .before .before .before .before .before .before .is-possible .ensures) (not-false _ (c .before .before .before .before .before .before .if2 .left)) (top-is _ _ (c .before .before .before .before .before .before .before .before .before .before .before .before .pre .0 .bit .station)) (c .before .before .before .before .before .star-holder .ensures) (c .before .before .before .before .if3 .taken)) (c .before .before .by-star .ensures)
 
 name-exists-requires : tie.Need-name-exists-requires
 name-exists-requires c κs = search needs
 
 over-requires : tie.Need-over-requires
-over-requires c κs = (asks-at (way-over _ _ _ _ _ (c .before .before .before .before .before .before .before .before .is-held .ensures) (c .before .before .before .before .before .before .before .if1 .left) (c .before .before .before .before .before .before .is-possible .ensures) (not-false _ (c .before .before .before .before .before .if2 .left)) (top-is _ _ _ (c .before .before .before .before .before .before .before .before .before .before .before .pre .0 .bit .station)) (c .before .before .before .before .star-holder .ensures) (c .before .before .before .if3 .left) (c .before .before .name-exists .ensures) (c .before .if4 .taken)) (c .before .before .before .before .before .before .before .before .before .before .before .pre .0), c .before .before .before .before .before .before .before .before .before .before .before .pre .1)
+over-requires c κs = (asks-at (way-over _ _ _ _ _ (c .before .before .before .before .before .before .before .before .is-held .ensures) (c .before .before .before .before .before .before .before .if1 .left) (c .before .before .before .before .before .before .is-possible .ensures) (not-false _ (c .before .before .before .before .before .if2 .left)) (top-is _ _ (c .before .before .before .before .before .before .before .before .before .before .before .pre .0 .bit .station)) (c .before .before .before .before .star-holder .ensures) (c .before .before .before .if3 .left) (c .before .before .name-exists .ensures) (c .before .if4 .taken)) (c .before .before .before .before .before .before .before .before .before .before .before .pre .0), c .before .before .before .before .before .before .before .before .before .before .before .pre .1)
 
 same-length-3 : tie.Need-same-length-3
 same-length-3 c = search needs
 
 returns-4 : tie.Need-returns-4
-returns-4 c = told-at (way-over _ _ _ _ _ (c .before .before .before .before .before .before .before .before .before .before .before .is-held .ensures) (c .before .before .before .before .before .before .before .before .before .before .if1 .left) (c .before .before .before .before .before .before .before .before .before .is-possible .ensures) (not-false _ (c .before .before .before .before .before .before .before .before .if2 .left)) (top-is _ _ _ (c .before .before .before .before .before .before .before .before .before .before .before .before .before .before .pre .0 .bit .station)) (c .before .before .before .before .before .before .before .star-holder .ensures) (c .before .before .before .before .before .before .if3 .left) (c .before .before .before .before .before .name-exists .ensures) (c .before .before .before .before .if4 .taken)) (c .before .before .over .ensures)
+returns-4 c = told-at (way-over _ _ _ _ _ (c .before .before .before .before .before .before .before .before .before .before .before .is-held .ensures) (c .before .before .before .before .before .before .before .before .before .before .if1 .left) (c .before .before .before .before .before .before .before .before .before .is-possible .ensures) (not-false _ (c .before .before .before .before .before .before .before .before .if2 .left)) (top-is _ _ (c .before .before .before .before .before .before .before .before .before .before .before .before .before .before .pre .0 .bit .station)) (c .before .before .before .before .before .before .before .star-holder .ensures) (c .before .before .before .before .before .before .if3 .left) (c .before .before .before .before .before .name-exists .ensures) (c .before .before .before .before .if4 .taken)) (c .before .before .over .ensures)
 
 made-requires : tie.Need-made-requires
-made-requires c κs = asks-at (way-made _ _ _ _ _ (c .before .before .before .before .before .before .before .before .is-held .ensures) (c .before .before .before .before .before .before .before .if1 .left) (c .before .before .before .before .before .before .is-possible .ensures) (not-false _ (c .before .before .before .before .before .if2 .left)) (top-is _ _ _ (c .before .before .before .before .before .before .before .before .before .before .before .pre .0 .bit .station)) (c .before .before .before .before .star-holder .ensures) (c .before .before .before .if3 .left) (c .before .before .name-exists .ensures) (c .before .if4 .left)) (c .before .before .before .before .before .before .before .before .before .before .before .pre .0)
+made-requires c κs = asks-at (way-made _ _ _ _ _ (c .before .before .before .before .before .before .before .before .is-held .ensures) (c .before .before .before .before .before .before .before .if1 .left) (c .before .before .before .before .before .before .is-possible .ensures) (not-false _ (c .before .before .before .before .before .if2 .left)) (top-is _ _ (c .before .before .before .before .before .before .before .before .before .before .before .pre .0 .bit .station)) (c .before .before .before .before .star-holder .ensures) (c .before .before .before .if3 .left) (c .before .before .name-exists .ensures) (c .before .if4 .left)) (c .before .before .before .before .before .before .before .before .before .before .before .pre .0)
 
 same-length-4 : tie.Need-same-length-4
 same-length-4 c = search needs
 
 returns-5 : tie.Need-returns-5
-returns-5 c = told-at (way-made _ _ _ _ _ (c .before .before .before .before .before .before .before .before .before .before .before .is-held .ensures) (c .before .before .before .before .before .before .before .before .before .before .if1 .left) (c .before .before .before .before .before .before .before .before .before .is-possible .ensures) (not-false _ (c .before .before .before .before .before .before .before .before .if2 .left)) (top-is _ _ _ (c .before .before .before .before .before .before .before .before .before .before .before .before .before .before .pre .0 .bit .station)) (c .before .before .before .before .before .before .before .star-holder .ensures) (c .before .before .before .before .before .before .if3 .left) (c .before .before .before .before .before .name-exists .ensures) (c .before .before .before .before .if4 .left)) (c .before .before .made .ensures)
+returns-5 c = told-at (way-made _ _ _ _ _ (c .before .before .before .before .before .before .before .before .before .before .before .is-held .ensures) (c .before .before .before .before .before .before .before .before .before .before .if1 .left) (c .before .before .before .before .before .before .before .before .before .is-possible .ensures) (not-false _ (c .before .before .before .before .before .before .before .before .if2 .left)) (top-is _ _ (c .before .before .before .before .before .before .before .before .before .before .before .before .before .before .pre .0 .bit .station)) (c .before .before .before .before .before .before .before .star-holder .ensures) (c .before .before .before .before .before .before .if3 .left) (c .before .before .before .before .before .name-exists .ensures) (c .before .before .before .before .if4 .left)) (c .before .before .made .ensures)
 
 pub decide-spec : {M : Type 1} → statement M
 decide-spec =

@@ -2,13 +2,13 @@
 use Rattle.matrix.specs.Reading.{stateOf}
 use Rattle.ways.specs.Path.{listed}
 use Rattle.telling.specs.Tells.{tells-then}
-use Rattle.safety.specs.Tellings.{head-by, owned-list, above-list, finish-part, told-above}
+use Rattle.safety.specs.Tellings.{head-by, path-short, path-room, owned-list, above-list, finish-part, told-above}
 use borrow.Author.Needs.{needs}
 use Rattle.safety.proofs.from_above.Statement.{statement}
 use Rattle.safety.proofs.from_above.Tie as tie
 
 put-destroys-requires : tie.Need-put-destroys-requires
-put-destroys-requires c κs = search needs
+put-destroys-requires c κs = let q = c .before .before .before .pre in path-room (q .0) (q .1)
 
 owns-then-requires : tie.Need-owns-then-requires
 owns-then-requires c κs = search needs
@@ -27,7 +27,9 @@ returns c =
     told-above (a .v) (listed (a .path .now) (a .m)) (owned-list (stateOf (a .b .now)) (a .s) (a .x) (a .y) (a .v) (listed (a .path .now) (a .m)) (c .before .before .before .before .before .owns-then .ensures) (c .before .before .before .before .if1 .taken)) (c .before .before .before .before .before .before .before .before .put-destroys .ensures) (c .before .before .leaks .ensures)
 
 gone-requires : tie.Need-gone-requires
-gone-requires c κs = search needs
+gone-requires c κs =
+    let q = c .before .before .before .before .before .before .before .before .pre in
+    (q .0 .bit .station, q .0 .bit .row, q .1 .size, path-short (q .0) (q .1))
 
 again-needed-requires : tie.Need-again-needed-requires
 again-needed-requires c κs = search needs
