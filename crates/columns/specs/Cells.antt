@@ -84,6 +84,10 @@ pub counted-most : (n : ℕ) → n ≤ mostSubjects → lanesOf n ≤ mostCounte
 unfolding lanesOf
 counted-most n h = omega arith
 
+-- a list of the subjects' lanes serves as a table of the subjects: a cell has one lane
+pub table-most : mostCounted ≡ mostSubjects
+table-most = refl
+
 pub last-row : (c j : ℕ) → c < mostSubjects + mostPlain → j ≡ lastLane c → j < mostRow
 last-row c j h e = omega (arith, last-inside c _ h, row-most _ (le-refl (mostSubjects + mostPlain)))
 

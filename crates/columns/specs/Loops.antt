@@ -1,21 +1,22 @@
 -- Laws for the tests of columns.
 use Prim.Native.Nat.{ℕ, _+_, _*_, _/_, _%_, _≤_, _<_}
+use native.Mathlib.Nat.{div-div-eq-div-mul}
 use native.Mathlib.Omega.{arith}
 use mathlib.Core.Path.{_≡_, refl, sym, _∙_, ap}
-use mathlib.Core.Logic.{⊎-elim}
-use mathlib.Core.Bool.{Bool, true, false, not, _&&_}
+use mathlib.Core.Logic.{_⊎_, inl, inr, ⊎-elim}
+use mathlib.Core.Bool.{Bool, true, false, cond, not, _&&_}
 use mathlib.Core.List.{List}
 use lib.Dec.{eqb}
 use lib.ListN.{getD}
-use borrow.Author.Tests.{eq-eqb, ne-eqb}
+use borrow.Author.Tests.{eqb-true, eqb-false, eq-eqb, ne-eqb}
 use Rattle.matrix.specs.Bounded.{all}
 use Rattle.matrix.specs.Bytes.{bit}
-use Rattle.laws.specs.Tests.{way}
+use Rattle.laws.specs.Tests.{way, fails}
 use Rattle.laws.specs.Bounded.{all-same, all-each}
 use Rattle.lanes.specs.declared.Matrix.{Matrix}
 use Rattle.lanes.specs.Lanes.{merged, rowBytes, rowPlace}
 use Rattle.lanes.specs.Zeros.{merged-zero}
-use Rattle.columns.specs.Cells.{lastLane, bitsIn, last-inside}
+use Rattle.columns.specs.Cells.{lastLane, bitsIn, last-inside, bits-zero}
 use Rattle.columns.specs.Checks.{present, zeroFrom, rootCounts, otherCounts, countTest, unseen, subjectAt, subjectTest, ownedOnly, plainTest, plainWrong, Celled}
 
 -- bit 1, as the code tests it
@@ -78,6 +79,38 @@ plain-right seen c = ⊎-elim (λ e. rw e refl) (λ e. rw e refl) (way (ownedOnl
 
 pub plains-right : (seen : List ℕ) (n p : ℕ) → eqb (merged p (λ i. plainWrong seen (n + i))) 0 ≡ all p (λ i. plainTest seen (n + i))
 plains-right seen n p = merged-zero p _ ∙ all-same p _ _ (λ i l. plain-right seen (n + i))
+
+-- the test of a plain column by own and control, which are the bits 8 and 9 of its last lane
+owned-bits : (v : ℕ) (z : Bool) → (z ≡ true → v ≡ 0) → cond (eqb (v / 256 % 4) 1) true z ≡ cond (bit 8 v) (not (bit 9 v)) z
+unfolding bit
+owned-bits v z none = go (way (eqb (v / 256 % 2) 1)) (way (eqb (v / 512 % 2) 1))
+  where
+    half : v / 256 / 2 ≡ v / 512
+    half = div-div-eq-div-mul v 256 2
+
+    -- the lower of two bits alone
+    lower : (w : ℕ) → w % 2 ≡ 1 → (w / 2 % 2 ≡ 1 → ⊥) → w % 4 ≡ 1
+    lower w o n = let z : w / 2 % 2 ≡ 0 = omega arith in omega arith
+
+    go : (eqb (v / 256 % 2) 1 ≡ true) ⊎ (eqb (v / 256 % 2) 1 ≡ false) → (eqb (v / 512 % 2) 1 ≡ true) ⊎ (eqb (v / 512 % 2) 1 ≡ false)
+        → cond (eqb (v / 256 % 4) 1) true z ≡ cond (eqb (v / 256 % 2) 1) (not (eqb (v / 512 % 2) 1)) z
+    go (inl e) (inl f) =
+        let p : v / 256 % 2 ≡ 1 = eqb-true _ 1 e in
+        let q : v / 512 % 2 ≡ 1 = eqb-true _ 1 f in
+        rw (e, f, ne-eqb (v / 256 % 4) 1 (λ h. omega (arith, half))) (fails z (λ t. omega (arith, none t)))
+    go (inl e) (inr f) =
+        let p : v / 256 % 2 ≡ 1 = eqb-true _ 1 e in
+        let q : v / 512 % 2 ≡ 1 → ⊥ = eqb-false _ 1 f in
+        rw (e, f, eq-eqb (v / 256 % 4) 1 (lower (v / 256) p (λ h. q (ap (λ (x : ℕ). x % 2) (sym half) ∙ h)))) refl
+    go (inr e) f =
+        let p : v / 256 % 2 ≡ 1 → ⊥ = eqb-false _ 1 e in
+        rw (e, ne-eqb (v / 256 % 4) 1 (λ h. p (omega arith))) refl
+
+pub plain-bits : (seen : List ℕ) (c : ℕ) →
+    let v = getD seen (lastLane c) 0 in
+    plainTest seen c ≡ cond (bit 8 v) (not (bit 9 v)) (unseen seen c)
+unfolding plainTest
+plain-bits seen c = owned-bits (getD seen (lastLane c) 0) (unseen seen c) (bits-zero (λ j. getD seen j 0) c)
 
 -- an absent subject: U, one with something in its column, any other
 pub absent-root : (s : ℕ) (t : Bool) → s ≡ 0 → false ≡ (not (eqb s 0) && t)

@@ -6,6 +6,7 @@ use lib.Dec.{eqb, ltb, leb}
 use Rattle.matrix.specs.Bounded.{any, all, count, least}
 use Rattle.lanes.specs.Lanes.{markOf}
 use Rattle.owner_table.specs.Followed.{followed}
+use Rattle.owner_table.specs.Table.{reach}
 
 -- the row that a subject's owner is followed to; a subject with no owner stays where it is
 abbrev pub ownerStep : ℕ → (ℕ → ℕ → Bool) → ℕ → ℕ
@@ -48,12 +49,12 @@ subjectRight n k O C Z s =
 unfoldable pub plainRight : ℕ → (ℕ → ℕ → Bool) → (ℕ → ℕ → Bool) → (ℕ → ℕ → Bool) → ℕ → Bool
 plainRight n O C Z c = cond (any n (λ w. O w c)) (not (any n (λ w. C w c))) (all n (λ w. Z w c))
 
--- the owner of each subject that has just one, 0 if it has none, and that following it 64 times comes to U
+-- the owner of each subject that has just one, 0 if it has none, and that following it `reach` times comes to U
 abbrev pub ownerMark : ℕ → (ℕ → ℕ → Bool) → ℕ → ℕ
 ownerMark n O s = markOf n (λ w. O w s)
 
 abbrev pub allAscend : ℕ → (ℕ → ℕ → Bool) → Bool
-allAscend n O = all n (λ s. eqb (followed (ownerMark n O) 64 s) 0)
+allAscend n O = all n (λ s. eqb (followed (ownerMark n O) reach s) 0)
 
 abbrev pub testsPass : ℕ → ℕ → (ℕ → ℕ → Bool) → (ℕ → ℕ → Bool) → (ℕ → ℕ → Bool) → Bool
 testsPass n p O C Z = all n (subjectRight n (n + p) O C Z) && all p (λ i. plainRight n O C Z (n + i)) && allAscend n O

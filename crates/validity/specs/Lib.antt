@@ -3,7 +3,6 @@ pub mod Sound
 pub mod Tested
 pub mod Cells
 pub mod Valid
-pub mod Merged
 pub mod Passed
 pub mod Header
 pub mod Whole

@@ -1,9 +1,9 @@
 -- The lists that the pass has filled hold what the tests of a matrix ask for.
-use Prim.Native.Nat.{ℕ, _+_, _*_, _%_, _≤_, _<_}
+use Prim.Native.Nat.{ℕ, zero, suc, _+_, _*_, _%_, _≤_, _<_}
 use native.Mathlib.Omega.{arith}
 use mathlib.Core.Path.{_≡_, refl, sym, _∙_, ap}
 use mathlib.Core.Logic.{_⊎_, inl, inr}
-use mathlib.Core.Bool.{Bool, true, false, cond, not, _&&_}
+use mathlib.Core.Bool.{Bool, true, false, cond, not, _&&_, _||_}
 use mathlib.Core.List.{List}
 use lib.Dec.{eqb, leb}
 use lib.ListN.{getD}
@@ -14,17 +14,21 @@ use Rattle.matrix.specs.Shaped.{Octets}
 use Rattle.laws.specs.Tests.{way, same-test, and-left, and-right, and-both}
 use Rattle.laws.specs.Bounded.{any-hit, any-same, all-same, all-fails}
 use Rattle.laws.specs.Counting.{some-count}
-use Rattle.lanes.specs.Lanes.{merged, paired, byteAt, wordAt, lowAt, Seen, Counted}
-use Rattle.lanes.specs.LaneLaws.{lows-counts, paired-bit}
-use Rattle.lanes.specs.Zeros.{merged-zero}
-use Rattle.columns.specs.Checks.{present, zeroFrom, judged, subjectTest, plainTest}
+use Rattle.laws.specs.BitOps.{bit-or}
+use Rattle.codec.specs.Bits.{bit-zero}
+use Rattle.lanes.specs.declared.Matrix.{Matrix}
+use Rattle.lanes.specs.Lanes.{merged, paired, rowBytes, rowPlace, laneAt, upperAt, Seen, Counted}
+use Rattle.lanes.specs.LaneLaws.{lows-counts, paired-bit, lane-bit}
+use Rattle.lanes.specs.Zeros.{row-zero}
+use Rattle.columns.specs.Cells.{mostRow, mostCounted, lanesOf, lastLane, bitsIn, ownBit, controlBit, zeroCell, lanes-more, last-inside, last-after, bits-same, column-cells, row-cells}
+use Rattle.columns.specs.Checks.{present, zeroFrom, judged, unseen, subjectTest, plainTest}
+use Rattle.columns.specs.Loops.{plain-bits}
 use Rattle.owner_table.specs.Followed.{followed, followed-same}
-use Rattle.owner_table.specs.Table.{ownerIn, Inside}
+use Rattle.owner_table.specs.Table.{reach, Inside}
 use Rattle.validity.specs.Fast.{subjectRight, plainRight, ownerMark, allAscend, testsPass}
 use Rattle.validity.specs.Sound.{Framed}
 use Rattle.validity.specs.Tested.{tests-framed, mark-inside}
-use Rattle.validity.specs.Cells.{ownBit, controlBit, zeroCell, cell-bits, word-zero, word-bit}
-use Rattle.validity.specs.Merged.{merged-bit, plain-bits, all-pairs}
+use Rattle.validity.specs.Cells.{cell-bits}
 
 -- a third test that is the same where the first two pass
 and-last : (t u : Bool) {v w : Bool} → (t ≡ true → u ≡ true → v ≡ w) → (t && u && v) ≡ (t && u && w)
@@ -64,102 +68,137 @@ other-tally a c some = go (way (eqb (c % 2) 1))
         let o : c % 2 ≡ 1 → ⊥ = eqb-false _ 1 e in
         rw e (right 5 (λ h. (omega arith, omega arith)) (λ h. let p : a ≡ 1 = h .0 in let q : c ≤ 2 = h .1 in omega arith))
 
+-- one of the numbers that are merged has the bit
+merged-bit : (k n : ℕ) (f : ℕ → ℕ) → bit k (merged n f) ≡ any n (λ i. bit k (f i))
+unfolding merged any
+merged-bit k zero f = bit-zero k
+merged-bit k (suc n) f = bit-or k (merged n f) (f n) ∙ ap (λ (t : Bool). t || bit k (f n)) (merged-bit k n f)
+
+-- the owner of subject s, as the pass has left it
+abbrev pub ownerAt : List ℕ → ℕ → ℕ
+ownerAt marks s = getD marks (lastLane s) 0
+
 -- The tests of the lists' entries. Where not all subjects exist, the columns of subjects are merged too.
-module _ (b : List ℕ) (octets : Octets b) (n k : ℕ) (full : Bool) (seen tally odd marks : List ℕ) (whole : full ≡ all n (present b (2 * k)))
-    (saw : Seen b k n (cond full n 0) seen) (kept : Counted b n k tally odd marks) (inside : n ≤ k) where
-  abbrev m : ℕ
-  m = 2 * k
+module _ (b : List ℕ) (octets : Octets b) (m : Matrix) (k : ℕ) (full : Bool) (seen tally odd marks : List ℕ) (width : m .lanes ≡ lanesOf k)
+    (whole : full ≡ all (m .rows) (present b m)) (saw : Seen mostRow b m (m .rows) (cond full (lanesOf (m .rows)) 0) seen)
+    (kept : Counted mostCounted b m (lanesOf (m .rows)) tally odd marks) (inside : m .rows ≤ k) where
+  abbrev n : ℕ
+  n = m .rows
+
+  abbrev O : ℕ → ℕ → Bool
+  O = ownBit b m
+
+  abbrev C : ℕ → ℕ → Bool
+  C = controlBit b m
+
+  abbrev Z : ℕ → ℕ → Bool
+  Z = zeroCell b m
+
+  -- the lanes of the columns that are merged
+  merged-from : (j : ℕ) → lanesOf (cond full n 0) ≤ j → cond full (lanesOf n) 0 ≤ j
+  merged-from j = go (way full)
+    where
+      go : (full ≡ true) ⊎ (full ≡ false) → lanesOf (cond full n 0) ≤ j → cond full (lanesOf n) 0 ≤ j
+      go (inl e) = rw e (λ h. h)
+      go (inr e) = rw e (λ h. omega arith)
+
+  seen-lane : (j : ℕ) → lanesOf (cond full n 0) ≤ j → j < lanesOf k → getD seen j 0 ≡ merged n (λ w. laneAt b m w j)
+  seen-lane j g l = saw .value j (merged-from j g) (rw width l)
 
   -- a column of the matrix is zero where nothing is seen in it
-  column-zero : (c : ℕ) → cond full n 0 ≤ c → c < k → eqb (getD seen c 0) 0 ≡ all n (λ w. zeroCell b m w c)
+  column-zero : (c : ℕ) → cond full n 0 ≤ c → c < k → unseen seen c ≡ all n (λ w. Z w c)
   column-zero c g l =
-      ap (λ (x : ℕ). eqb x 0) (saw .value c g l) ∙ merged-zero n (λ w. wordAt b k w c) ∙ all-same n _ _ (λ w h. word-zero b k w c)
+      ap (λ (x : ℕ). eqb x 0) (bits-same (λ j. getD seen j 0) (λ j. merged n (λ w. laneAt b m w j)) (cond full n 0) c k g l seen-lane)
+      ∙ column-cells n (λ w j. laneAt b m w j) c
 
-  row-zero : (s : ℕ) → zeroFrom b (7 + s * m) m ≡ all k (λ c. zeroCell b m s c)
-  row-zero s = merged-zero m (λ j. byteAt b m s j) ∙ all-pairs k (λ j. eqb (byteAt b m s j) 0)
+  row-read : (s : ℕ) → zeroFrom b (rowPlace m s) (rowBytes m) ≡ all k (λ c. Z s c)
+  row-read s = row-zero b m s ∙ ap (λ (x : ℕ). all x (λ j. eqb (laneAt b m s j) 0)) width ∙ row-cells k (λ j. laneAt b m s j)
 
-  subject-passed : (s : ℕ) → s < n → subjectTest b m seen tally odd s ≡ subjectRight n k (ownBit b m) (controlBit b m) (zeroCell b m) s
+  subject-passed : (s : ℕ) → s < n → subjectTest b m seen tally odd s ≡ subjectRight n k O C Z s
   unfolding subjectTest subjectRight
   subject-passed s l =
-      (λ i. judged (controlBit b m s s) s (tally-read i) (odd-read i) (eqb (getD seen s 0) 0 && row-zero s i))
-      ∙ go (way (controlBit b m s s)) (way (eqb s 0))
+      (λ i. judged (C s s) s (tally-read i) (odd-read i) (unseen seen s && row-read s i))
+      ∙ go (way (C s s)) (way (eqb s 0))
     where
+      uppers : ℕ → ℕ
+      uppers v = upperAt b m v (lastLane s)
+
       owners : ℕ
-      owners = count n (λ w. ownBit b m w s)
+      owners = count n (λ w. O w s)
 
       controllers : ℕ
-      controllers = count n (λ w. controlBit b m w s)
+      controllers = count n (λ w. C w s)
 
       zeros : Bool
-      zeros = all k (λ c. zeroCell b m s c)
+      zeros = all k (λ c. Z s c)
 
-      tally-read : getD tally s 0 ≡ owners + 2 * controllers
-      tally-read = kept .sums .value s l ∙ lows-counts n (λ v. lowAt b k v s)
+      tally-read : getD tally (lastLane s) 0 ≡ owners + 2 * controllers
+      tally-read = kept .sums .value (lastLane s) (last-inside s n l) ∙ lows-counts n uppers
 
-      odd-read : getD odd s 0 ≡ paired n (λ v. lowAt b k v s)
-      odd-read = kept .parity .value s l
+      odd-read : getD odd (lastLane s) 0 ≡ paired n uppers
+      odd-read = kept .parity .value (lastLane s) (last-inside s n l)
 
-      parity : bit 1 (paired n (λ v. lowAt b k v s)) ≡ eqb (controllers % 2) 1
-      parity = paired-bit 1 n (λ v. lowAt b k v s)
+      parity : bit 1 (paired n uppers) ≡ eqb (controllers % 2) 1
+      parity = paired-bit 1 n uppers
 
       -- an absent subject's column is merged
-      from-first : controlBit b m s s ≡ false → cond full n 0 ≤ s
+      from-first : C s s ≡ false → cond full n 0 ≤ s
       from-first e = let f : full ≡ false = whole ∙ all-fails n (present b m) s l e in rw f (omega arith)
 
-      go : (controlBit b m s s ≡ true) ⊎ (controlBit b m s s ≡ false) → (eqb s 0 ≡ true) ⊎ (eqb s 0 ≡ false)
-          → judged (controlBit b m s s) s (owners + 2 * controllers) (paired n (λ v. lowAt b k v s)) (eqb (getD seen s 0) 0 && zeros)
-          ≡ cond (controlBit b m s s) (cond (eqb s 0) (eqb owners 0 && eqb controllers 1) (eqb owners 1 && leb controllers 2))
-          (not (eqb s 0) && (all n (λ w. zeroCell b m w s) && zeros))
+      go : (C s s ≡ true) ⊎ (C s s ≡ false) → (eqb s 0 ≡ true) ⊎ (eqb s 0 ≡ false)
+          → judged (C s s) s (owners + 2 * controllers) (paired n uppers) (unseen seen s && zeros)
+          ≡ cond (C s s) (cond (eqb s 0) (eqb owners 0 && eqb controllers 1) (eqb owners 1 && leb controllers 2))
+          (not (eqb s 0) && (all n (λ w. Z w s) && zeros))
       go (inl e) (inl z) = rw (e, z, parity) (root-tally owners controllers)
       go (inl e) (inr z) = rw (e, z, parity) (other-tally owners controllers (some-count n _ (any-hit n _ s l e)))
       go (inr e) z = rw (e, column-zero s (from-first e) (omega arith)) refl
 
-  plain-passed : (c : ℕ) → n ≤ c → c < k → plainTest (getD seen c 0) ≡ plainRight n (ownBit b m) (controlBit b m) (zeroCell b m) c
+  plain-passed : (c : ℕ) → n ≤ c → c < k → plainTest seen c ≡ plainRight n O C Z c
   unfolding plainRight
   plain-passed c g l =
       let f : cond full n 0 ≤ c = from (way full) in
-      let e : getD seen c 0 ≡ merged n (λ w. wordAt b k w c) = saw .value c f l in
-      let p : bit 8 (getD seen c 0) ≡ any n (λ w. ownBit b m w c) =
-      ap (bit 8) e ∙ merged-bit 8 n (λ w. wordAt b k w c) ∙ any-same n _ _ (λ w h. word-bit b octets 0 k w c) in
-      let q : bit 9 (getD seen c 0) ≡ any n (λ w. controlBit b m w c) =
-      ap (bit 9) e ∙ merged-bit 9 n (λ w. wordAt b k w c) ∙ any-same n _ _ (λ w h. word-bit b octets 1 k w c) in
-      plain-bits (getD seen c 0) ∙ (λ i. cond (p i) (not (q i)) (column-zero c f l i))
+      let e : getD seen (lastLane c) 0 ≡ merged n (λ w. laneAt b m w (lastLane c)) = seen-lane (lastLane c) (last-after _ c f) (last-inside c k l) in
+      let p : bit 8 (getD seen (lastLane c) 0) ≡ any n (λ w. O w c) =
+      ap (bit 8) e ∙ merged-bit 8 n (λ w. laneAt b m w (lastLane c)) ∙ any-same n _ _ (λ w h. lane-bit b octets m 0 w (lastLane c)) in
+      let q : bit 9 (getD seen (lastLane c) 0) ≡ any n (λ w. C w c) =
+      ap (bit 9) e ∙ merged-bit 9 n (λ w. laneAt b m w (lastLane c)) ∙ any-same n _ _ (λ w h. lane-bit b octets m 1 w (lastLane c)) in
+      plain-bits seen c ∙ (λ i. cond (p i) (not (q i)) (column-zero c f l i))
     where
       from : (full ≡ true) ⊎ (full ≡ false) → cond full n 0 ≤ c
       from (inl e) = rw e g
       from (inr e) = rw e (omega arith)
 
-  owner-marked : (s : ℕ) → s < n → ownerIn marks s ≡ ownerMark n (ownBit b m) s
-  owner-marked s l = kept .owner .value s l
+  owner-marked : (s : ℕ) → s < n → ownerAt marks s ≡ ownerMark n O s
+  owner-marked s l = kept .owner .value (lastLane s) (last-inside s n l)
 
   module _ (p : ℕ) (wide : k ≡ n + p) (some : 0 < n) where
     abbrev Here : Type 0
-    Here = Framed n (n + p) (ownBit b m) (controlBit b m) (zeroCell b m)
+    Here = Framed n (n + p) O C Z
 
-    marks-below : Here → (s : ℕ) → s < n → ownerMark n (ownBit b m) s < n
-    marks-below = mark-inside n p (ownBit b m) (controlBit b m) (zeroCell b m) (cell-bits b m) some
+    marks-below : Here → (s : ℕ) → s < n → ownerMark n O s < n
+    marks-below = mark-inside n p O C Z (cell-bits b m) some
 
-    subjects-passed : all n (subjectTest b m seen tally odd) ≡ all n (subjectRight n (n + p) (ownBit b m) (controlBit b m) (zeroCell b m))
-    subjects-passed = all-same n _ _ subject-passed ∙ ap (λ (i : ℕ). all n (subjectRight n i (ownBit b m) (controlBit b m) (zeroCell b m))) wide
+    subjects-passed : all n (subjectTest b m seen tally odd) ≡ all n (subjectRight n (n + p) O C Z)
+    subjects-passed = all-same n _ _ subject-passed ∙ ap (λ (i : ℕ). all n (subjectRight n i O C Z)) wide
 
-    plains-passed : all p (λ i. plainTest (getD seen (n + i) 0)) ≡ all p (λ i. plainRight n (ownBit b m) (controlBit b m) (zeroCell b m) (n + i))
+    plains-passed : all p (λ i. plainTest seen (n + i)) ≡ all p (λ i. plainRight n O C Z (n + i))
     plains-passed = all-same p _ _ (λ i l. plain-passed (n + i) (omega arith) (omega arith))
 
-    -- where the tests of all columns pass, every owner in the table is a subject
-    pub owners-inside : all n (subjectTest b m seen tally odd) ≡ true → all p (λ i. plainTest (getD seen (n + i) 0)) ≡ true → Inside n (ownerIn marks)
+    -- where the tests of all columns pass, every owner that is found is a subject
+    pub owners-inside : all n (subjectTest b m seen tally odd) ≡ true → all p (λ i. plainTest seen (n + i)) ≡ true → Inside n (ownerAt marks)
     owners-inside g h =
         let f : Here = tests-framed n p _ _ _ (cell-bits b m) some (sym subjects-passed ∙ g) (sym plains-passed ∙ h) in
         record { below = λ s l. rw (owner-marked s l) (marks-below f s l) }
 
-    ascend-passed : Here → all n (λ s. eqb (followed (ownerIn marks) 64 s) 0) ≡ allAscend n (ownBit b m)
+    ascend-passed : Here → all n (λ s. eqb (followed (ownerAt marks) reach s) 0) ≡ allAscend n O
     ascend-passed f =
         all-same n _ _ (λ s l. ap (λ (x : ℕ). eqb x 0)
-        (followed-same (ownerIn marks) (ownerMark n (ownBit b m)) (λ s. s < n) owner-marked (marks-below f) 64 s l))
+        (followed-same (ownerAt marks) (ownerMark n O) (λ s. s < n) owner-marked (marks-below f) reach s l))
 
     -- what the code tests is what is to be tested
     pub all-passed :
-        (all n (subjectTest b m seen tally odd) && all p (λ i. plainTest (getD seen (n + i) 0)) && all n (λ s. eqb (followed (ownerIn marks) 64 s) 0))
-        ≡ testsPass n p (ownBit b m) (controlBit b m) (zeroCell b m)
+        (all n (subjectTest b m seen tally odd) && all p (λ i. plainTest seen (n + i)) && all n (λ s. eqb (followed (ownerAt marks) reach s) 0))
+        ≡ testsPass n p O C Z
     all-passed =
-        (λ i. subjects-passed i && plains-passed i && all n (λ s. eqb (followed (ownerIn marks) 64 s) 0))
+        (λ i. subjects-passed i && plains-passed i && all n (λ s. eqb (followed (ownerAt marks) reach s) 0))
         ∙ and-last _ _ (λ g h. ascend-passed (tests-framed n p _ _ _ (cell-bits b m) some g h))

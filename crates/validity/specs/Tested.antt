@@ -12,6 +12,7 @@ use Rattle.laws.specs.Bounded.{all-each, each-all, any-none, none-any, least-no
 use Rattle.laws.specs.Counting.{none-count}
 use Rattle.owner_table.specs.Counts.{mark-none, mark-least}
 use Rattle.owner_table.specs.Followed.{followed, followed-same, longer, within}
+use Rattle.owner_table.specs.Table.{reach}
 use Rattle.validity.specs.Fast.{ownerStep, zeroAbsent, plainFree, rootAlone, oneEach, ascends, fiveHold, subjectRight, plainRight, ownerMark, allAscend, testsPass}
 use Rattle.validity.specs.Sound.{Bits, Framed, five-framed, framed-absent, framed-plain, framed-root, framed-one}
 
@@ -150,16 +151,16 @@ module _ (n p : ℕ) (O C Z : ℕ → ℕ → Bool) (bits : Bits O C Z) (some : 
       ⊎-elim (λ e. subst (λ (i : ℕ). i < n) (sym (same-owner f s (l, e))) (owner-exists f s (l, e) .0))
       (λ e. subst (λ (i : ℕ). i < n) (sym (absent-mark f s l e)) some) (way (C s s))
 
-  framed-ascend : n ≤ 64 → Here → ascends n O C ≡ true → allAscend n O ≡ true
+  framed-ascend : n ≤ reach → Here → ascends n O C ≡ true → allAscend n O ≡ true
   unfolding followed
   framed-ascend most f h = each-all n _ (λ s l. eq-eqb _ 0 (go s l (way (C s s))))
     where
-      go : (s : ℕ) → s < n → (C s s ≡ true) ⊎ (C s s ≡ false) → followed (ownerMark n O) 64 s ≡ 0
+      go : (s : ℕ) → s < n → (C s s ≡ true) ⊎ (C s s ≡ false) → followed (ownerMark n O) reach s ≡ 0
       go s l (inl e) =
           let q : followed (ownerStep n O) n s ≡ 0 = eqb-true _ 0 (or-other {t = not (C s s)} (all-each n (λ s. not (C s s) || eqb (followed (ownerStep n O) n s) 0) h s l) (rw e refl)) in
-          let t : n + (64 - n) ≡ 64 = omega arith in
-          rw t at (longer n (ownerMark n O) (mark-inside f) (root-mark f) n (64 - n) s (same-path f n s (l, e) ∙ q))
-      go s l (inr e) = longer n (ownerMark n O) (mark-inside f) (root-mark f) 1 63 s (absent-mark f s l e)
+          let t : n + (reach - n) ≡ reach = omega arith in
+          rw t at (longer n (ownerMark n O) (mark-inside f) (root-mark f) n (reach - n) s (same-path f n s (l, e) ∙ q))
+      go s l (inr e) = longer n (ownerMark n O) (mark-inside f) (root-mark f) 1 (reach - 1) s (absent-mark f s l e)
 
   ascend-framed : Here → allAscend n O ≡ true → ascends n O C ≡ true
   ascend-framed f h = each-all n _ (λ s l. go s l (way (C s s)))
@@ -167,12 +168,12 @@ module _ (n p : ℕ) (O C Z : ℕ → ℕ → Bool) (bits : Bits O C Z) (some : 
       go : (s : ℕ) → s < n → (C s s ≡ true) ⊎ (C s s ≡ false) → (not (C s s) || eqb (followed (ownerStep n O) n s) 0) ≡ true
       go s l (inl e) =
           or-right (not (C s s))
-          (eq-eqb _ 0 (sym (same-path f n s (l, e)) ∙ within n (ownerMark n O) (mark-inside f) (root-mark f) 64 s l
-          (eqb-true _ 0 (all-each n (λ s. eqb (followed (ownerMark n O) 64 s) 0) h s l))))
+          (eq-eqb _ 0 (sym (same-path f n s (l, e)) ∙ within n (ownerMark n O) (mark-inside f) (root-mark f) reach s l
+          (eqb-true _ 0 (all-each n (λ s. eqb (followed (ownerMark n O) reach s) 0) h s l))))
       go s l (inr e) = or-left _ (fails-not e)
 
   -- The tests of one pass pass just where the five conditions hold.
-  pub tests-five : n ≤ 64 → testsPass n p O C Z ≡ fiveHold n (n + p) O C Z
+  pub tests-five : n ≤ reach → testsPass n p O C Z ≡ fiveHold n (n + p) O C Z
   tests-five most = same-test _ _ forth back
     where
       inside : n ≤ n + p

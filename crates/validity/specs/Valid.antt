@@ -1,5 +1,6 @@
 -- The definition's test of a record's matrix is the tests of one pass over its bytes.
 use Prim.Native.Nat.{ℕ, zero, suc, _≤_, _<_}
+use native.Mathlib.Omega.{arith}
 use mathlib.Core.Path.{_≡_, refl, sym, _∙_, ap}
 use mathlib.Core.Logic.{_⊎_, inl, inr}
 use mathlib.Core.Bool.{Bool, true, false, cond, not, _&&_, _||_}
@@ -9,7 +10,7 @@ use borrow.Author.Tests.{ltb-true, ltb-false}
 use Rattle.matrix.specs.declared.Name.{Name}
 use Rattle.matrix.specs.declared.Name.the-variants.{Subject, Plain}
 use Rattle.matrix.specs.Bounded.{least}
-use Rattle.matrix.specs.Shape.{shapeOf, columns}
+use Rattle.matrix.specs.Shape.{shapeOf, mostSubjects, columns}
 use Rattle.matrix.specs.Shaped.{Octets}
 use Rattle.matrix.specs.Reading.{stateOf}
 use Rattle.matrix.specs.Record.{absentZero, plainUncontrolled, rootRight, oneOwnerEach, climb, allRooted, validMatrix}
@@ -18,7 +19,8 @@ use Rattle.laws.specs.Bounded.{all-same, count-same, least-same}
 use Rattle.owner_table.specs.Followed.{followed}
 use Rattle.validity.specs.Fast.{ownerStep, zeroAbsent, plainFree, rootAlone, oneEach, ascends, fiveHold, testsPass}
 use Rattle.validity.specs.Tested.{tests-five}
-use Rattle.validity.specs.Cells.{rowBytes, ownBit, controlBit, zeroCell, own-subject, control-subject, control-plain, empty-read, column-read, cell-bits}
+use Rattle.columns.specs.Cells.{matrixOf, ownBit, controlBit, zeroCell}
+use Rattle.validity.specs.Cells.{own-subject, control-subject, control-plain, empty-read, column-read, cell-bits}
 
 -- climbing owners is following them, where the subjects below n have the same owners
 climb-follows : (n : ℕ) (owns : ℕ → Name → Bool) (O : ℕ → ℕ → Bool) → ((w s : ℕ) → w < n → s < n → owns w (Subject s) ≡ O w s)
@@ -35,13 +37,13 @@ climb-follows n owns O h (suc j) s l =
 
 module _ (b : List ℕ) (octets : Octets b) where
   abbrev O : ℕ → ℕ → Bool
-  O = ownBit b (rowBytes b)
+  O = ownBit b (matrixOf (shapeOf b))
 
   abbrev C : ℕ → ℕ → Bool
-  C = controlBit b (rowBytes b)
+  C = controlBit b (matrixOf (shapeOf b))
 
   abbrev Z : ℕ → ℕ → Bool
-  Z = zeroCell b (rowBytes b)
+  Z = zeroCell b (matrixOf (shapeOf b))
 
   abbrev n : ℕ
   n = shapeOf b .n
@@ -84,6 +86,6 @@ module _ (b : List ℕ) (octets : Octets b) where
   valid-five some = λ i. absent-same i && plain-same i && root-same some i && one-same i && rooted-same i
 
   -- the matrix of a record is valid just where the tests of one pass over its bytes pass
-  pub valid-tests : 0 < shapeOf b .n → shapeOf b .n ≤ 64
-      → testsPass (shapeOf b .n) (shapeOf b .p) (ownBit b (rowBytes b)) (controlBit b (rowBytes b)) (zeroCell b (rowBytes b)) ≡ validMatrix (shapeOf b) (stateOf b)
-  valid-tests some most = tests-five n (shapeOf b .p) O C Z (cell-bits b (rowBytes b)) some most ∙ sym (valid-five some)
+  pub valid-tests : 0 < shapeOf b .n → shapeOf b .n ≤ mostSubjects
+      → testsPass (shapeOf b .n) (shapeOf b .p) (ownBit b (matrixOf (shapeOf b))) (controlBit b (matrixOf (shapeOf b))) (zeroCell b (matrixOf (shapeOf b))) ≡ validMatrix (shapeOf b) (stateOf b)
+  valid-tests some most = tests-five n (shapeOf b .p) O C Z (cell-bits b (matrixOf (shapeOf b))) some (omega arith) ∙ sym (valid-five some)

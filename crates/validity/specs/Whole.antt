@@ -9,79 +9,100 @@ use lib.ListN.{length, getD, replicate, length-replicate, getD-replicate}
 use borrow.Author.Tests.{eqb-true, leb-true, eq-eqb, ne-eqb}
 use Rattle.matrix.specs.Bounded.{all}
 use Rattle.matrix.specs.Bytes.{numberAt}
-use Rattle.matrix.specs.Shape.{shapeOf, knownVersion, inRange, sized, countOf, sizeOf}
+use Rattle.matrix.specs.Shape.{shapeOf, knownVersion, mostSubjects, mostPlain, inRange, sized, countOf, sizeOf}
 use Rattle.matrix.specs.Shaped.{Octets}
 use Rattle.matrix.specs.Reading.{stateOf}
 use Rattle.matrix.specs.Record.{validMatrix}
 use Rattle.laws.specs.Tests.{and-left, and-right}
+use Rattle.laws.specs.Bounded.{all-same}
+use Rattle.lanes.specs.declared.Matrix.{Matrix}
+use Rattle.lanes.specs.Lists.{Stored}
 use Rattle.lanes.specs.Lanes.{merged, Seen, Counted}
-use Rattle.owner_table.specs.Followed.{followed}
-use Rattle.validity.specs.Fast.{testsPass}
-use Rattle.validity.specs.Cells.{ownBit, controlBit, zeroCell}
-use Rattle.validity.specs.Valid.{valid-tests}
+use Rattle.columns.specs.Cells.{mostRow, mostCounted, lanesOf, matrixOf, ownBit, controlBit, zeroCell, table-most}
 use Rattle.columns.specs.Checks.{present, subjectTest, plainTest}
-use Rattle.owner_table.specs.Table.{ownerIn, Inside}
-use Rattle.validity.specs.Passed.{all-passed, owners-inside}
-use Rattle.validity.specs.Header.{Headed, Whole}
+use Rattle.owner_table.specs.Followed.{followed, followed-same}
+use Rattle.owner_table.specs.Table.{reach, ownerIn, Inside}
+use Rattle.validity.specs.Fast.{testsPass}
+use Rattle.validity.specs.Valid.{valid-tests}
+use Rattle.validity.specs.Passed.{ownerAt, all-passed, owners-inside}
+use Rattle.validity.specs.Header.{headSize, Headed, Whole}
 
 -- a table of zeros, as it is before the rows are read
-pub unread : (owners : List ℕ) → owners ≡ replicate 64 0 → length owners ≡ 64
-unread owners e = ap (λ (l : List ℕ). length l) e ∙ length-replicate {A = ℕ} 64 0
+pub unread : (owners : List ℕ) → owners ≡ replicate mostSubjects 0 → length owners ≡ mostSubjects
+unread owners e = ap (λ (l : List ℕ). length l) e ∙ length-replicate {A = ℕ} mostSubjects 0
 
 -- nothing is seen before the first row
-pub seen-none : (b : List ℕ) (k from : ℕ) → k ≤ 256 → Seen b k 0 from (replicate 256 0)
+pub seen-none : (b : List ℕ) (m : Matrix) (from : ℕ) → m .lanes ≤ mostRow → Seen mostRow b m 0 from (replicate mostRow 0)
 unfolding merged
-seen-none b k from h = record { size = length-replicate {A = ℕ} 256 0; value = λ c g l. getD-replicate 256 c 0 0 (omega arith) }
+seen-none b m from h = record { size = length-replicate {A = ℕ} mostRow 0; value = λ c g l. getD-replicate mostRow c 0 0 (omega arith) }
 
 -- A record whose columns are counted and merged. Where all subjects exist, `full`, the columns of subjects are not merged.
-pub record Scanned (b : List ℕ) (n p : ℕ) (full : Bool) (seen tally odd marks : List ℕ) : Type 0 where
-  pub whole : Whole b n p
+pub record Scanned (b : List ℕ) (m : Matrix) (p : ℕ) (full : Bool) (seen tally odd marks : List ℕ) : Type 0 where
+  pub whole : Whole b (m .rows) p
   pub octets : Octets b
-  pub here : full ≡ all n (present b (2 * (n + p)))
-  pub saw : Seen b (n + p) n (cond full n 0) seen
-  pub kept : Counted b n (n + p) tally odd marks
+  pub lanes : m ≡ matrixOf (shapeOf b)
+  pub here : full ≡ all (m .rows) (present b m)
+  pub saw : Seen mostRow b m (m .rows) (cond full (lanesOf (m .rows)) 0) seen
+  pub kept : Counted mostCounted b m (lanesOf (m .rows)) tally odd marks
 
-module _ (b : List ℕ) (n p : ℕ) (full : Bool) (seen tally odd marks : List ℕ) (scanned : Scanned b n p full seen tally odd marks) where
+module _ (b : List ℕ) (m : Matrix) (p : ℕ) (full : Bool) (seen tally odd marks : List ℕ) (scanned : Scanned b m p full seen tally odd marks) where
+  abbrev n : ℕ
+  n = m .rows
+
   abbrev S : Bool
-  S = all n (subjectTest b (2 * (n + p)) seen tally odd)
+  S = all n (subjectTest b m seen tally odd)
 
   abbrev P : Bool
-  P = all p (λ i. plainTest (getD seen (n + i) 0))
+  P = all p (λ i. plainTest seen (n + i))
 
   abbrev R : Bool
-  R = all n (λ s. eqb (followed (ownerIn marks) 64 s) 0)
+  R = all n (λ s. eqb (followed (ownerAt marks) reach s) 0)
+
+  width : m .lanes ≡ lanesOf (n + p)
+  width = ap (λ (x : Matrix). x .lanes) (scanned .lanes) ∙ (λ i. lanesOf (sym (scanned .whole .head .subjects) i + sym (scanned .whole .head .plain) i))
 
   valid-whole : (S && P && R) ≡ validMatrix (shapeOf b) (stateOf b)
   valid-whole =
       let h : Headed b n p = scanned .whole .head in
       let some : 0 < n = h .low in
-      let most : n ≤ 64 = h .high in
+      let most : n ≤ mostSubjects = h .high in
       let e : n ≡ shapeOf b .n = h .subjects in
-      let q : p ≡ shapeOf b .p = h .plain in
-      all-passed b (scanned .octets) n (n + p) full seen tally odd marks (scanned .here) (scanned .saw) (scanned .kept) (omega arith) p refl some
-      ∙ (λ i. testsPass (e i) (q i) (ownBit b (2 * (e i + q i))) (controlBit b (2 * (e i + q i))) (zeroCell b (2 * (e i + q i))))
+      let z : m ≡ matrixOf (shapeOf b) = scanned .lanes in
+      all-passed b (scanned .octets) m (n + p) full seen tally odd marks width (scanned .here) (scanned .saw) (scanned .kept) (omega arith) p refl some
+      ∙ (λ i. testsPass (z i .rows) (h .plain i) (ownBit b (z i)) (controlBit b (z i)) (zeroCell b (z i)))
       ∙ valid-tests b (scanned .octets) (omega arith) (omega arith)
 
-  pub table-inside : S ≡ true → P ≡ true → Inside n (ownerIn marks)
-  table-inside =
-      owners-inside b (scanned .octets) n (n + p) full seen tally odd marks (scanned .here) (scanned .saw) (scanned .kept) (omega arith) p refl (scanned .whole .head .low)
+  found-inside : S ≡ true → P ≡ true → Inside n (ownerAt marks)
+  found-inside =
+      owners-inside b (scanned .octets) m (n + p) full seen tally odd marks width (scanned .here) (scanned .saw) (scanned .kept) (omega arith) p refl
+      (scanned .whole .head .low)
 
   -- an answer, with the size of the table of owners
-  abbrev Judged : Bool → Type 0
-  Judged r = (r ≡ validMatrix (shapeOf b) (stateOf b)) × (length marks ≡ 64)
+  abbrev Judged : List ℕ → Bool → Type 0
+  Judged owners r = (r ≡ validMatrix (shapeOf b) (stateOf b)) × (length owners ≡ mostSubjects)
 
-  judged : (r : Bool) → r ≡ validMatrix (shapeOf b) (stateOf b) → Judged r
-  judged r e = (e, scanned .kept .owner .size)
+  -- a subject is wrong; a plain column is wrong
+  pub subjects-wrong : S ≡ false → Judged marks false
+  subjects-wrong h = let e : (S && P && R) ≡ false = rw h refl in (sym e ∙ valid-whole, scanned .kept .owner .size ∙ table-most)
 
-  -- a subject is wrong; a plain column is wrong; what is left is whether every owner is followed to U
-  pub subjects-wrong : S ≡ false → Judged false
-  subjects-wrong h = let e : (S && P && R) ≡ false = rw h refl in judged false (sym e ∙ valid-whole)
+  pub plain-wrong : S ≡ true → P ≡ false → Judged marks false
+  plain-wrong g h = let e : (S && P && R) ≡ false = rw (g, h) refl in (sym e ∙ valid-whole, scanned .kept .owner .size ∙ table-most)
 
-  pub plain-wrong : S ≡ true → P ≡ false → Judged false
-  plain-wrong g h = let e : (S && P && R) ≡ false = rw (g, h) refl in judged false (sym e ∙ valid-whole)
+  -- what is left, where each owner is put at its subject's place, is whether every owner is followed to U
+  module _ (owners : List ℕ) (g : S ≡ true) (h : P ≡ true) (placed : Stored n (ownerAt marks) marks owners) where
+    pub table-size : length owners ≡ mostSubjects
+    table-size = placed .size ∙ scanned .kept .owner .size ∙ table-most
 
-  pub owners-left : (r : Bool) → S ≡ true → P ≡ true → r ≡ R → Judged r
-  owners-left r g h q = let e : (S && P && R) ≡ R = rw (g, h) refl in judged r (q ∙ sym e ∙ valid-whole)
+    pub table-inside : Inside n (ownerIn owners)
+    table-inside = record { below = λ s l. rw (placed .below s l) (found-inside g h .below s l) }
+
+    pub owners-left : (r : Bool) → r ≡ all n (λ s. eqb (followed (ownerIn owners) reach s) 0) → Judged owners r
+    owners-left r q =
+        let e : (S && P && R) ≡ R = rw (g, h) refl in
+        let t : all n (λ s. eqb (followed (ownerIn owners) reach s) 0) ≡ R =
+        all-same n _ _ (λ s l. ap (λ (x : ℕ). eqb x 0)
+        (followed-same (ownerIn owners) (ownerAt marks) (λ i. i < n) (placed .below) (found-inside g h .below) reach s l)) in
+        (q ∙ t ∙ sym e ∙ valid-whole, table-size)
 
 -- ---- the header
 
@@ -93,11 +114,11 @@ pub version-wrong : (b : List ℕ) → (getD b 0 0 ≡ 1 → ⊥) → knownVersi
 unfolding shapeOf
 version-wrong b h = ne-eqb (getD b 0 0) 1 h
 
-pub range-read : (b : List ℕ) (r t : Bool) → r ≡ (leb 1 (getD b 5 0) && leb (getD b 5 0) 64 && leb (getD b 6 0) 192) → r ≡ t → inRange (shapeOf b) ≡ t
+pub range-read : (b : List ℕ) (r t : Bool) → r ≡ (leb 1 (getD b 5 0) && leb (getD b 5 0) mostSubjects && leb (getD b 6 0) mostPlain) → r ≡ t → inRange (shapeOf b) ≡ t
 unfolding shapeOf
 range-read b r t e q = sym e ∙ q
 
-pub headed : (b : List ℕ) → 7 ≤ length b → inRange (shapeOf b) ≡ true → Headed b (getD b 5 0) (getD b 6 0)
+pub headed : (b : List ℕ) → headSize ≤ length b → inRange (shapeOf b) ≡ true → Headed b (getD b 5 0) (getD b 6 0)
 unfolding shapeOf
 headed b long h =
     record {
@@ -105,8 +126,8 @@ headed b long h =
       subjects = refl;
       plain = refl;
       low = leb-true 1 (getD b 5 0) (and-left _ _ (and-left _ _ h));
-      high = leb-true (getD b 5 0) 64 (and-right (leb 1 (getD b 5 0)) _ (and-left _ _ h));
-      most = leb-true (getD b 6 0) 192 (and-right (leb 1 (getD b 5 0) && leb (getD b 5 0) 64) _ h);
+      high = leb-true (getD b 5 0) mostSubjects (and-right (leb 1 (getD b 5 0)) _ (and-left _ _ h));
+      most = leb-true (getD b 6 0) mostPlain (and-right (leb 1 (getD b 5 0) && leb (getD b 5 0) mostSubjects) _ h);
     }
 
 pub whole-read : (b : List ℕ) → Headed b (getD b 5 0) (getD b 6 0) → sized b ≡ true → Whole b (getD b 5 0) (getD b 6 0)
@@ -114,19 +135,19 @@ unfolding shapeOf
 whole-read b f h = record { head = f; size = eqb-true (length b) _ (and-right (eqb (numberAt b 1 4) (countOf (shapeOf b))) _ h) }
 
 -- L is right, and the true length is left; L is wrong
-size-read : (b : List ℕ) (n p : ℕ) → Headed b n p → sizeOf (shapeOf b) ≡ 7 + 2 * (n * (n + p))
-unfolding shapeOf
-size-read b n p f = let e : shapeOf b .n ≡ n = sym (f .subjects) in let q : shapeOf b .p ≡ p = sym (f .plain) in λ i. 7 + 2 * (e i * (e i + q i))
+module _ (b : List ℕ) (n p l : ℕ) (f : Headed b n p) (e : l ≡ numberAt b 1 4) where
+  abbrev size : ℕ
+  size = shapeOf b .first + shapeOf b .width * (n * (n + p))
 
-pub count-right : (b : List ℕ) (n p l : ℕ) → Headed b n p → l ≡ numberAt b 1 4 → l ≡ 7 + 2 * (n * (n + p)) - 5
-    → eqb (length b) (7 + 2 * (n * (n + p))) ≡ sized b
-count-right b n p l f e q =
-    let z : sizeOf (shapeOf b) ≡ 7 + 2 * (n * (n + p)) = size-read b n p f in
-    let c : eqb (numberAt b 1 4) (countOf (shapeOf b)) ≡ true = eq-eqb _ _ (sym e ∙ q ∙ ap (λ (x : ℕ). x - 5) (sym z)) in
-    ap (λ (x : ℕ). eqb (length b) x) (sym z) ∙ rw c refl
+  size-read : sizeOf (shapeOf b) ≡ size
+  size-read = λ i. shapeOf b .first + shapeOf b .width * (sym (f .subjects) i * (sym (f .subjects) i + sym (f .plain) i))
 
-pub count-wrong : (b : List ℕ) (n p l : ℕ) → Headed b n p → l ≡ numberAt b 1 4 → (l ≡ 7 + 2 * (n * (n + p)) - 5 → ⊥) → false ≡ sized b
-count-wrong b n p l f e ne =
-    let z : sizeOf (shapeOf b) ≡ 7 + 2 * (n * (n + p)) = size-read b n p f in
-    let c : eqb (numberAt b 1 4) (countOf (shapeOf b)) ≡ false = ne-eqb _ _ (λ h. ne (e ∙ h ∙ ap (λ (x : ℕ). x - 5) z)) in
-    rw c refl
+  pub count-right : l ≡ size - 5 → eqb (length b) size ≡ sized b
+  count-right q =
+      let c : eqb (numberAt b 1 4) (countOf (shapeOf b)) ≡ true = eq-eqb _ _ (sym e ∙ q ∙ ap (λ (x : ℕ). x - 5) (sym size-read)) in
+      ap (λ (x : ℕ). eqb (length b) x) (sym size-read) ∙ rw c refl
+
+  pub count-wrong : (l ≡ size - 5 → ⊥) → false ≡ sized b
+  count-wrong ne =
+      let c : eqb (numberAt b 1 4) (countOf (shapeOf b)) ≡ false = ne-eqb _ _ (λ h. ne (e ∙ h ∙ ap (λ (x : ℕ). x - 5) size-read)) in
+      rw c refl

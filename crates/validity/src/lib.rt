@@ -5,52 +5,69 @@ ghost use Prim.Native.Nat.{_≤_};
 ghost use lib.Dec.{leb};
 ghost use lib.ListN.{length, replicate};
 ghost use Rattle.matrix.specs.Bytes.{numberAt};
-ghost use Rattle.matrix.specs.Shape.{shapeOf, sized};
+ghost use Rattle.matrix.specs.Shape.{mostSubjects, mostPlain, shapeOf, sized};
 ghost use Rattle.matrix.specs.Reading.{stateOf};
 ghost use Rattle.matrix.specs.Record.{validMatrix, recordRefusal};
-ghost use Rattle.validity.specs.Header.{Headed, Whole};
+ghost use Rattle.validity.specs.Header.{headSize, Headed, Whole};
+use columns::COUNTED;
+use columns::ROW;
+use lanes::MOST_PLAIN;
+use lanes::MOST_SUBJECTS;
+use lanes::Matrix;
+
+// The bytes of the header, the place of the first cell, and the bytes of a cell.
+const HEAD: usize = 7;
+
+const FIRST: usize = 7;
+
+const WIDTH: usize = 2;
 
 // The matrix of a record of n subject names and p plain names is valid. Where all subjects exist, what is seen in their columns is not
-// needed. The table `owners`, of zeros at first, is left with a guess of who
-// owns each subject, of which nothing is promised.
-fn valid(b: &[u8], n: usize, p: usize, owners: &mut [u8; 64]) -> bool
-    requires { ⌜ Whole (now b) n p × (now owners ≡ replicate 64 0) ⌝ }
+// needed. The table `owners`, of zeros at first, is left with a guess of who owns each subject, of which nothing is promised.
+fn valid(b: &[u8], n: usize, p: usize, owners: &mut [u8; COUNTED]) -> bool
+    requires { ⌜ Whole (now b) n p × (now owners ≡ replicate mostSubjects 0) ⌝ }
     ensures verdict { λ r. ⌜ r ≡ validMatrix (shapeOf (now (b .entry))) (stateOf (now (b .entry))) ⌝ }
-    ensures table { λ r. ⌜ length (now (owners .exit)) ≡ 64 ⌝ }
+    ensures table { λ r. ⌜ length (now (owners .exit)) ≡ mostSubjects ⌝ }
 {
-    let k = n + p;
-    let mut tally = [0u8; 64];
-    let mut odd = [0u8; 64];
-    counting::count(&mut tally, &mut odd, owners, b, n, k);
-    let full = columns::all_present(b, n, k);
-    let mut seen = [0u16; 256];
-    let from = if full { n } else { 0 };
-    merging::merge(&mut seen, b, n, k, from);
-    if !columns::subjects(b, &seen, &tally, &odd, n, k, full) {
+    let m = Matrix {
+        first: FIRST,
+        rows: n,
+        lanes: columns::lanes_of(n + p),
+    };
+    let subjects = columns::lanes_of(n);
+    let mut tally = [0u8; COUNTED];
+    let mut odd = [0u8; COUNTED];
+    counting::count(&mut tally, &mut odd, owners, b, m, subjects);
+    let full = columns::all_present(b, m);
+    let mut seen = [0u16; ROW];
+    let from = if full { subjects } else { 0 };
+    merging::merge(&mut seen, b, m, from);
+    if !columns::subjects(b, &seen, &tally, &odd, m, full) {
         return false;
     }
     if !columns::plains(&seen, n, p) {
         return false;
     }
+    columns::owners(owners, n);
     owner_table::rooted(owners, n)
 }
 
-// n is 1 to 64, and p at most 192.
+// n and p are within the limits.
 fn in_range(n: usize, p: usize) -> bool
-    ensures { λ r. ⌜ r ≡ (leb 1 n && leb n 64 && leb p 192) ⌝ }
+    ensures { λ r. ⌜ r ≡ (leb 1 n && leb n mostSubjects && leb p mostPlain) ⌝ }
 {
     if n < 1 {
         return false;
     }
-    if n > 64 {
+    if n > MOST_SUBJECTS {
         return false;
     }
-    p <= 192
+    p <= MOST_PLAIN
 }
 
 // The four bytes of L.
 fn count(b: &[u8]) -> usize
-    requires { ⌜ 7 ≤ length (now b) ⌝ }
+    requires { ⌜ headSize ≤ length (now b) ⌝ }
     ensures { λ r. ⌜ r ≡ numberAt (now (b .entry)) 1 4 ⌝ }
 {
     ((b[1] as usize * 256 + b[2] as usize) * 256 + b[3] as usize) * 256 + b[4] as usize
@@ -61,7 +78,7 @@ fn right_size(b: &[u8], n: usize, p: usize) -> bool
     requires { ⌜ Headed (now b) n p ⌝ }
     ensures { λ r. ⌜ r ≡ sized (now (b .entry)) ⌝ }
 {
-    let size = 7 + 2 * (n * (n + p));
+    let size = FIRST + WIDTH * (n * (n + p));
     if count(b) == size - 5 {
         b.len() == size
     } else {
@@ -71,12 +88,12 @@ fn right_size(b: &[u8], n: usize, p: usize) -> bool
 
 // The refusal, 1 to 5, of a record, or 0 if it is valid. The table `owners`, of zeros at first, is left with a guess of who owns each
 // subject, for callers that follow owners: they test each guess, so nothing is promised of it.
-pub fn refusal_with(b: &[u8], owners: &mut [u8; 64]) -> usize
+pub fn refusal_with(b: &[u8], owners: &mut [u8; COUNTED]) -> usize
     requires { ⌜ now owners ≡ replicate 64 0 ⌝ }
     ensures refusal { λ r. ⌜ r ≡ recordRefusal (now (b .entry)) ⌝ }
     ensures table { λ r. ⌜ length (now (owners .exit)) ≡ 64 ⌝ }
 {
-    if b.len() < 7 {
+    if b.len() < HEAD {
         return 1;
     }
     if b[0] != 1 {
@@ -97,6 +114,6 @@ pub fn refusal_with(b: &[u8], owners: &mut [u8; 64]) -> usize
 pub fn refusal(b: &[u8]) -> usize
     ensures { λ r. ⌜ r ≡ recordRefusal (now (b .entry)) ⌝ }
 {
-    let mut owners = [0u8; 64];
+    let mut owners = [0u8; COUNTED];
     refusal_with(b, &mut owners)
 }

@@ -1,6 +1,7 @@
 -- `validity::right_size` meets its contract. L first, then the true length.
 use Rattle.validity.specs.Whole.{count-right, count-wrong}
 use Rattle.validity.specs.Header.{cells-most}
+use Rattle.matrix.specs.Shape.{shapeOf}
 use Prim.Native.Nat.{_+_}
 use native.Mathlib.Omega.{arith}
 use borrow.Author.Needs.{needs}
@@ -26,9 +27,11 @@ sub-if1 : tie.Need-sub-if1
 sub-if1 c = search needs
 
 returns : tie.Need-returns
+unfolding shapeOf
 returns c = let s = c .before .before .before in count-right (s .args .b .now) (s .args .n) (s .args .p) _ (s .pre) (c .before .count .ensures) (c .if1 .taken)
 
 returns-2 : tie.Need-returns-2
+unfolding shapeOf
 returns-2 c = let s = c .before .before .before in count-wrong (s .args .b .now) (s .args .n) (s .args .p) _ (s .pre) (c .before .count .ensures) (c .if1 .left)
 
 pub right-size-spec : {M : Type 1} → statement M
