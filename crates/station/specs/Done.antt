@@ -32,14 +32,14 @@ pub written : {b b′ : List ℕ} {S : State} → Became b b′ S → b′ ≡ b
 written {b′ = b′} w = sym (read-write b′ (w .shaped) (w .octets)) ∙ (λ i. bytesOf (content (w .shape i) (w .state i)))
 
 -- a refused command's state is written as the same bytes
-unchanged : {b b′ : List ℕ} {n p : ℕ} → Station b n p → Became b b′ (stateOf b) → b′ ≡ b
+unchanged : {b b′ : List ℕ} {f : Shape} → Station b f → Became b b′ (stateOf b) → b′ ≡ b
 unchanged {b} h w = written w ∙ read-write b (h .shaped) (h .octets)
 
 refused-next : (f : Shape) (S : State) (c : Fields) → eqb (refusalOn f S c) 0 ≡ false → nextOn f S c ≡ S
 unfolding nextOn next refusalOn
 refused-next f S c h = rw h refl
 
-module _ {b b′ : List ℕ} {n p : ℕ} {c : Fields} {r : Answer} (valid : recordRefusal b ≡ 0) (h : Station b n p) (w : Answered b b′ c r) where
+module _ {b b′ : List ℕ} {f : Shape} {c : Fields} {r : Answer} (valid : recordRefusal b ≡ 0) (h : Station b f) (w : Answered b b′ c r) where
   pub command-reply : r ≡ commandAnswer b c
   unfolding commandAnswer
   command-reply = rw valid (w .reply)

@@ -3,6 +3,7 @@
 use matrix::Answer;
 use matrix::Fields;
 use matrix::Holding;
+use matrix::MOST_SUBJECTS;
 use matrix::Outcome;
 use question::Safety;
 ghost use mathlib.Core.Path.{_≡_};
@@ -27,9 +28,8 @@ pub fn held(b: &[u8], s: u64, o: u64, right: u64) -> Holding
     if turned != 0 {
         return Holding::Refused(turned);
     }
-    let n = opening::byte(b, 5);
-    let p = opening::byte(b, 6);
-    holding::held_on(b, n, p, s as usize, o as usize, right as usize)
+    let f = opening::shape(b);
+    holding::held_on(b, f, s as usize, o as usize, right as usize)
 }
 
 // One command on a record: accepted with the links of the owner walk, or refused by a number with the links.
@@ -38,13 +38,12 @@ pub fn command(b: &mut [u8], code: u64, i: u64, s: u64, o: u64, k: u64) -> Answe
     ensures bytes { λ r. ⌜ now (b .exit) ≡ commandBytes (now (b .entry)) (fieldsOf code i s o k) ⌝ }
     ensures numbers { λ r. ⌜ commandNumbers r ≡ commandResult (now (b .entry)) (fieldsOf code i s o k) ⌝ }
 {
-    let mut owners = [0u8; 64];
+    let mut owners = [0u8; MOST_SUBJECTS];
     let turned = validity::refusal_with(b, &mut owners);
     if turned != 0 {
         return Answer::Refused(turned, 0);
     }
-    let n = opening::byte(b, 5);
-    let p = opening::byte(b, 6);
+    let f = opening::shape(b);
     let c = Fields {
         code: code as usize,
         i: i as usize,
@@ -52,7 +51,7 @@ pub fn command(b: &mut [u8], code: u64, i: u64, s: u64, o: u64, k: u64) -> Answe
         o: o as usize,
         k: k as usize,
     };
-    commands::command_on(b, n, p, &mut owners, c)
+    commands::command_on(b, f, &mut owners, c)
 }
 
 // The commands of a list in turn, up to the first that is refused: how many were accepted, and the refusal, 0 if none.
@@ -61,7 +60,7 @@ pub fn run(b: &mut [u8], l: &[u8]) -> Outcome
     ensures bytes { λ r. ⌜ now (b .exit) ≡ runBytes (now (b .entry)) (now (l .entry)) ⌝ }
     ensures numbers { λ r. ⌜ runNumbers r ≡ runResult (now (b .entry)) (now (l .entry)) ⌝ }
 {
-    let mut owners = [0u8; 64];
+    let mut owners = [0u8; MOST_SUBJECTS];
     let turned = validity::refusal_with(b, &mut owners);
     if turned != 0 {
         return Outcome {
@@ -75,9 +74,8 @@ pub fn run(b: &mut [u8], l: &[u8]) -> Outcome
             refusal: 16,
         };
     }
-    let n = opening::byte(b, 5);
-    let p = opening::byte(b, 6);
-    runs::run_on(b, n, p, &mut owners, l)
+    let f = opening::shape(b);
+    runs::run_on(b, f, &mut owners, l)
 }
 
 // The safety question: safe, or leaks by a list that is written at the start of `out`, or refused by a number.

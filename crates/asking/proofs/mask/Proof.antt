@@ -1,5 +1,5 @@
 -- `asking::mask` meets its contract.
-use Prim.Native.Nat.{ℕ, _+_, _*_, _≤_}
+use Prim.Native.Nat.{ℕ, _+_, _*_, _^_, _<_}
 use native.Mathlib.Omega.{arith}
 use mathlib.Core.Path.{_∙_, ap₂}
 use Rattle.matrix.specs.Shaped.{Octets}
@@ -18,7 +18,7 @@ add-number c = search needs
 number-requires-2 : tie.Need-number-requires-2
 number-requires-2 c κs = search needs
 
-small : (c : tie.After-number2) → (c .before .number .result ≤ 4294967295) × (c .number2 .result ≤ 4294967295)
+small : (c : tie.After-number2) → (c .before .number .result < 256 ^ 4) × (c .number2 .result < 256 ^ 4)
 small c =
     let a = c .before .before .before .args in
     let o : Octets (a .l .now) = record { octet = λ j. c .before .before .shared-slice-known .given j .fits } in

@@ -1,5 +1,4 @@
 -- `station::command` meets its contract.
-use native.Mathlib.Omega.{arith}
 use mathlib.Core.Path.{_≡_, sym, _∙_}
 use Rattle.matrix.specs.Record.{recordRefusal}
 use Rattle.matrix.specs.Shaped.{Octets}
@@ -25,24 +24,21 @@ right c = sym (c .before .refusal-with .ensures .0) ∙ c .if1 .left
 octets : (c : tie.Else1) → Octets (c .before .before .before .before .before .args .b .now)
 octets c = record { octet = λ j. c .before .before .before .before .slice-known .given j .fits }
 
-opened : (c : tie.After-byte2) → Station (c .before .before .before .before .before .before .before .before .before .args .b .now) (c .before .before .byte .result) (c .byte2 .result)
-opened c = station-of (octets (c .before .before .before .before)) (right (c .before .before .before .before)) (c .before .before .byte .ensures) (c .byte2 .ensures)
+opened : (c : tie.After-shape) → Station (c .before .before .before .before .before .before .before .args .b .now) (c .shape .result)
+opened c = station-of (octets (c .before .before)) (right (c .before .before)) (c .shape .ensures)
 
 returns : tie.Need-returns
 returns c =
     let e = command-turned-down _ (c .before .refusal-with .ensures .0) (c .if1 .taken) _ in
     (e, (command-kept _ (c .before .refusal-with .ensures .0) (c .if1 .taken) _, command-numbers _ _ e))
 
-byte-requires : tie.Need-byte-requires
-byte-requires c κs = omega (arith, long-enough _ (right (c .before)))
-
-byte-requires-2 : tie.Need-byte-requires-2
-byte-requires-2 c κs = omega (arith, long-enough _ (right (c .before .before .before)))
+shape-requires : tie.Need-shape-requires
+shape-requires c κs = long-enough _ (right (c .before))
 
 command-on-requires : tie.Need-command-on-requires
 command-on-requires c κs =
     let f = c .before .before in
-    record { station = opened f; valid = valid-record _ (right (f .before .before .before .before)); size = f .before .before .before .before .before .refusal-with .ensures .1 }
+    record { station = opened f; valid = valid-record _ (right (f .before .before)); size = f .before .before .before .refusal-with .ensures .1 }
 
 same-length-2 : tie.Need-same-length-2
 same-length-2 c = search needs
@@ -50,8 +46,8 @@ same-length-2 c = search needs
 returns-2 : tie.Need-returns-2
 returns-2 c =
     let f = c .before .before .before .before .before in
-    let e = command-reply (right (f .before .before .before .before)) (opened f) (c .before .before .command-on .ensures .0) in
-    (e, (command-done (right (f .before .before .before .before)) (opened f) (c .before .before .command-on .ensures .0), command-numbers _ _ e))
+    let e = command-reply (right (f .before .before)) (opened f) (c .before .before .command-on .ensures .0) in
+    (e, (command-done (right (f .before .before)) (opened f) (c .before .before .command-on .ensures .0), command-numbers _ _ e))
 
 pub command-spec : {M : Type 1} → statement M
 command-spec =
@@ -60,8 +56,7 @@ command-spec =
     refusal-with-requires
     same-length
     returns
-    byte-requires
-    byte-requires-2
+    shape-requires
     command-on-requires
     same-length-2
     returns-2)

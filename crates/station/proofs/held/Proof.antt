@@ -1,5 +1,4 @@
 -- `station::held` meets its contract.
-use native.Mathlib.Omega.{arith}
 use mathlib.Core.Path.{_≡_, sym, _∙_}
 use Rattle.matrix.specs.Record.{recordRefusal}
 use Rattle.matrix.specs.Shaped.{Octets}
@@ -24,19 +23,14 @@ octets c = record { octet = λ j. c .before .before .shared-slice-known .given j
 returns : tie.Need-returns
 returns c = let e = held-turned-down _ (c .before .refusal .ensures) (c .if1 .taken) _ _ _ in (e, held-numbers _ _ _ _ e)
 
-byte-requires : tie.Need-byte-requires
-byte-requires c κs = omega (arith, long-enough _ (right c))
-
-byte-requires-2 : tie.Need-byte-requires-2
-byte-requires-2 c κs = omega (arith, long-enough _ (right (c .before)))
+shape-requires : tie.Need-shape-requires
+shape-requires c κs = long-enough _ (right c)
 
 held-on-requires : tie.Need-held-on-requires
-held-on-requires c κs = station-of (octets (c .before .before)) (right (c .before .before)) (c .before .byte .ensures) (c .byte2 .ensures)
+held-on-requires c κs = station-of (octets (c .before)) (right (c .before)) (c .shape .ensures)
 
 returns-2 : tie.Need-returns-2
-returns-2 c = let e = c .held-on .ensures ∙ held-answer _ _ _ _ (right (c .before .before .before)) in (e, held-numbers _ _ _ _ e)
+returns-2 c = let e = c .held-on .ensures ∙ held-answer _ _ _ _ (right (c .before .before)) in (e, held-numbers _ _ _ _ e)
 
 pub held-spec : {M : Type 1} → statement M
-held-spec =
-    tie.close
-    (tie.spec refusal-requires returns byte-requires byte-requires-2 held-on-requires returns-2)
+held-spec = tie.close (tie.spec refusal-requires returns shape-requires held-on-requires returns-2)

@@ -1,5 +1,4 @@
 -- `station::run` meets its contract.
-use native.Mathlib.Omega.{arith}
 use mathlib.Core.Path.{_≡_, sym, _∙_}
 use Rattle.matrix.specs.Record.{recordRefusal}
 use Rattle.matrix.specs.Shaped.{Octets}
@@ -32,8 +31,8 @@ octets c = record { octet = λ j. c .before .before .before .before .before .sli
 formed : (c : tie.Else2) → wellFormed (c .before .before .before .before .before .before .before .before .args .l .now) ≡ true
 formed c = sym (c .before .well-formed .ensures) ∙ not-false _ (c .if2 .left)
 
-opened : (c : tie.After-byte2) → Station (c .before .before .before .before .before .before .before .before .before .before .before .before .args .b .now) (c .before .before .byte .result) (c .byte2 .result)
-opened c = station-of (octets (c .before .before .before .before .before .before)) (right (c .before .before .before .before .before .before)) (c .before .before .byte .ensures) (c .byte2 .ensures)
+opened : (c : tie.After-shape) → Station (c .before .before .before .before .before .before .before .before .before .before .args .b .now) (c .shape .result)
+opened c = station-of (octets (c .before .before .before .before)) (right (c .before .before .before .before)) (c .shape .ensures)
 
 returns : tie.Need-returns
 returns c =
@@ -52,16 +51,13 @@ returns-2 c =
     let e = list-turned-down _ _ (right (c .before .before)) f in
     (e, (list-kept _ _ (right (c .before .before)) f, run-numbers _ _ e))
 
-byte-requires : tie.Need-byte-requires
-byte-requires c κs = omega (arith, long-enough _ (right (c .before .before .before)))
-
-byte-requires-2 : tie.Need-byte-requires-2
-byte-requires-2 c κs = omega (arith, long-enough _ (right (c .before .before .before .before .before)))
+shape-requires : tie.Need-shape-requires
+shape-requires c κs = long-enough _ (right (c .before .before .before))
 
 run-on-requires : tie.Need-run-on-requires
 run-on-requires c κs =
     let f = c .before .before in
-    let d = f .before .before .before .before in
+    let d = f .before .before in
     (record { station = opened f; valid = valid-record _ (right (d .before .before)); size = d .before .before .before .refusal-with .ensures .1 }, formed d)
 
 same-length-3 : tie.Need-same-length-3
@@ -69,7 +65,7 @@ same-length-3 c = search needs
 
 returns-3 : tie.Need-returns-3
 returns-3 c =
-    let d = c .before .before .before .before .before .before .before .before .before in
+    let d = c .before .before .before .before .before .before .before in
     let e = run-outcome _ _ (right (d .before .before)) (formed d) (c .before .before .run-on .ensures) in
     (e, (run-done _ _ (right (d .before .before)) (formed d) (c .before .before .run-on .ensures), run-numbers _ _ e))
 
@@ -83,8 +79,7 @@ run-spec =
     well-formed-requires
     same-length-2
     returns-2
-    byte-requires
-    byte-requires-2
+    shape-requires
     run-on-requires
     same-length-3
     returns-3)
