@@ -6,12 +6,13 @@ ghost use lib.Dec.{eqb};
 ghost use lib.ListN.{length, getD};
 ghost use Rattle.matrix.specs.Bounded.{all};
 ghost use Rattle.matrix.specs.Bytes.{bit};
-ghost use Rattle.matrix.specs.Shape.{mostSubjects, mostPlain};
+ghost use Rattle.matrix.specs.Shape.{mostSubjects, mostPlain, columns};
 ghost use Rattle.lanes.specs.Lists.{Stored};
 ghost use Rattle.columns.specs.Cells.{mostRow, mostCounted, lanesOf, lastLane, bitsIn};
 ghost use Rattle.columns.specs.Checks.{present, zeroFrom, rootCounts, otherCounts, countTest, subjectAt, subjectTest, plainTest, plainWrong, Celled, Placed, Lists};
-use lanes::MOST_PLAIN;
-use lanes::MOST_SUBJECTS;
+use matrix::MOST_COLUMNS;
+use matrix::MOST_SUBJECTS;
+use matrix::Shape;
 use lanes::Matrix;
 use lanes::UPPER;
 
@@ -19,7 +20,7 @@ use lanes::UPPER;
 const CELL_LANES: usize = 1;
 
 // The lanes of the longest row, and of the most subjects' columns.
-pub const ROW: usize = CELL_LANES * (MOST_SUBJECTS + MOST_PLAIN);
+pub const ROW: usize = CELL_LANES * MOST_COLUMNS;
 
 pub const COUNTED: usize = CELL_LANES * MOST_SUBJECTS;
 
@@ -217,11 +218,13 @@ fn plain_wrong(seen: &[u16; ROW], c: usize) -> u16
     }
 }
 
-// The p plain columns, after n columns of subjects. All of them are looked at, so that the compiler may take many at once.
-pub fn plains(seen: &[u16; ROW], n: usize, p: usize) -> bool
-    requires { ⌜ (n + p ≤ mostSubjects + mostPlain) × (length (now seen) ≡ mostRow) ⌝ }
-    ensures { λ r. ⌜ r ≡ all p (λ i. plainTest (now (seen .entry)) (n + i)) ⌝ }
+// The plain columns, after those of the subjects. All of them are looked at, so that the compiler may take many at once.
+pub fn plains(seen: &[u16; ROW], f: Shape) -> bool
+    requires { ⌜ (columns f ≤ mostSubjects + mostPlain) × (length (now seen) ≡ mostRow) ⌝ }
+    ensures { λ r. ⌜ r ≡ all f.p (λ i. plainTest (now (seen .entry)) (f.n + i)) ⌝ }
 {
+    let n = f.n;
+    let p = f.p;
     let mut wrong: u16 = 0;
     for i in 0..p {
         wrong = wrong | plain_wrong(seen, n + i);

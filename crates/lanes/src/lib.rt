@@ -5,11 +5,6 @@ ghost use lib.ListN.{length, getD};
 ghost use Rattle.lanes.specs.Lists.{Part};
 ghost use Rattle.lanes.specs.Lanes.{faultOf, laneIn};
 
-// The limits of a record.
-pub const MOST_SUBJECTS: usize = 64;
-
-pub const MOST_PLAIN: usize = 192;
-
 // What the upper byte of a lane counts.
 pub const UPPER: u16 = 256;
 

@@ -8,7 +8,7 @@ ghost use Rattle.matrix.specs.Shape.{mostSubjects};
 ghost use Rattle.lanes.specs.Lists.{Stored};
 ghost use Rattle.owner_table.specs.Followed.{followed};
 ghost use Rattle.owner_table.specs.Table.{reach, ownerIn, lowerTest, Inside};
-use lanes::MOST_SUBJECTS;
+use matrix::MOST_SUBJECTS;
 
 // U's entry is U, and that of any other subject has a lower number than the subject. Those after U are all looked at, so that the compiler
 // may take many at once.

@@ -35,12 +35,12 @@ loop-again : tie.Need-loop-again Inv-loop μ-loop
 loop-again c =
     let l = c .before .before .loop in
     let a = c .before .before .before .args in
-    (search needs, ap (λ (x : ℕ). bitOr (l .wrong) x) (c .plain-wrong .ensures) ∙ merged-more (l .i) (λ k. plainWrong (a .seen .now) (a .n + k)) (l .wrong) (l .inv .1))
+    (search needs, ap (λ (x : ℕ). bitOr (l .wrong) x) (c .plain-wrong .ensures) ∙ merged-more (l .i) (λ k. plainWrong (a .seen .now) (a .f .n + k)) (l .wrong) (l .inv .1))
 
 returns : tie.Need-returns Inv-loop μ-loop
 returns c =
     let a = c .before .before .args in
-    merged-done _ _ _ _ (c .before .loop .inv .0) (c .loop-test .left) (c .before .loop .inv .1) ∙ plains-right (a .seen .now) (a .n) (a .p)
+    merged-done _ _ _ _ (c .before .loop .inv .0) (c .loop-test .left) (c .before .loop .inv .1) ∙ plains-right (a .seen .now) (a .f .n) (a .f .p)
 
 pub plains-spec : {M : Type 1} → statement M
 plains-spec =
