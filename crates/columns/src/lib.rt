@@ -10,11 +10,11 @@ ghost use Rattle.matrix.specs.Shape.{mostSubjects, mostPlain, columns};
 ghost use Rattle.lanes.specs.Lists.{Stored};
 ghost use Rattle.columns.specs.Cells.{mostRow, mostCounted, lanesOf, lastLane, bitsIn};
 ghost use Rattle.columns.specs.Checks.{present, zeroFrom, rootCounts, otherCounts, countTest, subjectAt, subjectTest, plainTest, plainWrong, Celled, Placed, Lists};
+use lanes::Matrix;
+use lanes::UPPER;
 use matrix::MOST_COLUMNS;
 use matrix::MOST_SUBJECTS;
 use matrix::Shape;
-use lanes::Matrix;
-use lanes::UPPER;
 
 // The lanes of a cell.
 const CELL_LANES: usize = 1;

@@ -1,4 +1,4 @@
-// Opening a record that is not turned down: what its version and its bytes 5 and 6 fix is its shape, made here and handed on as one value.
+// The shape of a record, which its version and its bytes 5 and 6 fix: made here from its bytes, and handed on as one value.
 
 use matrix::HEADER_BYTES;
 use matrix::Shape;

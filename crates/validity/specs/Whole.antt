@@ -1,7 +1,7 @@
 -- The tests of a whole record, from those that the code makes one after another.
-use Prim.Native.Nat.{ℕ, _+_, _-_, _*_, _≤_, _<_}
+use Prim.Native.Nat.{ℕ, _+_, _≤_, _<_}
 use native.Mathlib.Omega.{arith}
-use mathlib.Core.Path.{_≡_, refl, sym, _∙_, ap}
+use mathlib.Core.Path.{_≡_, refl, sym, _∙_, ap, subst}
 use mathlib.Core.Bool.{Bool, true, false, cond, _&&_}
 use mathlib.Core.List.{List}
 use lib.Dec.{eqb, leb}
@@ -9,12 +9,15 @@ use lib.ListN.{length, getD, replicate, length-replicate, getD-replicate}
 use borrow.Author.Tests.{eqb-true, leb-true, eq-eqb, ne-eqb}
 use Rattle.matrix.specs.Bounded.{all}
 use Rattle.matrix.specs.Bytes.{numberAt}
-use Rattle.matrix.specs.Shape.{shapeOf, knownVersion, mostSubjects, mostPlain, inRange, sized, countOf, sizeOf}
-use Rattle.matrix.specs.Shaped.{Octets}
+use Rattle.matrix.specs.declared.Shape.{Shape}
+use Rattle.matrix.specs.Shape.{headerBytes, shapeOf, knownVersion, mostSubjects, mostPlain, inRange, sized, countOf, sizeOf}
+use Rattle.matrix.specs.Shaped.{Shaped, Octets}
 use Rattle.matrix.specs.Reading.{stateOf}
 use Rattle.matrix.specs.Record.{validMatrix}
 use Rattle.laws.specs.Tests.{and-left, and-right}
 use Rattle.laws.specs.Bounded.{all-same}
+use Rattle.codec.specs.ShapeRight.{ShapeRight}
+use Rattle.cells.specs.Station.{Station, right-shape}
 use Rattle.lanes.specs.declared.Matrix.{Matrix}
 use Rattle.lanes.specs.Lists.{Stored}
 use Rattle.lanes.specs.Lanes.{merged, Seen, Counted}
@@ -25,7 +28,7 @@ use Rattle.owner_table.specs.Table.{reach, ownerIn, Inside}
 use Rattle.validity.specs.Fast.{testsPass}
 use Rattle.validity.specs.Valid.{valid-tests}
 use Rattle.validity.specs.Passed.{ownerAt, all-passed, owners-inside}
-use Rattle.validity.specs.Header.{headSize, Headed, Whole}
+use Rattle.validity.specs.Header.{Headed}
 
 -- a table of zeros, as it is before the rows are read
 pub unread : (owners : List ℕ) → owners ≡ replicate mostSubjects 0 → length owners ≡ mostSubjects
@@ -37,15 +40,14 @@ unfolding merged
 seen-none b m from h = record { size = length-replicate {A = ℕ} mostRow 0; value = λ c g l. getD-replicate mostRow c 0 0 (omega arith) }
 
 -- A record whose columns are counted and merged. Where all subjects exist, `full`, the columns of subjects are not merged.
-pub record Scanned (b : List ℕ) (m : Matrix) (p : ℕ) (full : Bool) (seen tally odd marks : List ℕ) : Type 0 where
-  pub whole : Whole b (m .rows) p
-  pub octets : Octets b
-  pub lanes : m ≡ matrixOf (shapeOf b)
+pub record Scanned (b : List ℕ) (f : Shape) (m : Matrix) (full : Bool) (seen tally odd marks : List ℕ) : Type 0 where
+  pub station : Station b f
+  pub lanes : m ≡ matrixOf f
   pub here : full ≡ all (m .rows) (present b m)
   pub saw : Seen mostRow b m (m .rows) (cond full (lanesOf (m .rows)) 0) seen
   pub kept : Counted mostCounted b m (lanesOf (m .rows)) tally odd marks
 
-module _ (b : List ℕ) (m : Matrix) (p : ℕ) (full : Bool) (seen tally odd marks : List ℕ) (scanned : Scanned b m p full seen tally odd marks) where
+module _ (b : List ℕ) (f : Shape) (m : Matrix) (full : Bool) (seen tally odd marks : List ℕ) (scanned : Scanned b f m full seen tally odd marks) where
   abbrev n : ℕ
   n = m .rows
 
@@ -53,29 +55,32 @@ module _ (b : List ℕ) (m : Matrix) (p : ℕ) (full : Bool) (seen tally odd mar
   S = all n (subjectTest b m seen tally odd)
 
   abbrev P : Bool
-  P = all p (λ i. plainTest seen (n + i))
+  P = all (f .p) (λ i. plainTest seen (n + i))
 
   abbrev R : Bool
   R = all n (λ s. eqb (followed (ownerAt marks) reach s) 0)
 
-  width : m .lanes ≡ lanesOf (n + p)
-  width = ap (λ (x : Matrix). x .lanes) (scanned .lanes) ∙ (λ i. lanesOf (sym (scanned .whole .head .subjects) i + sym (scanned .whole .head .plain) i))
+  rows : n ≡ f .n
+  rows = ap (λ (x : Matrix). x .rows) (scanned .lanes)
+
+  width : m .lanes ≡ lanesOf (n + f .p)
+  width = ap (λ (x : Matrix). x .lanes) (scanned .lanes) ∙ ap (λ (k : ℕ). lanesOf (k + f .p)) (sym rows)
+
+  some : 0 < n
+  some = omega (arith, rows, right-shape (scanned .station) .low)
 
   valid-whole : (S && P && R) ≡ validMatrix (shapeOf b) (stateOf b)
   valid-whole =
-      let h : Headed b n p = scanned .whole .head in
-      let some : 0 < n = h .low in
-      let most : n ≤ mostSubjects = h .high in
-      let e : n ≡ shapeOf b .n = h .subjects in
-      let z : m ≡ matrixOf (shapeOf b) = scanned .lanes in
-      all-passed b (scanned .octets) m (n + p) full seen tally odd marks width (scanned .here) (scanned .saw) (scanned .kept) (omega arith) p refl some
-      ∙ (λ i. testsPass (z i .rows) (h .plain i) (ownBit b (z i)) (controlBit b (z i)) (zeroCell b (z i)))
-      ∙ valid-tests b (scanned .octets) (omega arith) (omega arith)
+      let s = scanned .station in
+      let z : m ≡ matrixOf (shapeOf b) = scanned .lanes ∙ ap matrixOf (s .shape) in
+      all-passed b (s .octets) m (n + f .p) full seen tally odd marks width (scanned .here) (scanned .saw) (scanned .kept) (omega arith) (f .p) refl some
+      ∙ (λ i. testsPass (z i .rows) (s .shape i .p) (ownBit b (z i)) (controlBit b (z i)) (zeroCell b (z i)))
+      ∙ valid-tests b (s .octets) (s .shaped .low) (s .shaped .high)
 
   found-inside : S ≡ true → P ≡ true → Inside n (ownerAt marks)
   found-inside =
-      owners-inside b (scanned .octets) m (n + p) full seen tally odd marks width (scanned .here) (scanned .saw) (scanned .kept) (omega arith) p refl
-      (scanned .whole .head .low)
+      owners-inside b (scanned .station .octets) m (n + f .p) full seen tally odd marks width (scanned .here) (scanned .saw) (scanned .kept) (omega arith) (f .p) refl
+      some
 
   -- an answer, with the size of the table of owners
   abbrev Judged : List ℕ → Bool → Type 0
@@ -106,48 +111,59 @@ module _ (b : List ℕ) (m : Matrix) (p : ℕ) (full : Bool) (seen tally odd mar
 
 -- ---- the header
 
-pub version-read : (b : List ℕ) → getD b 0 0 ≡ 1 → knownVersion (shapeOf b .version) ≡ true
-unfolding shapeOf
-version-read b h = eq-eqb (getD b 0 0) 1 h
+-- the tests of a shape, where it is the one that the bytes say
+module _ (b : List ℕ) (f : Shape) (e : f ≡ shapeOf b) where
+  pub version-read : f .version ≡ 1 → knownVersion (shapeOf b .version) ≡ true
+  version-read h = eq-eqb (shapeOf b .version) 1 (sym (ap (λ (x : Shape). x .version) e) ∙ h)
 
-pub version-wrong : (b : List ℕ) → (getD b 0 0 ≡ 1 → ⊥) → knownVersion (shapeOf b .version) ≡ false
-unfolding shapeOf
-version-wrong b h = ne-eqb (getD b 0 0) 1 h
+  pub version-wrong : (f .version ≡ 1 → ⊥) → knownVersion (shapeOf b .version) ≡ false
+  version-wrong h = ne-eqb (shapeOf b .version) 1 (λ q. h (ap (λ (x : Shape). x .version) e ∙ q))
 
-pub range-read : (b : List ℕ) (r t : Bool) → r ≡ (leb 1 (getD b 5 0) && leb (getD b 5 0) mostSubjects && leb (getD b 6 0) mostPlain) → r ≡ t → inRange (shapeOf b) ≡ t
-unfolding shapeOf
-range-read b r t e q = sym e ∙ q
+  pub range-read : (r t : Bool) → r ≡ inRange f → r ≡ t → inRange (shapeOf b) ≡ t
+  range-read r t g q = ap (λ (x : Shape). inRange x) (sym e) ∙ sym g ∙ q
 
-pub headed : (b : List ℕ) → headSize ≤ length b → inRange (shapeOf b) ≡ true → Headed b (getD b 5 0) (getD b 6 0)
+-- the shape is right where the version is known and n and p are within the limits
+shape-read : (b : List ℕ) → knownVersion (shapeOf b .version) ≡ true → inRange (shapeOf b) ≡ true → ShapeRight (shapeOf b)
 unfolding shapeOf
-headed b long h =
+shape-read b v h =
+    let n = getD b 5 0 in
     record {
-      long = long;
-      subjects = refl;
-      plain = refl;
-      low = leb-true 1 (getD b 5 0) (and-left _ _ (and-left _ _ h));
-      high = leb-true (getD b 5 0) mostSubjects (and-right (leb 1 (getD b 5 0)) _ (and-left _ _ h));
-      most = leb-true (getD b 6 0) mostPlain (and-right (leb 1 (getD b 5 0) && leb (getD b 5 0) mostSubjects) _ h);
+      version = v;
+      low = leb-true 1 n (and-left _ _ (and-left _ _ h));
+      high = leb-true n mostSubjects (and-right (leb 1 n) _ (and-left _ _ h));
+      plain = leb-true (getD b 6 0) mostPlain (and-right (leb 1 n && leb n mostSubjects) _ h);
+      width = refl;
+      first = refl;
     }
 
-pub whole-read : (b : List ℕ) → Headed b (getD b 5 0) (getD b 6 0) → sized b ≡ true → Whole b (getD b 5 0) (getD b 6 0)
-unfolding shapeOf
-whole-read b f h = record { head = f; size = eqb-true (length b) _ (and-right (eqb (numberAt b 1 4) (countOf (shapeOf b))) _ h) }
+pub headed : (b : List ℕ) (f : Shape) → f ≡ shapeOf b → headerBytes ≤ length b → knownVersion (shapeOf b .version) ≡ true → inRange (shapeOf b) ≡ true
+    → Headed b f
+headed b f e long v h = record { long = long; shape = e; right = subst ShapeRight (sym e) (shape-read b v h) }
+
+-- a record is of the right form where its size is right too
+pub station-read : (b : List ℕ) (f : Shape) → Octets b → Headed b f → sized b ≡ true → Station b f
+station-read b f o h s =
+    let r = subst ShapeRight (h .shape) (h .right) in
+    let counted = eqb (numberAt b 1 4) (countOf (shapeOf b)) in
+    let shaped : Shaped b =
+    record {
+      version = r .version;
+      low = r .low;
+      high = r .high;
+      plain = r .plain;
+      count = eqb-true _ _ (and-left counted _ s);
+      size = eqb-true (length b) _ (and-right counted _ s);
+    } in
+    record { shaped = shaped; octets = o; shape = h .shape }
 
 -- L is right, and the true length is left; L is wrong
-module _ (b : List ℕ) (n p l : ℕ) (f : Headed b n p) (e : l ≡ numberAt b 1 4) where
-  abbrev size : ℕ
-  size = shapeOf b .first + shapeOf b .width * (n * (n + p))
-
-  size-read : sizeOf (shapeOf b) ≡ size
-  size-read = λ i. shapeOf b .first + shapeOf b .width * (sym (f .subjects) i * (sym (f .subjects) i + sym (f .plain) i))
-
-  pub count-right : l ≡ size - 5 → eqb (length b) size ≡ sized b
+module _ (b : List ℕ) (f : Shape) (l : ℕ) (h : Headed b f) (e : l ≡ numberAt b 1 4) where
+  pub count-right : l ≡ countOf f → eqb (length b) (sizeOf f) ≡ sized b
   count-right q =
-      let c : eqb (numberAt b 1 4) (countOf (shapeOf b)) ≡ true = eq-eqb _ _ (sym e ∙ q ∙ ap (λ (x : ℕ). x - 5) (sym size-read)) in
-      ap (λ (x : ℕ). eqb (length b) x) (sym size-read) ∙ rw c refl
+      let c : eqb (numberAt b 1 4) (countOf (shapeOf b)) ≡ true = eq-eqb _ _ (sym e ∙ q ∙ ap (λ (x : Shape). countOf x) (h .shape)) in
+      ap (λ (x : Shape). eqb (length b) (sizeOf x)) (h .shape) ∙ rw c refl
 
-  pub count-wrong : (l ≡ size - 5 → ⊥) → false ≡ sized b
+  pub count-wrong : (l ≡ countOf f → ⊥) → false ≡ sized b
   count-wrong ne =
-      let c : eqb (numberAt b 1 4) (countOf (shapeOf b)) ≡ false = ne-eqb _ _ (λ h. ne (e ∙ h ∙ ap (λ (x : ℕ). x - 5) size-read)) in
+      let c : eqb (numberAt b 1 4) (countOf (shapeOf b)) ≡ false = ne-eqb _ _ (λ q. ne (e ∙ q ∙ ap (λ (x : Shape). countOf x) (sym (h .shape)))) in
       rw c refl

@@ -1,38 +1,33 @@
 // Whether a record is turned down, and by which of the refusals 1 to 5.
 ghost use mathlib.Core.Path.{_≡_};
-ghost use mathlib.Core.Bool.{_&&_};
 ghost use Prim.Native.Nat.{_≤_};
-ghost use lib.Dec.{leb};
 ghost use lib.ListN.{length, replicate};
 ghost use Rattle.matrix.specs.Bytes.{numberAt};
-ghost use Rattle.matrix.specs.Shape.{mostSubjects, mostPlain, shapeOf, sized};
+ghost use Rattle.matrix.specs.Shape.{headerBytes, mostSubjects, shapeOf, inRange, sized};
 ghost use Rattle.matrix.specs.Reading.{stateOf};
 ghost use Rattle.matrix.specs.Record.{validMatrix, recordRefusal};
-ghost use Rattle.validity.specs.Header.{headSize, Headed, Whole};
+ghost use Rattle.cells.specs.Station.{Station};
+ghost use Rattle.validity.specs.Header.{Headed};
 use columns::COUNTED;
 use columns::ROW;
-use lanes::MOST_PLAIN;
-use lanes::MOST_SUBJECTS;
 use lanes::Matrix;
+use matrix::HEADER_BYTES;
+use matrix::MOST_PLAIN;
+use matrix::MOST_SUBJECTS;
+use matrix::Shape;
 
-// The bytes of the header, the place of the first cell, and the bytes of a cell.
-const HEAD: usize = 7;
-
-const FIRST: usize = 7;
-
-const WIDTH: usize = 2;
-
-// The matrix of a record of n subject names and p plain names is valid. Where all subjects exist, what is seen in their columns is not
-// needed. The table `owners`, of zeros at first, is left with a guess of who owns each subject, of which nothing is promised.
-fn valid(b: &[u8], n: usize, p: usize, owners: &mut [u8; COUNTED]) -> bool
-    requires { ⌜ Whole (now b) n p × (now owners ≡ replicate mostSubjects 0) ⌝ }
+// The matrix of a record of this shape is valid. Where all subjects exist, what is seen in their columns is not needed. The table `owners`,
+// of zeros at first, is left with a guess of who owns each subject, of which nothing is promised.
+fn valid(b: &[u8], f: Shape, owners: &mut [u8; COUNTED]) -> bool
+    requires { ⌜ Station (now b) f × (now owners ≡ replicate mostSubjects 0) ⌝ }
     ensures verdict { λ r. ⌜ r ≡ validMatrix (shapeOf (now (b .entry))) (stateOf (now (b .entry))) ⌝ }
     ensures table { λ r. ⌜ length (now (owners .exit)) ≡ mostSubjects ⌝ }
 {
+    let n = f.n;
     let m = Matrix {
-        first: FIRST,
+        first: f.first,
         rows: n,
-        lanes: columns::lanes_of(n + p),
+        lanes: columns::lanes_of(n + f.p),
     };
     let subjects = columns::lanes_of(n);
     let mut tally = [0u8; COUNTED];
@@ -45,7 +40,7 @@ fn valid(b: &[u8], n: usize, p: usize, owners: &mut [u8; COUNTED]) -> bool
     if !columns::subjects(b, &seen, &tally, &odd, m, full) {
         return false;
     }
-    if !columns::plains(&seen, n, p) {
+    if !columns::plains(&seen, f) {
         return false;
     }
     columns::owners(owners, n);
@@ -53,32 +48,33 @@ fn valid(b: &[u8], n: usize, p: usize, owners: &mut [u8; COUNTED]) -> bool
 }
 
 // n and p are within the limits.
-fn in_range(n: usize, p: usize) -> bool
-    ensures { λ r. ⌜ r ≡ (leb 1 n && leb n mostSubjects && leb p mostPlain) ⌝ }
+fn in_range(f: Shape) -> bool
+    ensures { λ r. ⌜ r ≡ inRange f ⌝ }
 {
+    let n = f.n;
     if n < 1 {
         return false;
     }
     if n > MOST_SUBJECTS {
         return false;
     }
-    p <= MOST_PLAIN
+    f.p <= MOST_PLAIN
 }
 
 // The four bytes of L.
 fn count(b: &[u8]) -> usize
-    requires { ⌜ headSize ≤ length (now b) ⌝ }
+    requires { ⌜ headerBytes ≤ length (now b) ⌝ }
     ensures { λ r. ⌜ r ≡ numberAt (now (b .entry)) 1 4 ⌝ }
 {
     ((b[1] as usize * 256 + b[2] as usize) * 256 + b[3] as usize) * 256 + b[4] as usize
 }
 
-// L and the true length are those that n and p ask for.
-fn right_size(b: &[u8], n: usize, p: usize) -> bool
-    requires { ⌜ Headed (now b) n p ⌝ }
+// L, which counts the bytes from byte 5 on, and the true length are those of the shape.
+fn right_size(b: &[u8], f: Shape) -> bool
+    requires { ⌜ Headed (now b) f ⌝ }
     ensures { λ r. ⌜ r ≡ sized (now (b .entry)) ⌝ }
 {
-    let size = FIRST + WIDTH * (n * (n + p));
+    let size = f.first + f.width * (f.n * (f.n + f.p));
     if count(b) == size - 5 {
         b.len() == size
     } else {
@@ -89,25 +85,24 @@ fn right_size(b: &[u8], n: usize, p: usize) -> bool
 // The refusal, 1 to 5, of a record, or 0 if it is valid. The table `owners`, of zeros at first, is left with a guess of who owns each
 // subject, for callers that follow owners: they test each guess, so nothing is promised of it.
 pub fn refusal_with(b: &[u8], owners: &mut [u8; COUNTED]) -> usize
-    requires { ⌜ now owners ≡ replicate 64 0 ⌝ }
+    requires { ⌜ now owners ≡ replicate mostSubjects 0 ⌝ }
     ensures refusal { λ r. ⌜ r ≡ recordRefusal (now (b .entry)) ⌝ }
-    ensures table { λ r. ⌜ length (now (owners .exit)) ≡ 64 ⌝ }
+    ensures table { λ r. ⌜ length (now (owners .exit)) ≡ mostSubjects ⌝ }
 {
-    if b.len() < HEAD {
+    if b.len() < HEADER_BYTES {
         return 1;
     }
-    if b[0] != 1 {
+    let f = opening::shape(b);
+    if f.version != 1 {
         return 2;
     }
-    let n = b[5] as usize;
-    let p = b[6] as usize;
-    if !in_range(n, p) {
+    if !in_range(f) {
         return 3;
     }
-    if !right_size(b, n, p) {
+    if !right_size(b, f) {
         return 4;
     }
-    if valid(b, n, p, owners) { 0 } else { 5 }
+    if valid(b, f, owners) { 0 } else { 5 }
 }
 
 // The refusal, 1 to 5, of a record, or 0 if it is valid.

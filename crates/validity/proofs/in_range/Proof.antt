@@ -11,7 +11,7 @@ returns-2 : tie.Need-returns-2
 returns-2 c = simp (le-leb 1 _ (c .before .if1 .left), lt-leb _ mostSubjects (c .if2 .taken))
 
 returns-3 : tie.Need-returns-3
-returns-3 c = simp (le-leb 1 _ (c .before .if1 .left), le-leb _ mostSubjects (c .if2 .left))
+returns-3 c = simp (le-leb 1 _ (c .before .before .if1 .left), le-leb _ mostSubjects (c .before .if2 .left))
 
 pub in-range-spec : {M : Type 1} → statement M
 in-range-spec = tie.close (tie.spec returns returns-2 returns-3)

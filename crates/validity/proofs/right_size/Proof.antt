@@ -1,8 +1,7 @@
 -- `validity::right_size` meets its contract. L first, then the true length.
 use Rattle.validity.specs.Whole.{count-right, count-wrong}
 use Rattle.validity.specs.Header.{cells-most}
-use Rattle.matrix.specs.Shape.{shapeOf}
-use Prim.Native.Nat.{_+_}
+use Rattle.codec.specs.ShapeRight.{size-most}
 use native.Mathlib.Omega.{arith}
 use borrow.Author.Needs.{needs}
 use Rattle.validity.proofs.right_size.Statement.{statement}
@@ -12,13 +11,13 @@ add-size : tie.Need-add-size
 add-size c = search needs
 
 mul-size : tie.Need-mul-size
-mul-size c = record { fits = omega (arith, cells-most (c .before .args .n) (c .before .args .n + c .before .args .p) (c .before .pre .high) (omega arith)) }
+mul-size c = let s = c .before .before .before in omega (arith, cells-most (s .args .f) (s .pre .right))
 
 mul-size-2 : tie.Need-mul-size-2
-mul-size-2 c = record { fits = omega (arith, cells-most (c .before .args .n) (c .before .args .n + c .before .args .p) (c .before .pre .high) (omega arith)) }
+mul-size-2 c = let s = c .before .before .before .before in omega (arith, size-most (s .args .f) (s .pre .right))
 
 add-size-2 : tie.Need-add-size-2
-add-size-2 c = record { fits = omega (arith, cells-most (c .before .args .n) (c .before .args .n + c .before .args .p) (c .before .pre .high) (omega arith)) }
+add-size-2 c = let s = c .before .before .before .before .before in omega (arith, size-most (s .args .f) (s .pre .right))
 
 count-requires : tie.Need-count-requires
 count-requires c κs = search needs
@@ -27,12 +26,10 @@ sub-if1 : tie.Need-sub-if1
 sub-if1 c = search needs
 
 returns : tie.Need-returns
-unfolding shapeOf
-returns c = let s = c .before .before .before in count-right (s .args .b .now) (s .args .n) (s .args .p) _ (s .pre) (c .before .count .ensures) (c .if1 .taken)
+returns c = let s = c .before .before .before .before .before .before .before in count-right _ (s .args .f) _ (s .pre) (c .before .count .ensures) (c .if1 .taken)
 
 returns-2 : tie.Need-returns-2
-unfolding shapeOf
-returns-2 c = let s = c .before .before .before in count-wrong (s .args .b .now) (s .args .n) (s .args .p) _ (s .pre) (c .before .count .ensures) (c .if1 .left)
+returns-2 c = let s = c .before .before .before .before .before .before .before in count-wrong _ (s .args .f) _ (s .pre) (c .before .count .ensures) (c .if1 .left)
 
 pub right-size-spec : {M : Type 1} → statement M
 right-size-spec =
