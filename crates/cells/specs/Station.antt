@@ -20,6 +20,10 @@ pub record Cell (b : List ℕ) (f : Shape) (r c : ℕ) : Type 0 where
   pub row : r < f .n
   pub column : c < columns f
 
+-- the shape as another value says it
+pub station-at : {b : List ℕ} {e f : Shape} → Station b e → f ≡ shapeOf b → Station b f
+station-at h q = record { shaped = h .shaped; octets = h .octets; shape = q }
+
 -- the shape is one that records have
 pub right-shape : {b : List ℕ} {f : Shape} → Station b f → ShapeRight f
 right-shape {b} h = subst ShapeRight (sym (h .shape)) (shape-right b (h .shaped))

@@ -17,7 +17,7 @@ ghost use Prim.Native.Nat.{_<_};
 ghost use lib.ListN.{length};
 ghost use Rattle.matrix.specs.Commands.{kindOf};
 ghost use Rattle.matrix.specs.Valid.{Valid};
-ghost use Rattle.matrix.specs.Shape.{mostSubjects, basicsOf};
+ghost use Rattle.matrix.specs.Shape.{mostSubjects, basicsOf, shapeOf};
 ghost use Rattle.matrix.specs.Reading.{stateOf};
 ghost use Rattle.matrix.specs.Calls.{namesFit};
 ghost use Rattle.cells.specs.Station.{Station};
@@ -228,12 +228,14 @@ fn over_object(b: &mut [u8], f: Shape, c: Fields) -> bool
     false
 }
 
-// A command as given, on a valid record, with guesses of who owns each subject.
-pub fn command_on(b: &mut [u8], f: Shape, owners: &mut [u8; MOST_SUBJECTS], c: Fields) -> Answer
-    requires { ⌜ Guessed (now b) f (now owners) ⌝ }
+// A command as given, on a valid record, with guesses of who owns each subject. The record is opened here: the function is compiled by itself,
+// and so knows what is the same in all records.
+pub fn command_on(b: &mut [u8], owners: &mut [u8; MOST_SUBJECTS], c: Fields) -> Answer
+    requires { ⌜ Guessed (now b) (shapeOf (now b)) (now owners) ⌝ }
     ensures answer { λ r. ⌜ Answered (now (b .entry)) (now (b .exit)) c r ⌝ }
     ensures table { λ _. ⌜ length (now (owners .exit)) ≡ mostSubjects ⌝ }
 {
+    let f = opening::shape(b);
     let decoded = decoding::decode(f, c);
     match decoded {
         Decoded::Ready(d, kind) => carry_out(b, f, owners, d, kind),
@@ -256,7 +258,7 @@ pub fn command_in_list(
         return Answer::Accepted(0);
     }
     if !over_object(b, f, c) {
-        return command_on(b, f, owners, c);
+        return command_on(b, owners, c);
     }
     Answer::Accepted(0)
 }

@@ -16,3 +16,6 @@ station-of {b} o h e = record { shaped = record-shaped b h; octets = o; shape = 
 
 pub long-enough : (b : List ℕ) → recordRefusal b ≡ 0 → headerBytes ≤ length b
 long-enough b h = long b (record-shaped b h)
+
+pub station-long : {b : List ℕ} {f : Shape} → Station b f → headerBytes ≤ length b
+station-long {b} h = long b (h .shaped)

@@ -10,9 +10,9 @@ use Rattle.matrix.specs.declared.Right.the-variants.{Own, Control, Basic}
 use Rattle.matrix.specs.declared.Shape.{Shape}
 use Rattle.matrix.specs.Names.{named}
 use Rattle.matrix.specs.Valid.{Valid}
-use Rattle.matrix.specs.Shape.{mostSubjects, basicsOf}
+use Rattle.matrix.specs.Shape.{mostSubjects, basicsOf, shapeOf}
 use Rattle.matrix.specs.Reading.{stateOf}
-use Rattle.cells.specs.Station.{Station}
+use Rattle.cells.specs.Station.{Station, station-at}
 
 -- a right that the cells of a shape have a bit for
 abbrev pub RightIn : Shape → Right → Type 0
@@ -37,3 +37,6 @@ pub record Guessed (b : List ℕ) (f : Shape) (owners : List ℕ) : Type 0 where
   pub station : Station b f
   pub valid : Valid (stateOf b)
   pub size : length owners ≡ mostSubjects
+
+pub guessed-at : {b : List ℕ} {e f : Shape} {owners : List ℕ} → Guessed b e owners → f ≡ shapeOf b → Guessed b f owners
+guessed-at h q = record { station = station-at (h .station) q; valid = h .valid; size = h .size }

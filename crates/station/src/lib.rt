@@ -43,7 +43,6 @@ pub fn command(b: &mut [u8], code: u64, i: u64, s: u64, o: u64, k: u64) -> Answe
     if turned != 0 {
         return Answer::Refused(turned, 0);
     }
-    let f = opening::shape(b);
     let c = Fields {
         code: code as usize,
         i: i as usize,
@@ -51,7 +50,7 @@ pub fn command(b: &mut [u8], code: u64, i: u64, s: u64, o: u64, k: u64) -> Answe
         o: o as usize,
         k: k as usize,
     };
-    commands::command_on(b, f, &mut owners, c)
+    commands::command_on(b, &mut owners, c)
 }
 
 // The commands of a list in turn, up to the first that is refused: how many were accepted, and the refusal, 0 if none.

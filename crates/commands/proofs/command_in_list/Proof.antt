@@ -1,13 +1,13 @@
 -- `commands::command_in_list` meets its contract: where no short way is taken, the bytes are still the same.
 use Prim.Native.Nat.{ℕ}
-use mathlib.Core.Path.{sym, _∙_, subst}
+use mathlib.Core.Path.{refl, sym, _∙_, subst}
 use mathlib.Core.List.{List}
 use borrow.Author.Tests.{not-true, not-false}
 use Rattle.matrix.specs.declared.Answer.the-variants.{Accepted}
 use Rattle.matrix.specs.Reading.{stateOf}
 use Rattle.matrix.specs.Valid.{Valid}
 use Rattle.cells.specs.Station.{Station}
-use Rattle.states.specs.Needs.{Guessed}
+use Rattle.states.specs.Needs.{Guessed, guessed-at}
 use Rattle.commands.specs.Answered.{Answered}
 use borrow.Author.Needs.{needs}
 use Rattle.commands.proofs.command_in_list.Statement.{statement}
@@ -31,7 +31,7 @@ command-on-requires : tie.Need-command-on-requires
 command-on-requires c κs =
     let z = c .before .before .before .before .before .before .before .before .before .before .before .before .before in
     let e = c .before .before .before .before .before .over-object .ensures .stays (not-true _ (c .before .before .if2 .taken)) ∙ c .before .before .before .before .before .before .before .before .before .before .by-right .ensures .stays (c .before .before .before .before .before .before .before .if1 .left) in
-    subst (λ (b : List ℕ). Guessed b (z .args .f) (z .args .owners .now)) (sym e) (z .pre)
+    guessed-at (subst (λ (b : List ℕ). Guessed b (z .args .f) (z .args .owners .now)) (sym e) (z .pre)) refl
 
 same-length-2 : tie.Need-same-length-2
 same-length-2 c = search needs

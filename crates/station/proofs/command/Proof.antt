@@ -1,10 +1,11 @@
 -- `station::command` meets its contract.
-use mathlib.Core.Path.{_≡_, sym, _∙_}
+use mathlib.Core.Path.{_≡_, refl, sym, _∙_}
+use Rattle.matrix.specs.Shape.{shapeOf}
 use Rattle.matrix.specs.Record.{recordRefusal}
 use Rattle.matrix.specs.Shaped.{Octets}
 use Rattle.owners.specs.Read.{valid-record}
 use Rattle.cells.specs.Station.{Station}
-use Rattle.opening.specs.Opened.{station-of, long-enough}
+use Rattle.opening.specs.Opened.{station-of}
 use Rattle.laws.specs.Numbers.{command-numbers}
 use Rattle.station.specs.Done.{command-turned-down, command-kept, command-reply, command-done}
 use borrow.Author.Needs.{needs}
@@ -24,30 +25,27 @@ right c = sym (c .before .refusal-with .ensures .0) ∙ c .if1 .left
 octets : (c : tie.Else1) → Octets (c .before .before .before .before .before .args .b .now)
 octets c = record { octet = λ j. c .before .before .before .before .slice-known .given j .fits }
 
-opened : (c : tie.After-shape) → Station (c .before .before .before .before .before .before .before .args .b .now) (c .shape .result)
-opened c = station-of (octets (c .before .before)) (right (c .before .before)) (c .shape .ensures)
+opened : (c : tie.Else1) → Station (c .before .before .before .before .before .args .b .now) (shapeOf (c .before .before .before .before .before .args .b .now))
+opened c = station-of (octets c) (right c) refl
 
 returns : tie.Need-returns
 returns c =
     let e = command-turned-down _ (c .before .refusal-with .ensures .0) (c .if1 .taken) _ in
     (e, (command-kept _ (c .before .refusal-with .ensures .0) (c .if1 .taken) _, command-numbers _ _ e))
 
-shape-requires : tie.Need-shape-requires
-shape-requires c κs = long-enough _ (right (c .before))
-
 command-on-requires : tie.Need-command-on-requires
 command-on-requires c κs =
-    let f = c .before .before in
-    record { station = opened f; valid = valid-record _ (right (f .before .before)); size = f .before .before .before .refusal-with .ensures .1 }
+    let d = c .before .before in
+    record { station = opened d; valid = valid-record _ (right d); size = d .before .refusal-with .ensures .1 }
 
 same-length-2 : tie.Need-same-length-2
 same-length-2 c = search needs
 
 returns-2 : tie.Need-returns-2
 returns-2 c =
-    let f = c .before .before .before .before .before in
-    let e = command-reply (right (f .before .before)) (opened f) (c .before .before .command-on .ensures .0) in
-    (e, (command-done (right (f .before .before)) (opened f) (c .before .before .command-on .ensures .0), command-numbers _ _ e))
+    let d = c .before .before .before .before .before in
+    let e = command-reply (right d) (opened d) (c .before .before .command-on .ensures .0) in
+    (e, (command-done (right d) (opened d) (c .before .before .command-on .ensures .0), command-numbers _ _ e))
 
 pub command-spec : {M : Type 1} → statement M
 command-spec =
@@ -56,7 +54,6 @@ command-spec =
     refusal-with-requires
     same-length
     returns
-    shape-requires
     command-on-requires
     same-length-2
     returns-2)
