@@ -9,24 +9,31 @@ use Rattle.question.specs.declared.Safety.{Safety}
 use Rattle.question.specs.declared.Safety.the-variants.{Refused}
 use Rattle.question.specs.Asked.{Answers}
 
+-- the most bytes of the input, and the bytes of the question at its end
+abbrev pub mostInput : ℕ
+mostInput = 65536
+
+abbrev pub questionBytes : ℕ
+questionBytes = 11
+
 -- where the question starts
 abbrev pub tailAt : List ℕ → ℕ
-tailAt input = length input - 11
+tailAt input = length input - questionBytes
 
 pub record AnswersInput (input out out′ : List ℕ) (r : Safety) : Type 0 where
-  pub long : 65536 < length input → (r ≡ Refused 4) × (out′ ≡ out)
-  pub short : length input < 11 → (r ≡ Refused 1) × (out′ ≡ out)
-  pub asked : 11 ≤ length input → length input ≤ 65536
+  pub long : mostInput < length input → (r ≡ Refused 4) × (out′ ≡ out)
+  pub short : length input < questionBytes → (r ≡ Refused 1) × (out′ ≡ out)
+  pub asked : questionBytes ≤ length input → length input ≤ mostInput
       → Answers (take (tailAt input) input) (numberAt input (tailAt input) 8) (getD input (tailAt input + 8) 0) (getD input (tailAt input + 9) 0) (getD input (tailAt input + 10) 0) out out′ r
 
 module _ (input out : List ℕ) where
-  pub too-long : 65536 < length input → AnswersInput input out out (Refused 4)
+  pub too-long : mostInput < length input → AnswersInput input out out (Refused 4)
   too-long h = record { long = λ l. (refl, refl); short = λ l. absurd (omega arith); asked = λ l u. absurd (omega arith) }
 
-  pub too-short : length input < 11 → AnswersInput input out out (Refused 1)
+  pub too-short : length input < questionBytes → AnswersInput input out out (Refused 1)
   too-short h = record { long = λ l. absurd (omega arith); short = λ l. (refl, refl); asked = λ l u. absurd (omega arith) }
 
-  pub asked-so : {out′ : List ℕ} {r : Safety} {mask s o right : ℕ} → 11 ≤ length input → length input ≤ 65536 → mask ≡ numberAt input (tailAt input) 8 → s ≡ getD input (tailAt input + 8) 0 → o ≡ getD input (tailAt input + 9) 0 → right ≡ getD input (tailAt input + 10) 0
+  pub asked-so : {out′ : List ℕ} {r : Safety} {mask s o right : ℕ} → questionBytes ≤ length input → length input ≤ mostInput → mask ≡ numberAt input (tailAt input) 8 → s ≡ getD input (tailAt input + 8) 0 → o ≡ getD input (tailAt input + 9) 0 → right ≡ getD input (tailAt input + 10) 0
       → Answers (take (tailAt input) input) mask s o right out out′ r → AnswersInput input out out′ r
   asked-so {out′} {r} l u e f g h a =
       record { long = λ z. absurd (omega arith); short = λ z. absurd (omega arith); asked = λ y z. rw (← e, ← f, ← g, ← h) a }

@@ -14,7 +14,7 @@ use Rattle.question.specs.declared.Safety.the-variants.{Safe, Leaks, Refused}
 use Rattle.question.specs.Asked.{Written, Decided, Answers, safetyRefusal, listRoom}
 use Rattle.laws.specs.Tests.{way}
 use Rattle.lists.specs.Formed.{formed, length-commands}
-use Rattle.asking.specs.Input.{AnswersInput}
+use Rattle.asking.specs.Input.{mostInput, questionBytes, AnswersInput}
 
 pub record Stands (out : List ℕ) (commands : ℕ) : Type 0 where
   pub right : wellFormed (take (listRoom commands) out) ≡ true
@@ -43,12 +43,12 @@ module _ {b : List ℕ} {mask s o right : ℕ} {out out′ : List ℕ} where
       ⊎-elim (λ t. decided-stands commands (a .decided (eqb-true _ 0 t))) (λ t. absurd (refused-no (a .refused (eqb-false _ 0 t) .0))) (way (eqb (safetyRefusal b mask s o right (length out)) 0))
 
 pub list-stands : (input : List ℕ) {out out′ : List ℕ} {r : Safety} (commands : ℕ) → AnswersInput input out out′ r → r ≡ Leaks commands → Stands out′ commands
-list-stands input {out} {out′} commands a e = go (way (leb 11 (length input))) (way (leb (length input) 65536))
+list-stands input {out} {out′} commands a e = go (way (leb questionBytes (length input))) (way (leb (length input) mostInput))
   where
     b : AnswersInput input out out′ (Leaks commands)
     b = rw e at a
 
-    go : (leb 11 (length input) ≡ true) ⊎ (leb 11 (length input) ≡ false) → (leb (length input) 65536 ≡ true) ⊎ (leb (length input) 65536 ≡ false) → Stands out′ commands
-    go (inr t) u = absurd (refused-no (b .short (leb-false 11 _ t) .0))
-    go (inl t) (inr u) = absurd (refused-no (b .long (leb-false _ 65536 u) .0))
-    go (inl t) (inl u) = answers-stands commands (b .asked (leb-true 11 _ t) (leb-true _ 65536 u))
+    go : (leb questionBytes (length input) ≡ true) ⊎ (leb questionBytes (length input) ≡ false) → (leb (length input) mostInput ≡ true) ⊎ (leb (length input) mostInput ≡ false) → Stands out′ commands
+    go (inr t) u = absurd (refused-no (b .short (leb-false questionBytes _ t) .0))
+    go (inl t) (inr u) = absurd (refused-no (b .long (leb-false _ mostInput u) .0))
+    go (inl t) (inl u) = answers-stands commands (b .asked (leb-true questionBytes _ t) (leb-true _ mostInput u))

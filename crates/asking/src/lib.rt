@@ -7,6 +7,11 @@ ghost use lib.ListN.{length};
 ghost use Rattle.matrix.specs.Bytes.{numberAt};
 ghost use Rattle.asking.specs.Input.{AnswersInput};
 
+// The most bytes of the input, and the bytes of the question at its end.
+pub const MOST_INPUT: usize = 65536;
+
+const QUESTION_BYTES: usize = 11;
+
 // The trust mask, high byte first.
 fn mask(l: &[u8], at: usize) -> u64
     requires { ⌜ at + 8 ≤ length (now l) ⌝ }
@@ -22,13 +27,13 @@ pub fn ask(input: &[u8], out: &mut [u8]) -> Safety
     ensures { λ r. ⌜ AnswersInput (now (input .entry)) (now (out .entry)) (now (out .exit)) r ⌝ }
 {
     let size = input.len();
-    if 65536 < size {
+    if MOST_INPUT < size {
         return Safety::Refused(4);
     }
-    if size < 11 {
+    if size < QUESTION_BYTES {
         return Safety::Refused(1);
     }
-    let at = size - 11;
+    let at = size - QUESTION_BYTES;
     let trust = mask(input, at);
     let s = opening::byte(input, at + 8) as u64;
     let o = opening::byte(input, at + 9) as u64;

@@ -44,7 +44,7 @@ pub fn row_bytes(f: Shape) -> usize
     requires { ⌜ ShapeRight f ⌝ }
     ensures { λ x. ⌜ x ≡ rowBytes f ⌝ }
 {
-    f.width * (f.n + f.p)
+    f.width * columns_of(f)
 }
 
 // The place of the first byte of the cell of row r and column c.
@@ -52,7 +52,7 @@ pub fn place(f: Shape, r: usize, c: usize) -> usize
     requires { ⌜ ShapeRight f × (r < f .n) × (c < columns f) ⌝ }
     ensures { λ x. ⌜ x ≡ cellPlace f r c ⌝ }
 {
-    f.first + f.width * (r * (f.n + f.p) + c)
+    f.first + f.width * (r * columns_of(f) + c)
 }
 
 // The place of the lowest byte of the first row's cell in column c.

@@ -24,7 +24,7 @@ abbrev pub wordBits : ℕ
 wordBits = 64
 
 pub one-shifted : (j : ℕ) → j < wordBits → 1 * 2 ^ j % 18446744073709551616 ≡ 2 ^ j
-one-shifted j h = omega (arith, pow-mono {i = suc j} {j = 64} (omega arith), pow-succ' 2 j)
+one-shifted j h = omega (arith, pow-mono {i = suc j} {j = wordBits} (omega arith), pow-succ' 2 j)
 
 pub bit-zero : (j : ℕ) → bit j 0 ≡ false
 unfolding bit

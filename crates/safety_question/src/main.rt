@@ -1,14 +1,21 @@
 // Asks the safety question that stands in the standard input (Manual 9.2) and prints the answer (Manual 9.3): `safe`, `refused N`, or
 // `leaks N` with the commands of the list, a line for each.
 
+use asking::MOST_INPUT;
 use libc::STDIN_FILENO;
 use libc::STDOUT_FILENO;
 use matrix::Fields;
+use matrix::LIST_HEAD;
+use matrix::MOST_SUBJECTS;
+use matrix::RECORD_BYTES;
 use question::Safety;
 use reader::Read;
 ghost use mathlib.Core.Path.{_≡_};
 ghost use mathlib.Core.Bool.{true};
 ghost use Rattle.matrix.specs.CommandList.{wellFormed};
+
+// The bytes of the longest list that leaks.
+const LONGEST_LIST: usize = LIST_HEAD + RECORD_BYTES * (MOST_SUBJECTS + 2);
 
 // A number, with one space before it.
 fn print_next(x: usize) {
@@ -48,9 +55,9 @@ fn print_count(word: &[u8], count: usize) {
 }
 
 fn main() {
-    let mut input = [0u8; 65537];
+    let mut input = [0u8; MOST_INPUT + 1];
     let size = io::read_full(STDIN_FILENO, &mut input);
-    let mut out = [0u8; 401];
+    let mut out = [0u8; LONGEST_LIST];
     let r = asking::ask(&input[..size], &mut out);
     match r {
         Safety::Safe => {
@@ -59,7 +66,7 @@ fn main() {
         Safety::Refused(number) => print_count(b"refused ", number),
         Safety::Leaks(count) => {
             print_count(b"leaks ", count);
-            print_list(&out[..5 + 6 * count]);
+            print_list(&out[..LIST_HEAD + RECORD_BYTES * count]);
         }
     }
 }
