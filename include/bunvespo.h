@@ -51,10 +51,10 @@ extern "C" {
 
 /*
  * THE VERSION of this header and its archive, as numbers for #if. It has nothing to do with the version byte of a record.
- *   #if BUNVESPO_LIBRARY_VERSION >= 2000      0.2.0 or later
+ *   #if BUNVESPO_LIBRARY_VERSION >= 3000      0.3.0 or later: code 3 takes plain objects too
  */
 #define BUNVESPO_VERSION_MAJOR 0
-#define BUNVESPO_VERSION_MINOR 2
+#define BUNVESPO_VERSION_MINOR 3
 #define BUNVESPO_VERSION_PATCH 0
 #define BUNVESPO_LIBRARY_VERSION (BUNVESPO_VERSION_MAJOR * 1000000 + BUNVESPO_VERSION_MINOR * 1000 + BUNVESPO_VERSION_PATCH)
 
@@ -74,11 +74,11 @@ enum {
     BUNVESPO_REFUSED_BOUNDS = 7,            /* held, command, run, safety: subjects and trust bits are below n, columns below n + p,
                                                k is at most 6, a right at most 15 */
     BUNVESPO_REFUSED_INITIATOR_ABSENT = 8,  /* command, run */
-    BUNVESPO_REFUSED_KIND = 9,              /* command, run: codes 3 and 6 take a subject, 7, 10 and 11 a plain object */
+    BUNVESPO_REFUSED_KIND = 9,              /* command, run: code 6 takes a subject, 7, 10 and 11 a plain object */
     BUNVESPO_REFUSED_NAME_ABSENT = 10,      /* command, run */
     BUNVESPO_REFUSED_NAME_EXISTS = 11,      /* command, run: codes 10 and 12 */
     BUNVESPO_REFUSED_RIGHT_LACKING = 12,    /* command, run */
-    BUNVESPO_REFUSED_WALK_MEETS = 13,       /* command, run: code 3 */
+    BUNVESPO_REFUSED_WALK_MEETS = 13,       /* command, run: code 3 over a subject */
     BUNVESPO_REFUSED_OTHER_CONTROLLER = 14, /* command, run: code 6 */
     BUNVESPO_REFUSED_BUFFER_SHORT = 15,     /* safety */
     BUNVESPO_REFUSED_LIST_FORM = 16         /* run: fewer than 5 bytes, a version other than 1, a command that does not begin with 05, or
@@ -129,7 +129,7 @@ static inline const char *bunvespo_refusal_words(uint64_t refusal)
 enum {
     BUNVESPO_TRANSFER = 1,          /* i s o k  i, with r* over o, gives s r over o */
     BUNVESPO_TRANSFER_STARRED = 2,  /* i s o k  i, with r* over o, gives s r* over o */
-    BUNVESPO_TRANSFER_OWN = 3,      /* i s o    i, the owner of subject o, makes s the owner; o may not be s or above s */
+    BUNVESPO_TRANSFER_OWN = 3,      /* i s o    i, an owner of o, makes s an owner in its place; a subject o may not be s or above s */
     BUNVESPO_GRANT = 4,             /* i s o k  i, an owner of o, gives s r over o */
     BUNVESPO_GRANT_STARRED = 5,     /* i s o k  i, an owner of o, gives s r* over o */
     BUNVESPO_GRANT_CONTROL = 6,     /* i s o    i, the owner of subject o, gives s control of it if o alone has that */
@@ -166,7 +166,7 @@ bunvespo_answer bunvespo_held(const uint8_t *record, size_t record_len, uint64_t
 
 /*
  * One command. Refusals: 1 to 14. On acceptance the record holds the next state, on a refusal no byte changes.
- * value: the owner links that the walk of code 3 followed, at most n - 1, where it is accepted or refused by 13; else 0.
+ * value: the owner links that the walk of code 3 over a subject followed, at most n - 1, where it is accepted or refused by 13; else 0.
  */
 bunvespo_answer bunvespo_command(uint8_t *record, size_t record_len, uint64_t code, uint64_t i, uint64_t s, uint64_t o,
                                  uint64_t k);

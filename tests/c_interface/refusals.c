@@ -13,7 +13,7 @@
 #ifdef BUNVESPO_VERSION
 #error "BUNVESPO_VERSION was a refusal once, and must mean nothing else now"
 #endif
-#if BUNVESPO_LIBRARY_VERSION < 2000
+#if BUNVESPO_LIBRARY_VERSION < 3000
 #error "the version can't be tested by #if"
 #endif
 

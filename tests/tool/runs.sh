@@ -27,11 +27,19 @@ for command in '14 0 0 0 0' '0 255 0 0 0' '4 0 0 4 0' '4 300 0 0 0' '4 0 0 0 7' 
     run station commands
 done
 cmp "$a" station
+# A log changes hands: to another login, to its owner, to one that owns it already.
+for command in 'login 2 transfers own over log 3 to login 1' 'login 2 transfers own over log 3 to login 1' 'login 1 transfers own over log 3 to login 1' \
+    'login 1 grants own over log 3 to login 2' 'login 1 transfers own over log 3 to login 2'; do
+    echo "$command" >commands
+    run station commands
+done
+cmp "$a" station
 echo 'login 1 grants control over login 2 to login 0
 1 grants control over 2 to 0' >commands
 run station commands
 cp "$b" station
-for command in 'login 1 creates login 1' 'login 0 destroys log 2' 'login 0 destroys login 1' 'login 0 grants r0 over log 2 to login 0'; do
+for command in 'login 1 creates login 1' 'login 0 destroys log 2' 'login 0 destroys login 1' 'login 0 grants r0 over log 2 to login 0' \
+    'login 0 transfers own over log 2 to login 0'; do
     echo "$command" >commands
     run station commands
 done

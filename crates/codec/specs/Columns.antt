@@ -13,7 +13,9 @@ use Rattle.matrix.specs.declared.Right.the-variants.{Own, Control, Basic}
 use Rattle.matrix.specs.Names.{nameOf, columnOf, named}
 use Rattle.matrix.specs.Rights.{codeOf}
 use Rattle.matrix.specs.State.{State, has, isCell, put}
+use Rattle.matrix.specs.Touched.{isBit}
 use Rattle.laws.specs.Tests.{way, and-left, and-right}
+use Rattle.laws.specs.Same.{isBit-eq}
 use Rattle.laws.specs.Changed.{has-put as right-put}
 pub use Rattle.laws.specs.Changed.{top-put, has-clear}
 use Rattle.codec.specs.Codes.{codeOf-test}
@@ -39,6 +41,16 @@ named-below n p (Plain c) h = ltb-true c (n + p) (and-right (not (ltb c n)) (ltb
 
 pub same-state : (S T : State) → S .top ≡ T .top → ((y : Right) (w : ℕ) (x : Name) → has S y w x ≡ has T y w x) → S ≡ T
 same-state S T e h = λ i. record { top = e i; owns = λ w x. h Own w x i; controls = λ w x. h Control w x i; basic = λ k f w x. h (Basic k f) w x i }
+
+-- a bit that is set in S, set in a state T that differs from S there at most
+pub put-set : (y : Right) (w : ℕ) (x : Name) (S T : State) → T .top ≡ S .top
+    → ((z : Right) (v : ℕ) (u : Name) → isBit y w x z v u ≡ false → has T z v u ≡ has S z v u) → has S y w x ≡ true → put y w x true T ≡ S
+put-set y w x S T top others set = same-state (put y w x true T) S (top-put y w x true T ∙ top) (λ z v u. right-put y w x true T z v u ∙ each z v u)
+  where
+    each : (z : Right) (v : ℕ) (u : Name) → cond (isBit y w x z v u) true (has T z v u) ≡ has S z v u
+    each z v u =
+        ⊎-elim (λ (e : isBit y w x z v u ≡ true). let q = isBit-eq y w x z v u e in rw e (sym (rw (q .0, q .1, q .2) set)))
+        (λ (e : isBit y w x z v u ≡ false). rw e (others z v u e)) (way (isBit y w x z v u))
 
 -- the bits of a state with one bit put, by the code of the right
 pub has-put : (y : Right) (r : ℕ) (c : Name) (on : Bool) (S : State) (z : Right) (w : ℕ) (x : Name)

@@ -16,7 +16,7 @@ use Rattle.rules.specs.Needs.{CommandIn}
 use Rattle.verdict.specs.declared.Verdict.{Verdict}
 use Rattle.verdict.specs.Judged.{Judged}
 use Rattle.bits.specs.Became.{Became}
-use Rattle.commands.specs.Answered.{Carried}
+use Rattle.short_ways.specs.Answered.{Carried}
 
 -- the answer that a verdict v makes, where its refusal is zero (t) or not
 replied : {S : State} {d : Command} {v : Verdict} {t : Bool} → Judged S d v → eqb (v .refusal) 0 ≡ t → cond t (Accepted (v .links)) (Refused (v .refusal) (v .links)) ≡ answer (refusalOf S d) (linksWith (refusalOf S d) S d)

@@ -1,8 +1,1 @@
-pub mod Answered
-pub mod Rows
-pub mod Ready
-pub mod Outcomes
 pub mod Carrying
-pub mod Accepting
-pub mod Allowed
-pub mod Objects

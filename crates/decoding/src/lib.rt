@@ -112,7 +112,7 @@ fn rule_of(code: usize, k: usize) -> Ruled
             s: true,
             o: true,
             k: false,
-            kind: Kind::SubjectName,
+            kind: Kind::AnyName,
             act: Act::Transfer(Right::Own),
         }),
         4..=5 => Ruled::Known(Rule {

@@ -49,7 +49,7 @@ module _ (S : State) (i s : ℕ) (o : Name) (k : ℕ) where
     (
       record { fields = λ basics. refl; kind = refl; there = back (exists S s && existsName S o); absent = refl; entitled = back (S .basic k Starred i o); unmet = refl; alone = refl },
       (
-        record { fields = λ basics. refl; kind = back (isSubject o); there = back (exists S s && existsName S o); absent = refl; entitled = back (S .owns i o); unmet = refl; alone = refl },
+        record { fields = λ basics. refl; kind = refl; there = back (exists S s && existsName S o); absent = refl; entitled = back (S .owns i o); unmet = refl; alone = refl },
         (
           record { fields = λ basics. refl; kind = refl; there = back (exists S s && existsName S o); absent = refl; entitled = back (S .owns i o); unmet = refl; alone = refl },
           (

@@ -6,6 +6,7 @@ use mathlib.Core.Logic.{_≢_, _↔_, _⊎_}
 use mathlib.Core.Bool.{true, false}
 use mathlib.Core.List.{List}
 use lib.ListN.{take, drop}
+use Rattle.matrix.specs.declared.Name.the-variants.{Subject}
 use Rattle.matrix.specs.declared.Right.{Right}
 use Rattle.matrix.specs.declared.Fields.{Fields}
 use Rattle.matrix.specs.declared.Answer.the-variants.{Accepted}
@@ -54,11 +55,13 @@ refusalFor b c = commandNumbers (commandAnswer b c) .refusal
 abbrev pub linksFor : List ℕ → Fields → ℕ
 linksFor b c = commandNumbers (commandAnswer b c) .value
 
--- The links are those of the walk from s where code 3 is accepted or refused by 13, and 0 with every other answer; never more than n - 1.
+-- The links are those of the walk from s where code 3 over a subject is accepted or refused by 13, and 0 with every other answer, over a plain
+-- object always; never more than n - 1.
 pub record LinksRight (b : List ℕ) (c : Fields) : Type 0 where
-  pub walked : validAnswer b ≡ true → c .code ≡ 3 → (refusalFor b c ≡ 0) ⊎ (refusalFor b c ≡ 13)
-      → linksFor b c ≡ linksOf (walk (stateOf b) (c .s) (nameOf (shapeOf b .n) (c .o)))
+  pub walked : validAnswer b ≡ true → c .code ≡ 3 → c .o < shapeOf b .n → (refusalFor b c ≡ 0) ⊎ (refusalFor b c ≡ 13)
+      → linksFor b c ≡ linksOf (walk (stateOf b) (c .s) (Subject (c .o)))
   pub silent : (c .code ≢ 3) ⊎ ((refusalFor b c ≢ 0) × (refusalFor b c ≢ 13)) → linksFor b c ≡ 0
+  pub object : shapeOf b .n ≤ c .o → linksFor b c ≡ 0
   pub few : linksFor b c ≤ shapeOf b .n - 1
 
 -- what a list run leaves: a record that passes 1 to 5, of the same shape, read as the state that its accepted commands make

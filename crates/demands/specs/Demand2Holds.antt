@@ -8,7 +8,9 @@ use mathlib.Core.List.{List}
 use lib.Dec.{eqb}
 use lib.ListN.{take}
 use lib.Seq.{take-at}
-use borrow.Author.Tests.{eqb-true, eq-eqb}
+use borrow.Author.Tests.{eqb-true, eq-eqb, lt-ltb, le-ltb}
+use Rattle.matrix.specs.declared.Name.{Name}
+use Rattle.matrix.specs.declared.Name.the-variants.{Subject, Plain}
 use Rattle.matrix.specs.declared.Right.the-variants.{Own, Control, Basic}
 use Rattle.matrix.specs.declared.Act.{Act}
 use Rattle.matrix.specs.declared.Act.the-variants.{Transfer, Grant, Delete, CreateObject, DestroyObject, CreateSubject, DestroySubject}
@@ -17,7 +19,7 @@ use Rattle.matrix.specs.declared.Fields.{Fields}
 use Rattle.matrix.specs.declared.Answer.{Answer}
 use Rattle.matrix.specs.declared.Answer.the-variants.{Accepted}
 use Rattle.matrix.specs.declared.Numbers.{Numbers}
-use Rattle.matrix.specs.Names.{nameOf}
+use Rattle.matrix.specs.Names.{isSubject, nameOf}
 use Rattle.matrix.specs.Numbers.{numbers, commandNumbers}
 use Rattle.matrix.specs.Rights.{rightOf}
 use Rattle.matrix.specs.State.{State, has}
@@ -40,7 +42,7 @@ use Rattle.codec.specs.Written.{length-header, shaped-write, cell-write}
 use Rattle.codec.specs.RoundTrip.{read-write}
 use Rattle.owners.specs.Read.{record-shaped, record-links}
 use Rattle.frame.specs.Untouched.{untouched-next}
-use Rattle.frame.specs.Answers.{links-only, links-only-three}
+use Rattle.frame.specs.Answers.{links-only, links-only-three, links-only-subjects}
 use Rattle.demands.specs.First.{NoneHolds}
 use Rattle.demands.specs.Printed.{runConditions}
 use Rattle.demands.specs.Refusals.{run-numbered}
@@ -159,8 +161,14 @@ module _ (b : List ℕ) (c : Fields) where
 
 -- ---- the links
 
+cond-few : (t : Bool) (m n : ℕ) → (t ≡ true → m ≤ n) → cond t m 0 ≤ n
+cond-few true m n h = h refl
+cond-few false m n h = omega arith
+
 walk-few : (b : List ℕ) → recordRefusal b ≡ 0 → (c : Command) (a : Act) → walkLinks (stateOf b) c a ≤ shapeOf b .n - 1
-walk-few b h c (Transfer Own) = let l : linksOf (walk (stateOf b) (c .s) (c .o)) < shapeOf b .n = record-links b h (c .s) (c .o) in omega arith
+walk-few b h c (Transfer Own) =
+    cond-few (isSubject (c .o)) _ (shapeOf b .n - 1)
+    (λ _. let l : linksOf (walk (stateOf b) (c .s) (c .o)) < shapeOf b .n = record-links b h (c .s) (c .o) in omega arith)
 walk-few b h c (Transfer Control) = omega arith
 walk-few b h c (Transfer (Basic k g)) = omega arith
 walk-few b h c (Grant y) = omega arith
@@ -169,10 +177,6 @@ walk-few b h c CreateObject = omega arith
 walk-few b h c DestroyObject = omega arith
 walk-few b h c CreateSubject = omega arith
 walk-few b h c DestroySubject = omega arith
-
-cond-few : (t : Bool) (m n : ℕ) → (t ≡ true → m ≤ n) → cond t m 0 ≤ n
-cond-few true m n h = h refl
-cond-few false m n h = omega arith
 
 links-few : (b : List ℕ) (c : Fields) → linksFor b c ≤ shapeOf b .n - 1
 unfolding linksOn links
@@ -197,24 +201,32 @@ module _ (b : List ℕ) (c : Fields) where
   unfolding refusalOn
   number-is h = command-number b c ∙ rw h refl
 
-  walked : validAnswer b ≡ true → c .code ≡ 3 → (refusalFor b c ≡ 0) ⊎ (refusalFor b c ≡ 13)
-      → linksFor b c ≡ linksOf (walk (stateOf b) (c .s) (nameOf (shapeOf b .n) (c .o)))
+  walked : validAnswer b ≡ true → c .code ≡ 3 → c .o < shapeOf b .n → (refusalFor b c ≡ 0) ⊎ (refusalFor b c ≡ 13)
+      → linksFor b c ≡ linksOf (walk (stateOf b) (c .s) (Subject (c .o)))
   unfolding linksOn links
-  walked valid three number =
+  walked valid three subject number =
       let z = passes b valid in
       value-is b c ∙ ap (λ (k : ℕ). cond (eqb k 0) (linksOn (shapeOf b) (stateOf b) c) 0) z
       ∙ linked _ _ (subst (λ (k : ℕ). (k ≡ 0) ⊎ (k ≡ 13)) (number-is z) number)
       ∙ ap (λ (code : ℕ). walkLinks (stateOf b) (decode raw) (ruleOf code (c .k) .act)) three
+      ∙ ap (λ (t : Bool). linked-over (cond t (Subject (c .o)) (Plain (c .o)))) (lt-ltb (c .o) (shapeOf b .n) subject)
+    where
+      linked-over : Name → ℕ
+      linked-over x = cond (isSubject x) (linksOf (walk (stateOf b) (c .s) x)) 0
+
+  -- no links where the command's are none on every record that passes
+  none-linked : (recordRefusal b ≡ 0 → links (basicsOf (shapeOf b)) (namesFit (shapeOf b) c) (stateOf b) raw ≡ 0) → linksFor b c ≡ 0
+  unfolding linksOn
+  none-linked none = value-is b c ∙ ⊎-elim (λ t. rw t (none (eqb-true (recordRefusal b) 0 t))) (λ t. rw t refl) (way (eqb (recordRefusal b) 0))
 
   silent : (c .code ≢ 3) ⊎ ((refusalFor b c ≢ 0) × (refusalFor b c ≢ 13)) → linksFor b c ≡ 0
-  unfolding linksOn
-  silent h = value-is b c ∙ ⊎-elim (λ t. rw t (none (eqb-true (recordRefusal b) 0 t) h)) (λ t. rw t refl) (way (eqb (recordRefusal b) 0))
-    where
-      none : recordRefusal b ≡ 0 → (c .code ≢ 3) ⊎ ((refusalFor b c ≢ 0) × (refusalFor b c ≢ 13))
-          → links (basicsOf (shapeOf b)) (namesFit (shapeOf b) c) (stateOf b) raw ≡ 0
-      none z (inl other) = links-only-three (basicsOf (shapeOf b)) (namesFit (shapeOf b) c) (stateOf b) raw other
-      none z (inr other) =
-          links-only (basicsOf (shapeOf b)) (namesFit (shapeOf b) c) (stateOf b) raw (λ e. other .0 (number-is z ∙ e)) (λ e. other .1 (number-is z ∙ e))
+  silent (inl other) = none-linked (λ z. links-only-three (basicsOf (shapeOf b)) (namesFit (shapeOf b) c) (stateOf b) raw other)
+  silent (inr other) =
+      none-linked (λ z. links-only (basicsOf (shapeOf b)) (namesFit (shapeOf b) c) (stateOf b) raw (λ e. other .0 (number-is z ∙ e)) (λ e. other .1 (number-is z ∙ e)))
+
+  object : shapeOf b .n ≤ c .o → linksFor b c ≡ 0
+  object h =
+      none-linked (λ z. links-only-subjects (basicsOf (shapeOf b)) (namesFit (shapeOf b) c) (stateOf b) raw (rw (le-ltb (c .o) (shapeOf b .n) h) refl))
 
 -- ---- a list run
 
@@ -245,7 +257,7 @@ demand-2 =
     record {
       accepted = allowed;
       next = λ b c followed octets e. next-right b c followed e octets;
-      links = λ b c. record { walked = walked b c; silent = silent b c; few = links-few b c };
+      links = λ b c. record { walked = walked b c; silent = silent b c; object = object b c; few = links-few b c };
       written = written-same;
       same = read-same;
       run = run-read;

@@ -53,7 +53,7 @@ fieldsRight basics code s o k = (usesS code || eqb s 0) && (usesO code || eqb o 
 
 -- The conditions 9 to 14 by the code. 9: o is of the wrong kind
 abbrev pub kindWrong : ℕ → Name → Bool
-kindWrong code o = cond (oneOf code (3 ∷ 6 ∷ [])) (not (isSubject o)) (cond (oneOf code (7 ∷ 10 ∷ 11 ∷ [])) (isSubject o) false)
+kindWrong code o = cond (eqb code 6) (not (isSubject o)) (cond (oneOf code (7 ∷ 10 ∷ 11 ∷ [])) (isSubject o) false)
 
 -- 10: s or o is absent where it is needed
 abbrev pub missing : State → ℕ → ℕ → Name → Bool
@@ -74,9 +74,9 @@ unentitled S code i s o k =
     (cond (oneOf code (8 ∷ 9 ∷ [])) (not (S .owns i o || S .controls i (Subject s)))
     (cond (eqb code 13) (not (S .owns i (Subject s))) false)))
 
--- 13: the walk from s meets o
+-- 13: o is a subject, and the walk from s meets it
 abbrev pub walkMeets : State → ℕ → ℕ → Name → Bool
-walkMeets S code s o = cond (eqb code 3) (meets (walk S s o)) false
+walkMeets S code s o = cond (eqb code 3) (isSubject o && meets (walk S s o)) false
 
 -- 14: o has another controller
 abbrev pub controlled : State → ℕ → Name → Bool

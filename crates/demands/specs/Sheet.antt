@@ -3,7 +3,7 @@
 -- (`namesFit`); in the lists of a safety question it is true.
 use Prim.Native.Nat.{ℕ}
 use mathlib.Core.Path.{_≡_}
-use mathlib.Core.Bool.{Bool, true, false, not, _||_}
+use mathlib.Core.Bool.{Bool, true, false, cond, not, _&&_, _||_}
 use mathlib.Core.List.{[], _∷_}
 use lib.Dec.{eqb, ltb}
 use Rattle.matrix.specs.declared.Name.{Name}
@@ -13,6 +13,7 @@ use Rattle.matrix.specs.declared.Right.the-variants.{Own, Control, Basic}
 use Rattle.matrix.specs.Names.{isSubject, columnOf}
 use Rattle.matrix.specs.State.{State, exists, existsName, put, clear}
 use Rattle.matrix.specs.Owners.{walk, meets, linksOf}
+use Rattle.matrix.specs.Valid.{Valid}
 use Rattle.matrix.specs.Commands.{known}
 use Rattle.matrix.specs.Tests.{otherController}
 use Rattle.matrix.specs.Changes.{admit, inherit, inColumn, inCross}
@@ -27,12 +28,14 @@ pub record Sheet (basics : ℕ) (names : Bool) (S : State) (i s : ℕ) (o : Name
   pub transfer-starred : Row basics names S (raw 2 i s o k)
       (names ∷ ltb k basics ∷ exists S i ∷ exists S s ∷ existsName S o ∷ S .basic k Starred i o ∷ [])
       (put (Basic k Starred) s o true S) 0
-  -- 3: i, who owns the subject o, hands own to s, where the walk from s does not meet o
+  -- 3: i, who owns o, hands own to s. Where o is a subject, the walk from s does not meet it; over a plain object there is no walk
   pub transfer-own : Row basics names S (raw 3 i s o k)
-      (names ∷ eqb k 0 ∷ exists S i ∷ isSubject o ∷ exists S s ∷ existsName S o ∷ S .owns i o ∷ not (meets (walk S s o)) ∷ [])
-      (put Own s o true (put Own i o false S)) (linksOf (walk S s o))
+      (names ∷ eqb k 0 ∷ exists S i ∷ exists S s ∷ existsName S o ∷ S .owns i o ∷ not (isSubject o && meets (walk S s o)) ∷ [])
+      (put Own s o true (put Own i o false S)) (cond (isSubject o) (linksOf (walk S s o)) 0)
   -- .. and to itself: nothing changes
   pub transfer-to-itself : refusal basics names S (raw 3 i i o k) ≡ 0 → next basics names S (raw 3 i i o k) ≡ S
+  -- .. in a valid state no name vanishes by it: the last owner of a plain object leaves s as its owner
+  pub transfer-lasts : Valid S → (x : Name) → existsName S x ≡ true → existsName (next basics names S (raw 3 i s o k)) x ≡ true
   -- 4, 5: i, who owns o, grants right k over o to s, plain or starred
   pub grant-plain : Row basics names S (raw 4 i s o k)
       (names ∷ ltb k basics ∷ exists S i ∷ exists S s ∷ existsName S o ∷ S .owns i o ∷ [])

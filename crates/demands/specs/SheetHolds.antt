@@ -1,28 +1,25 @@
 -- The sheet holds.
 use Prim.Native.Nat.{ℕ}
-use mathlib.Core.Path.{_≡_, refl, sym, _∙_, ap, subst}
-use mathlib.Core.Logic.{⊎-elim}
-use mathlib.Core.Bool.{Bool, true, false, cond, _&&_, _||_}
+use mathlib.Core.Path.{_≡_, refl, sym, _∙_, subst}
+use mathlib.Core.Bool.{Bool, true, false, _&&_, _||_}
 use mathlib.Core.List.{List, [], _∷_}
 use lib.Dec.{eqb, ltb}
 use borrow.Author.Tests.{eq-eqb}
 use Rattle.matrix.specs.declared.Name.{Name}
 use Rattle.matrix.specs.declared.Name.the-variants.{Subject}
 use Rattle.matrix.specs.declared.Form.the-variants.{Starred}
-use Rattle.matrix.specs.declared.Right.{Right}
 use Rattle.matrix.specs.declared.Right.the-variants.{Own}
 use Rattle.matrix.specs.Names.{columnOf}
-use Rattle.matrix.specs.State.{State, has, exists, existsName, put}
+use Rattle.matrix.specs.State.{State, exists, existsName, put}
 use Rattle.matrix.specs.Commands.{Raw, known, ruleOf, fieldsFit, decode}
 use Rattle.matrix.specs.Tests.{Test, test, firstFailed, commandTests}
 use Rattle.matrix.specs.Changes.{change}
 use Rattle.matrix.specs.Step.{refusalOf, refusal, links, walkLinks, next}
-use Rattle.matrix.specs.Touched.{isBit}
-use Rattle.laws.specs.Tests.{way, and-left, and-right, and-both}
-use Rattle.laws.specs.Same.{isBit-eq}
-use Rattle.laws.specs.Changed.{has-put, has-put-other}
+use Rattle.laws.specs.Tests.{and-left, and-right, and-both}
+use Rattle.laws.specs.Changed.{has-put-other}
 use Rattle.laws.specs.Passed.{Passed, all-passed, tests-passed, taken}
-use Rattle.codec.specs.Columns.{same-state}
+use Rattle.codec.specs.Columns.{put-set}
+use Rattle.kept.specs.Keeps.{transfer-lasts}
 use Rattle.frame.specs.Untouched.{refused-same}
 use Rattle.demands.specs.Row.{AllHold, raw, Row}
 use Rattle.demands.specs.Sheet.{Sheet}
@@ -80,18 +77,7 @@ module _ (basics : ℕ) (names : Bool) (S : State) where
 
     -- own handed to whom it belongs: the bit is cleared and set again
     own-again : S .owns i o ≡ true → put Own i o true (put Own i o false S) ≡ S
-    own-again own = same-state again S refl (λ z w x. has-put Own i o true (put Own i o false S) z w x ∙ each z w x)
-      where
-        set-bit : (z : Right) (w : ℕ) (x : Name) → isBit Own i o z w x ≡ true → has S z w x ≡ true
-        set-bit z w x e = let q = isBit-eq Own i o z w x e in rw (q .0, q .1, q .2) own
-
-        again : State
-        again = put Own i o true (put Own i o false S)
-
-        each : (z : Right) (w : ℕ) (x : Name) → cond (isBit Own i o z w x) true (has (put Own i o false S) z w x) ≡ has S z w x
-        each z w x =
-            ⊎-elim (λ e. ap (λ (t : Bool). cond t true (has (put Own i o false S) z w x)) e ∙ sym (set-bit z w x e))
-            (λ e. ap (λ (t : Bool). cond t true (has (put Own i o false S) z w x)) e ∙ has-put-other Own i o false S z w x e) (way (isBit Own i o z w x))
+    own-again own = put-set Own i o S (put Own i o false S) refl (λ z w x e. has-put-other Own i o false S z w x e) own
 
     -- fields that are not used: s and k, or o and k
     unused : (eqb s 0 && true && eqb k 0) ≡ true → (eqb s 0 ≡ true) × (eqb k 0 ≡ true)
@@ -125,9 +111,10 @@ module _ (basics : ℕ) (names : Bool) (S : State) where
           transfer-starred = over-right i s o k 2 (S .basic k Starred i o) refl refl refl;
           transfer-own =
               row (raw 3 i s o k) _ refl
-              (λ n f p. let h = here i s o k (p .1 .1 .0) in (n, (f, (p .0, (p .1 .0, (h .0, (h .1, (p .1 .1 .1 .1 .0, (p .1 .1 .1 .1 .1 .0, tt)))))))))
-              (λ h. (h .0, h .1 .0, (h .1 .1 .0, (h .1 .1 .1 .0, (and-both (h .1 .1 .1 .1 .0) (h .1 .1 .1 .1 .1 .0), (refl, (h .1 .1 .1 .1 .1 .1 .0, (h .1 .1 .1 .1 .1 .1 .1 .0, (refl, tt)))))))));
+              (λ n f p. let h = here i s o k (p .1 .1 .0) in (n, (f, (p .0, (h .0, (h .1, (p .1 .1 .1 .1 .0, (p .1 .1 .1 .1 .1 .0, tt))))))))
+              (λ h. (h .0, h .1 .0, (h .1 .1 .0, (refl, (and-both (h .1 .1 .1 .0) (h .1 .1 .1 .1 .0), (refl, (h .1 .1 .1 .1 .1 .0, (h .1 .1 .1 .1 .1 .1 .0, (refl, tt)))))))));
           transfer-to-itself = to-itself i o k;
+          transfer-lasts = transfer-lasts basics names S (raw 3 i s o k) refl;
           grant-plain = over-right i s o k 4 (S .owns i o) refl refl refl;
           grant-starred = over-right i s o k 5 (S .owns i o) refl refl refl;
           grant-control =

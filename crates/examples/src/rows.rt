@@ -76,12 +76,17 @@ fn further() {
     // the lowest of several numbers: code 14 with i = 255, code 3 over an absent log, an absent i creating an existing s, and a
     // walk that would meet o where i does not own o
     row(6, 31, 0, 1, 14, 255, 0, 0, 0, 0);
-    row(9, 31, 30, 0, 3, 1, 1, 3, 0, 0);
+    row(10, 31, 30, 0, 3, 1, 1, 3, 0, 0);
     row(8, 19, 0, 1, 12, 1, 0, 0, 0, 1);
     row(12, 31, 0, 1, 3, 1, 2, 1, 0, 0);
     // code 3 with s = o, and with s = i
     row(13, 31, 0, 1, 3, 0, 1, 1, 0, 0);
     row(0, 31, 0, 1, 3, 1, 1, 2, 0, 0);
+    // code 3 over log 3, which 2 owns: to 1, and again, when 2 owns it no more; to 2 itself; to 1 where it owns the log already; by 0
+    row(0, 31, 0, 1, 3, 2, 1, 3, 0, 0);
+    row(0, 31, 0, 1, 3, 2, 2, 3, 0, 0);
+    row(0, 31, 22, 1, 3, 2, 1, 3, 0, 0);
+    row(12, 31, 0, 1, 3, 0, 1, 3, 0, 0);
     // subject 1 has r and r* of basic right 1 over log 3: without the bit of r it holds r by r*, until r* is deleted too
     row(0, 31, 22, 0x30, 8, 2, 1, 3, 1, 4);
     row(0, 31, 22, 0x20, 9, 2, 1, 3, 1, 4);

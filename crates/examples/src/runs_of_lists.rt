@@ -80,6 +80,18 @@ fn kept() {
     ask_kept(&mut b[..31], &mut c[..31], &t);
 }
 
+// Log 3 goes from 2 to 1, from 1 to 0 and back to 2.
+fn handed_round() {
+    let before = record(31, 0, 1);
+    let mut b = before;
+    say(b"row 0: A, log 3 handed from 2 to 1, to 0, to 2");
+    ask(
+        &before[..31],
+        &mut b[..31],
+        b"\x01\x00\x00\x00\x12\x05\x03\x02\x01\x03\x00\x05\x03\x01\x00\x03\x00\x05\x03\x00\x02\x03\x00",
+    );
+}
+
 pub fn all() {
     // 01 00 00 00 01 05, then a list that ends before L does, one of version 2, and one with nothing after L = 6
     run(16, 6, 1, 0, 1);
@@ -93,4 +105,5 @@ pub fn all() {
     run(0, 17, 12, 0, 1);
     run(14, 65, 60, 0, 1);
     kept();
+    handed_round();
 }

@@ -3,20 +3,25 @@ use Prim.Native.Nat.{ℕ}
 use mathlib.Core.List.{List, [], _∷_}
 use Rattle.matrix.specs.declared.Fields.{Fields}
 
--- Station A (Manual 10.1). The last byte is a parameter: the rows of Manual 10.2 give it as 01 and as 00.
-abbrev stationA : ℕ → List ℕ
-stationA last =
+-- Station A (Manual 10.1). The last bytes of rows 1 and 2, the rights of subjects 1 and 2 over log 3, are parameters: the rows of Manual 10.2 give
+-- them as 00 and 01, as 00 and 00, and as 01 and 00.
+abbrev stationA : ℕ → ℕ → List ℕ
+stationA one two =
     0x01 ∷ 0x00 ∷ 0x00 ∷ 0x00 ∷ 0x1A ∷ 0x03 ∷ 0x01 ∷
     0x00 ∷ 0x02 ∷ 0x00 ∷ 0x01 ∷ 0x00 ∷ 0x00 ∷ 0x00 ∷ 0x00 ∷
-    0x00 ∷ 0x00 ∷ 0x00 ∷ 0x02 ∷ 0x00 ∷ 0x01 ∷ 0x00 ∷ 0x00 ∷
-    0x00 ∷ 0x00 ∷ 0x00 ∷ 0x00 ∷ 0x00 ∷ 0x02 ∷ 0x00 ∷ last ∷ []
+    0x00 ∷ 0x00 ∷ 0x00 ∷ 0x02 ∷ 0x00 ∷ 0x01 ∷ 0x00 ∷ one ∷
+    0x00 ∷ 0x00 ∷ 0x00 ∷ 0x00 ∷ 0x00 ∷ 0x02 ∷ 0x00 ∷ two ∷ []
 
 unfoldable pub A : List ℕ
-A = stationA 0x01
+A = stationA 0x00 0x01
 
 -- A with last byte 00
 unfoldable pub A-ends-00 : List ℕ
-A-ends-00 = stationA 0x00
+A-ends-00 = stationA 0x00 0x00
+
+-- A with log 3 handed from 2 to 1
+unfoldable pub A-handed : List ℕ
+A-handed = stationA 0x01 0x00
 
 -- station B (Manual 10.1)
 unfoldable pub B : List ℕ

@@ -13,7 +13,7 @@ use Rattle.matrix.specs.Shape.{shapeOf}
 use Rattle.matrix.specs.Reading.{cellAt, bitAt, stateOf, bytesOf}
 use Rattle.matrix.specs.Record.{climb, validMatrix, recordRefusal}
 use Rattle.matrix.specs.Calls.{validAnswer, refusalOn, linksOn, nextOn, commandAnswer, commandBytes}
-use Rattle.frame.specs.StationBytes.{A, A-ends-00, B, transferOwn}
+use Rattle.frame.specs.StationBytes.{A, A-ends-00, A-handed, B, transferOwn}
 
 -- The rows, under one proof.
 pub record Stations : Type 0 where
@@ -29,11 +29,15 @@ pub record Stations : Type 0 where
   -- On A code 3 (1, 1, 2) is accepted with 1 link; here s = i, so that no byte changes (Manual 5.4).
   pub to-itself : commandAnswer A (transferOwn 1 1 2) ≡ Accepted 1
   pub to-itself-bytes : commandBytes A (transferOwn 1 1 2) ≡ A
+  -- On A code 3 (2, 1, 3) is accepted with 0 links, and log 3 is 1's then; where log 3 is absent it is refused by 10.
+  pub log-handed : commandAnswer A (transferOwn 2 1 3) ≡ Accepted 0
+  pub log-handed-bytes : commandBytes A (transferOwn 2 1 3) ≡ A-handed
+  pub log-missing : commandAnswer A-ends-00 (transferOwn 2 1 3) ≡ Refused 10 0
   -- B is valid as well.
   pub b-valid : validAnswer B ≡ true
 
 pub stations : Stations
-unfolding A A-ends-00 B any all count least walkFrom firstFailed refusalOf refusal links next numberAt bytesOfNumber bit fromBits joined shapeOf cellAt bitAt stateOf bytesOf climb validMatrix recordRefusal validAnswer refusalOn linksOn nextOn commandAnswer commandBytes
+unfolding A A-ends-00 A-handed B any all count least walkFrom firstFailed refusalOf refusal links next numberAt bytesOfNumber bit fromBits joined shapeOf cellAt bitAt stateOf bytesOf climb validMatrix recordRefusal validAnswer refusalOn linksOn nextOn commandAnswer commandBytes
 stations =
     record {
       a-valid = refl;
@@ -44,5 +48,8 @@ stations =
       walk-meets-bytes = refl;
       to-itself = refl;
       to-itself-bytes = refl;
+      log-handed = refl;
+      log-handed-bytes = refl;
+      log-missing = refl;
       b-valid = refl;
     }

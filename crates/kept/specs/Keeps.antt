@@ -1,11 +1,12 @@
 -- A valid state stays valid: under every command, and through a list of commands.
 use Prim.Native.Nat.{ℕ, _+_}
-use mathlib.Core.Path.{_≡_}
+use mathlib.Core.Path.{_≡_, sym, ap, subst}
 use mathlib.Core.Logic.{⊎-elim}
 use mathlib.Core.Bool.{Bool, true, false, false≢true}
 use mathlib.Core.List.{List, [], _∷_}
 use lib.Dec.{eqb}
 use borrow.Author.Tests.{eqb-true, not-true}
+use Rattle.matrix.specs.declared.Name.{Name}
 use Rattle.matrix.specs.declared.Right.the-variants.{Own, Control, Basic}
 use Rattle.matrix.specs.declared.Act.{Act}
 use Rattle.matrix.specs.declared.Act.the-variants.{Transfer, Grant, Delete, CreateObject, DestroyObject, CreateSubject, DestroySubject}
@@ -13,7 +14,7 @@ use Rattle.matrix.specs.declared.Command.{Command}
 use Rattle.matrix.specs.declared.Fields.{Fields}
 use Rattle.matrix.specs.declared.Shape.{Shape}
 use Rattle.matrix.specs.State.{State, exists, existsName}
-use Rattle.matrix.specs.Commands.{Raw, decode}
+use Rattle.matrix.specs.Commands.{Raw, ruleOf, decode}
 use Rattle.matrix.specs.Changes.{change}
 use Rattle.matrix.specs.Step.{refusalOf, refusal, next}
 use Rattle.matrix.specs.Shape.{basicsOf}
@@ -24,12 +25,13 @@ use Rattle.laws.specs.Passed.{taken}
 use Rattle.owners.specs.Framed.{valid-framed, owned-not-root}
 use Rattle.kept.specs.Allowed.{Allowed, allowed}
 use Rattle.kept.specs.Bits.{basic-keeps, object-keeps, control-keeps, object-destroyed}
-use Rattle.kept.specs.Subjects.{transfer-keeps, created-keeps, destroyed-keeps}
+use Rattle.kept.specs.Transferred.{transfer-keeps, handed-lasts}
+use Rattle.kept.specs.Subjects.{created-keeps, destroyed-keeps}
 
 -- the change of each command that passed its tests
 act-keeps : (S : State) (c : Command) (a : Act) → Valid S → Allowed S c a → Valid (change S c a)
 act-keeps S c (Transfer Own) h p =
-    transfer-keeps S (c .i) (c .s) (c .o) (p .kind) h (and-left (exists S (c .s)) (existsName S (c .o)) (p .there))
+    transfer-keeps S (c .i) (c .s) (c .o) h (and-left (exists S (c .s)) (existsName S (c .o)) (p .there))
     (p .entitled) (not-true _ (p .unmet))
 act-keeps S c (Transfer Control) h p = absurd (false≢true (p .entitled))
 act-keeps S c (Transfer (Basic k f)) h p =
@@ -58,6 +60,21 @@ unfolding next
 keeps basics names S c h =
     ⊎-elim (λ e. rw e (change-keeps S (decode c) h (taken basics names S c (eqb-true (refusal basics names S c) 0 e) .decoded)))
     (λ e. rw e h) (way (eqb (refusal basics names S c) 0))
+
+-- In a valid state no name vanishes by code 3: a plain object whose last owner hands it on is owned by s then.
+pub transfer-lasts : (basics : ℕ) (names : Bool) (S : State) (c : Raw) → c .code ≡ 3 → Valid S → (x : Name) → existsName S x ≡ true
+    → existsName (next basics names S c) x ≡ true
+unfolding next
+transfer-lasts basics names S c three h x there =
+    ⊎-elim (λ e. rw e (lasts (allowed S (decode c) (taken basics names S c (eqb-true (refusal basics names S c) 0 e) .decoded))))
+    (λ e. rw e there) (way (eqb (refusal basics names S c) 0))
+  where
+    own : Transfer Own ≡ decode c .act
+    own = sym (ap (λ (m : ℕ). ruleOf m (c .k) .act) three)
+
+    lasts : Allowed S (decode c) (decode c .act) → existsName (change S (decode c) (decode c .act)) x ≡ true
+    lasts = subst (λ (a : Act). Allowed S (decode c) a → existsName (change S (decode c) a) x ≡ true) own
+        (λ p. handed-lasts (c .i) (c .s) (c .o) S (h .bound (c .s) (and-left (exists S (c .s)) (existsName S (c .o)) (p .there))) x there)
 
 -- So does a command on a state of a record's shape, and a run over a list of commands.
 pub on-keeps : (f : Shape) (S : State) (c : Fields) → Valid S → Valid (nextOn f S c)

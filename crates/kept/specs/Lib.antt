@@ -2,5 +2,6 @@ pub mod Allowed
 pub mod Cells
 pub mod Parts
 pub mod Bits
+pub mod Transferred
 pub mod Subjects
 pub mod Keeps

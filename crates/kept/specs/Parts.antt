@@ -15,6 +15,7 @@ use Rattle.matrix.specs.Owners.{Above, owner, higher}
 use Rattle.matrix.specs.Valid.{Valid}
 use Rattle.laws.specs.Tests.{way, clash, fails}
 use Rattle.owners.specs.Rooted.{above-trans}
+use Rattle.owners.specs.Framed.{valid-framed, owned-not-root}
 use Rattle.kept.specs.Cells.{Matrix, put-found, put-keeps}
 
 -- the four cases of two alternatives
@@ -70,6 +71,10 @@ controllers-of S v = record { plain = v .plain; root = v .root; root-controller 
 
 pub tree-of : (S : State) → Valid S → Tree (S .owns)
 tree-of S v = record { root-owner = v .root-owner; one-owner = v .one-owner; no-cycle = v .no-cycle }
+
+-- whoever has an owner is not U
+pub not-root : (S : State) → Valid S → (w c : ℕ) → S .owns w (Subject c) ≡ true → c ≢ U
+not-root S h w c own e = owned-not-root (valid-framed h) w (Subject c) own (ap (λ (n : ℕ). Subject n) e)
 
 -- The set bits where no name vanishes: each bit is an old one or lies in a row and column of names that exist now.
 pub grown : (S S' : State) → Valid S → ((w : ℕ) → exists S w ≡ true → exists S' w ≡ true)

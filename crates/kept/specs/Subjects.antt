@@ -1,105 +1,33 @@
--- Valid is kept by the commands that change the owners of subjects: transfer of own, creation and destruction of a subject.
+-- Valid is kept by the creation and the destruction of a subject.
 use Prim.Native.Nat.{ℕ, _<_}
 use native.Mathlib.Omega.{arith}
 use mathlib.Core.Path.{_≡_, refl, sym, _∙_, ap, subst}
 use mathlib.Core.Logic.{_≢_, _⊎_, inl, inr, ⊎-elim}
-use mathlib.Core.Bool.{true, false, _&&_, false≢true}
+use mathlib.Core.Bool.{true, false, _&&_}
 use lib.Dec.{eqb}
 use borrow.Author.Tests.{eqb-true, eqb-false}
 use Rattle.matrix.specs.declared.Name.{Name}
 use Rattle.matrix.specs.declared.Name.the-variants.{Subject, Plain}
 use Rattle.matrix.specs.declared.Right.{Right}
 use Rattle.matrix.specs.declared.Right.the-variants.{Own, Control}
-use Rattle.matrix.specs.declared.Kind.the-variants.{SubjectName}
 use Rattle.matrix.specs.Names.{U, sameName, columnOf}
-use Rattle.matrix.specs.State.{State, has, exists, existsName, isCell, put, clear}
-use Rattle.matrix.specs.Owners.{owner, walk, meets}
+use Rattle.matrix.specs.State.{State, has, exists, existsName, put, clear}
+use Rattle.matrix.specs.Owners.{owner}
 use Rattle.matrix.specs.Changes.{admit, inherit, inCross}
-use Rattle.matrix.specs.Tests.{kindFits}
 use Rattle.matrix.specs.Valid.{Valid}
 use Rattle.laws.specs.Tests.{way, clash, fails, and-both, or-cases, or-left, or-right, or-none-left, or-none-right}
-use Rattle.laws.specs.Same.{eqb-same, sameName-eq, isCell-at, isCell-row, isCell-column, isCell-apart}
+use Rattle.laws.specs.Same.{eqb-same, sameName-eq}
 use Rattle.laws.specs.Changed.{put-bit, clear-bit, inherit-bit, has-admit}
-use Rattle.owners.specs.Framed.{valid-framed, owned-not-root}
-use Rattle.owners.specs.Walk.{walk-self, walk-finds}
-use Rattle.kept.specs.Cells.{put-cases, put-found, put-new, put-other, put-keeps, clear-found, clear-other}
-use Rattle.kept.specs.Parts.{four-cases, Lives, AllLive, Reowned, Up, join, controllers-of, tree-of, grown, lives-at, controllers-fewer, controllers-put, tree-reowned, reowned-owned, above-owns, above-heir}
+use Rattle.kept.specs.Cells.{put-found, put-new, put-keeps, clear-found, clear-other}
+use Rattle.kept.specs.Parts.{four-cases, Lives, AllLive, Reowned, Up, join, controllers-of, tree-of, grown, lives-at, controllers-fewer, controllers-put, tree-reowned, reowned-owned, above-owns, above-heir, not-root}
 use Rattle.kept.specs.Bits.{object-kept}
 
--- whoever has an owner is not U
-not-root : (S : State) → Valid S → (w c : ℕ) → S .owns w (Subject c) ≡ true → c ≢ U
-not-root S h w c own e = owned-not-root (valid-framed h) w (Subject c) own (ap (λ (n : ℕ). Subject n) e)
-
--- The three changes: i hands its ownership of o to s; i creates s; i destroys c.
-abbrev handed : State → ℕ → ℕ → Name → State
-handed S i s o = put Own s o true (put Own i o false S)
-
+-- The two changes: i creates s; i destroys c.
 abbrev created : State → ℕ → ℕ → State
 created S i s = put Control s (Subject s) true (put Own i (Subject s) true (admit s S))
 
 abbrev destroyed : State → ℕ → ℕ → State
 destroyed S i c = clear (inCross c) (inherit i c S)
-
--- i owned subject o, and s has not o above it
-pub transfer-keeps : (S : State) (i s : ℕ) (o : Name) → kindFits SubjectName o ≡ true → Valid S → exists S s ≡ true
-    → S .owns i o ≡ true → meets (walk S s o) ≡ false → Valid (handed S i s o)
-transfer-keeps S i s (Plain a) fit h es own unmet = absurd (false≢true fit)
-transfer-keeps S i s (Subject a) fit h es own unmet =
-    join S'
-    (record {
-      live = grown S S' h (λ w e. e) names bits;
-      controllers = controllers-of S h;
-      tree = tree-reowned (S .owns) (S' .owns) s a (tree-of S h) reowned (not-root S h i a own) below;
-      owned = λ c cu e. reowned-owned (S .owns) (S' .owns) s a reowned c (λ _. h .owned c cu e);
-      bound = h .bound;
-    })
-  where
-    without : State
-    without = put Own i (Subject a) false S
-
-    S' : State
-    S' = handed S i s (Subject a)
-
-    names : (x : Name) → existsName S x ≡ true → existsName S' x ≡ true
-    names (Subject c) e = e
-    names (Plain c) e = e
-
-    bits : (y : Right) (w : ℕ) (x : Name) → has S' y w x ≡ true → (has S y w x ≡ true) ⊎ Lives S' w x
-    bits y w x b =
-        ⊎-elim (λ b₁. ⊎-elim (λ old. inl old) (λ p. inr (lives-at S' i (Subject a) (h .row Own i (Subject a) own)
-        (h .column Own i (Subject a) own) w x (p .1, p .2))) (put-bit Own i (Subject a) false S y w x b₁))
-        (λ p. inr (lives-at S' s (Subject a) es (h .column Own i (Subject a) own) w x (p .1, p .2))) (put-bit Own s (Subject a) true without y w x b)
-
-    -- the only owner before was i
-    old-link : (w c : ℕ) → without .owns w (Subject c) ≡ true → (S .owns w (Subject c) ≡ true) × (c ≢ a)
-    old-link w c e =
-        ⊎-elim (λ p. absurd (false≢true (p .1)))
-        (λ p. (
-          p .1,
-          λ q. clash (isCell-at i (Subject a) w (Subject c)
-              (h .one-owner a w i (subst (λ (n : ℕ). S .owns w (Subject n) ≡ true) q (p .1)) own)
-              (ap (λ (n : ℕ). Subject n) q)) (p .0),
-        ))
-        (put-cases i (Subject a) false (S .owns) w (Subject c) e)
-
-    same-cell : (w c : ℕ) → isCell s (Subject a) w (Subject c) ≡ true → (w ≡ s) × (c ≡ a)
-    same-cell w c e = (isCell-row s (Subject a) w (Subject c) e, ap columnOf (isCell-column s (Subject a) w (Subject c) e))
-
-    reowned : Reowned (S .owns) (S' .owns) s a
-    reowned =
-        record {
-          links = λ w c e. ⊎-elim (λ p. inr (same-cell w c (p .0))) (λ p. inl (old-link w c (p .1)))
-              (put-cases s (Subject a) true (without .owns) w (Subject c) e);
-          stays = λ w c d e. put-keeps s (Subject a) (without .owns) w (Subject c)
-              (put-other i (Subject a) false (S .owns) w (Subject c) (isCell-apart i (Subject a) w (Subject c)
-              (λ q. d (ap columnOf q))) e);
-          gained = put-new s (Subject a) (without .owns);
-        }
-
-    below : Up (S .owns) s a → ⊥
-    below u =
-        ⊎-elim (λ e. clash (subst (λ (n : ℕ). meets (walk S s (Subject n)) ≡ true) e (ap meets (walk-self S h s))) unmet)
-        (λ up. clash (walk-finds S h s a es up) unmet) u
 
 -- s was absent
 pub created-keeps : (S : State) (i s : ℕ) → Valid S → exists S i ≡ true → exists S s ≡ false → Valid (created S i s)

@@ -22,11 +22,9 @@ pub record Raw : Type 0 where
   pub o : Name
   pub k : ℕ
 
--- The kind that o has to be of: a subject for codes 3 and 6, a plain object for 7, 10 and 11. This is the one table of kinds.
+-- The kind that o has to be of: a subject for code 6, a plain object for 7, 10 and 11. This is the one table of kinds.
 abbrev pub kindOf : Act → Kind
-kindOf (Transfer Own) = SubjectName
-kindOf (Transfer Control) = AnyName
-kindOf (Transfer (Basic k f)) = AnyName
+kindOf (Transfer y) = AnyName
 kindOf (Grant Own) = PlainName
 kindOf (Grant Control) = SubjectName
 kindOf (Grant (Basic k f)) = AnyName

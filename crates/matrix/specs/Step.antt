@@ -9,7 +9,7 @@ use Rattle.matrix.specs.declared.Act.the-variants.{Transfer, Grant, Dele
 use Rattle.matrix.specs.declared.Command.{Command}
 use Rattle.matrix.specs.declared.Answer.{Answer}
 use Rattle.matrix.specs.declared.Answer.the-variants.{Accepted, Refused}
-use Rattle.matrix.specs.Names.{columnOf}
+use Rattle.matrix.specs.Names.{isSubject, columnOf}
 use Rattle.matrix.specs.State.{State}
 use Rattle.matrix.specs.Owners.{walk, linksOf}
 use Rattle.matrix.specs.Commands.{Raw, known, ruleOf, fieldsFit, decode}
@@ -20,9 +20,9 @@ use Rattle.matrix.specs.Changes.{change}
 unfoldable pub refusalOf : State → Command → ℕ
 refusalOf S c = firstFailed (commandTests S c)
 
--- The links of the walk: code 3 alone walks. They are answered where the command is accepted or refused by 13 (Manual 5.5).
+-- The links of the walk, which code 3 over a subject alone makes. They are answered where the command is accepted or refused by 13 (Manual 5.5).
 abbrev pub walkLinks : State → Command → Act → ℕ
-walkLinks S c (Transfer Own) = linksOf (walk S (c .s) (c .o))
+walkLinks S c (Transfer Own) = cond (isSubject (c .o)) (linksOf (walk S (c .s) (c .o))) 0
 walkLinks S c (Transfer Control) = 0
 walkLinks S c (Transfer (Basic k f)) = 0
 walkLinks S c (Grant y) = 0

@@ -71,9 +71,9 @@ permitted S c DestroyObject = S .owns (c .i) (c .o)
 permitted S c CreateSubject = true
 permitted S c DestroySubject = S .owns (c .i) (Subject (c .s))
 
--- 13: the walk of code 3, which starts at s itself, does not meet o (Manual 5.4)
+-- 13: the walk of code 3 does not meet o. It starts at s itself, and is made where o is a subject: over a plain object there is none (Manual 5.4).
 abbrev pub apart : State → Command → Act → Bool
-apart S c (Transfer Own) = not (meets (walk S (c .s) (c .o)))
+apart S c (Transfer Own) = not (isSubject (c .o) && meets (walk S (c .s) (c .o)))
 apart S c (Transfer Control) = true
 apart S c (Transfer (Basic k f)) = true
 apart S c (Grant y) = true

@@ -6,7 +6,6 @@ use mathlib.Core.Logic.{⊎-elim}
 use mathlib.Core.Bool.{Bool, true, false, cond}
 use mathlib.Core.List.{List, _∷_}
 use lib.Dec.{eqb}
-use borrow.Author.Tests.{eqb-true}
 use Rattle.matrix.specs.declared.Fields.{Fields}
 use Rattle.matrix.specs.declared.Answer.{Answer}
 use Rattle.matrix.specs.declared.Answer.the-variants.{Accepted, Refused}
@@ -23,7 +22,7 @@ use Rattle.laws.specs.Tests.{way}
 use Rattle.laws.specs.Numbers.{answer-number}
 use Rattle.kept.specs.Keeps.{on-keeps}
 use Rattle.states.specs.Needs.{Guessed}
-use Rattle.commands.specs.Answered.{Answered}
+use Rattle.short_ways.specs.Answered.{Answered}
 use Rattle.bits.specs.Steps.{station-after, length-after}
 use Rattle.runs.specs.Reached.{RunOn, Reached}
 

@@ -13,17 +13,18 @@ use Rattle.matrix.specs.declared.Act.{Act}
 use Rattle.matrix.specs.declared.Act.the-variants.{Transfer, Grant, Delete, CreateObject, DestroyObject, CreateSubject, DestroySubject}
 use Rattle.matrix.specs.declared.Command.{Command}
 use Rattle.matrix.specs.Names.{sameName}
-use Rattle.matrix.specs.State.{State, exists, existsName, isCell, put, clear}
+use Rattle.matrix.specs.State.{State, exists, existsName, put, clear}
 use Rattle.matrix.specs.Owners.{owner}
 use Rattle.matrix.specs.Changes.{change, admit, inherit, inColumn, inCross}
 use Rattle.matrix.specs.Valid.{Valid}
 use Rattle.laws.specs.Tests.{way, fails, and-left, and-both, or-left, or-right}
-use Rattle.laws.specs.Same.{eqb-same, sameName-eq, isCell-column, isCell-at}
+use Rattle.laws.specs.Same.{eqb-same, sameName-eq}
 use Rattle.kept.specs.Allowed.{Allowed}
-use Rattle.kept.specs.Cells.{put-other, put-keeps, clear-other}
+use Rattle.kept.specs.Cells.{put-keeps, clear-other}
 use Rattle.kept.specs.Bits.{object-kept}
+use Rattle.kept.specs.Transferred.{handed-lasts}
 
--- a name that exists is still there when a bit of own or control is set
+-- a name that exists is still there when a bit of own or control is set (a transfer of own: `handed-lasts`)
 own-lasts : (r : ℕ) (c : Name) (S : State) (x : Name) → existsName S x ≡ true → existsName (put Own r c true S) x ≡ true
 own-lasts r c S (Subject d) e = e
 own-lasts r c S (Plain d) e = object-kept S (put Own r c true S) d (λ w l o. (w, l, put-keeps r c (S .owns) w (Plain d) o)) e
@@ -35,23 +36,6 @@ control-lasts r c S (Plain d) e = e
 admit-lasts : (s : ℕ) (S : State) (x : Name) → existsName S x ≡ true → existsName (admit s S) x ≡ true
 admit-lasts s S (Subject d) e = e
 admit-lasts s S (Plain d) e = object-kept S (admit s S) d (λ w l o. (w, omega arith, o)) e
-
--- when i hands its ownership of c to s
-handed-lasts : (i s : ℕ) (c : Name) (S : State) → s < S .top → (x : Name) → existsName S x ≡ true
-    → existsName (put Own s c true (put Own i c false S)) x ≡ true
-handed-lasts i s c S room (Subject d) e = e
-handed-lasts i s c S room (Plain d) e = object-kept S S' d heir e
-  where
-    without : State
-    without = put Own i c false S
-
-    S' : State
-    S' = put Own s c true without
-
-    heir : (w : ℕ) → w < S .top → S .owns w (Plain d) ≡ true → (v : ℕ) × (v < S .top) × (S' .owns v (Plain d) ≡ true)
-    heir w l o =
-        ⊎-elim (λ q. (s, room, rw (isCell-at s c s (Plain d) refl (isCell-column i c w (Plain d) q)) refl))
-        (λ q. (w, l, put-keeps s c (without .owns) w (Plain d) (put-other i c false (S .owns) w (Plain d) q o))) (way (isCell i c w (Plain d)))
 
 -- when the column of another name is cleared
 column-lasts : (c : Name) (S : State) (x : Name) → sameName x c ≡ false → existsName S x ≡ true → existsName (clear (inColumn c) S) x ≡ true

@@ -23,7 +23,7 @@ use Rattle.laws.specs.Tests.{way}
 use Rattle.codec.specs.RoundTrip.{read-write}
 use Rattle.cells.specs.Station.{Station}
 use Rattle.bits.specs.Became.{Became}
-use Rattle.commands.specs.Answered.{Answered}
+use Rattle.short_ways.specs.Answered.{Answered}
 use Rattle.runs.specs.Reached.{RunOn}
 use Rattle.holding.specs.Asked.{held-refused}
 

@@ -1,7 +1,7 @@
 -- The tests 12 to 14: what each ends in, with the links that go with it.
 use Prim.Native.Nat.{ℕ}
 use mathlib.Core.Path.{_≡_, refl, sym, _∙_, ap}
-use mathlib.Core.Bool.{Bool, true, false, not, cond, _||_, false≢true}
+use mathlib.Core.Bool.{Bool, true, false, not, cond, _&&_, _||_, false≢true}
 use mathlib.Core.List.{List}
 use lib.Dec.{eqb}
 use borrow.Author.Tests.{ne-eqb}
@@ -16,6 +16,7 @@ use Rattle.matrix.specs.declared.Walked.{Walked}
 use Rattle.matrix.specs.declared.Walked.the-variants.{Meets, Root, Lost}
 use Rattle.matrix.specs.declared.Command.{Command}
 use Rattle.matrix.specs.declared.Shape.{Shape}
+use Rattle.matrix.specs.Names.{isSubject}
 use Rattle.matrix.specs.State.{State}
 use Rattle.matrix.specs.Commands.{kindOf}
 use Rattle.matrix.specs.Owners.{walk, meets, linksOf}
@@ -69,13 +70,24 @@ module _ (S : State) (c : Command) where
   pub pass-judged : (a : Act) → permitted S c (c .act) ≡ true → c .act ≡ a → apart S c a ≡ true → uncontrolled S c a ≡ true → walkLinks S c a ≡ 0 → JudgedLate S c (verdictOf 0 0)
   pass-judged a h e f g l = passes h (ap (λ (a : Act). apart S c a) e ∙ f) (ap (λ (a : Act). uncontrolled S c a) e ∙ g) (ap (λ (a : Act). walkLinks S c a) e ∙ l)
 
-  -- a transfer of own over subject t, with the answer w of the walk
+  -- what the tests ask of a transfer of own over the name x
+  own-apart : {x : Name} → c .act ≡ Transfer Own → c .o ≡ x → apart S c (c .act) ≡ not (isSubject x && meets (walk S (c .s) x))
+  own-apart own object = ap (λ (a : Act). apart S c a) own ∙ ap (λ (x : Name). not (isSubject x && meets (walk S (c .s) x))) object
+
+  own-links : {x : Name} → c .act ≡ Transfer Own → c .o ≡ x → walkLinks S c (c .act) ≡ cond (isSubject x) (linksOf (walk S (c .s) x)) 0
+  own-links own object = ap (λ (a : Act). walkLinks S c a) own ∙ ap (λ (x : Name). cond (isSubject x) (linksOf (walk S (c .s) x)) 0) object
+
+  -- over a plain object there is no walk
+  pub object-judged : {t : ℕ} → permitted S c (c .act) ≡ true → c .act ≡ Transfer Own → c .o ≡ Plain t → JudgedLate S c (verdictOf 0 0)
+  object-judged right own object = passes right (own-apart own object) (ap (λ (a : Act). uncontrolled S c a) own) (own-links own object)
+
+  -- over subject t, with the answer w of the walk
   module _ {t : ℕ} (right : permitted S c (c .act) ≡ true) (own : c .act ≡ Transfer Own) (object : c .o ≡ Subject t) where
     pub own-judged : {v : Walked} (w : Walked) → v ≡ walk S (c .s) (Subject t) → v ≡ w → JudgedLate S c (verdictOf (cond (meets w) 13 0) (linksOf w))
     own-judged w e f =
-        let g : walk S (c .s) (c .o) ≡ w = ap (λ (x : Name). walk S (c .s) x) object ∙ sym e ∙ f in
-        let a : apart S c (c .act) ≡ not (meets w) = ap (λ (a : Act). apart S c a) own ∙ ap (λ (w : Walked). not (meets w)) g in
-        let l : walkLinks S c (c .act) ≡ linksOf w = ap (λ (a : Act). walkLinks S c a) own ∙ ap linksOf g in
+        let g : walk S (c .s) (Subject t) ≡ w = sym e ∙ f in
+        let a : apart S c (c .act) ≡ not (meets w) = own-apart own object ∙ ap (λ (w : Walked). not (meets w)) g in
+        let l : walkLinks S c (c .act) ≡ linksOf w = own-links own object ∙ ap linksOf g in
         let u : uncontrolled S c (c .act) ≡ true = ap (λ (a : Act). uncontrolled S c a) own in
         answered w a l u
       where

@@ -25,7 +25,7 @@ pub struct Verdict {
     pub links: usize,
 }
 
-// Test 13: the walk from s must not meet o.
+// Test 13: the walk from s must not meet o, where o is a subject. A plain object has no walk.
 fn own_transferred(b: &[u8], f: Shape, owners: &[u8; MOST_SUBJECTS], c: Command) -> Verdict
     requires { ⌜ Entitled (now b) f c × (c .act ≡ Act.Transfer Right.Own) × Guessed (now b) f (now owners) ⌝ }
     ensures { λ v. ⌜ JudgedLate (stateOf (now (b .entry))) c v ⌝ }

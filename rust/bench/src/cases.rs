@@ -81,6 +81,13 @@ pub fn transfer_own(size: Size) -> Case {
     command(Shape::Chain, size, [3, last - 1, last - 1, last, 0])
 }
 
+/// Own of the last log from its owner to its owner.
+pub fn transfer_log(shape: Shape, size: Size) -> Case {
+    let o = size.n + size.p - 1;
+    let owner = (o % size.n) as u64;
+    command(shape, size, [3, owner, owner, o as u64, 0])
+}
+
 /// A list run. Before every call all sides do the same to their record: nothing, or they copy the first one anew.
 fn run(record: Vec<u8>, commands: &[[u64; 5]], before: fn(&mut [u8], &[u8])) -> Case {
     let (list, expected) = (Rc::new(encode(commands)), (0, commands.len() as u64));
@@ -106,6 +113,23 @@ pub fn run_of_grants(size: Size, count: usize) -> Case {
         })
         .collect();
     run(record, &commands, |_, _| ())
+}
+
+/// A run in which the logs change hands in turn: each goes from its owner to the next subject, and in the next round back.
+pub fn run_of_transfers(size: Size, count: usize) -> Case {
+    let record = Shape::Flat.record(size.n, size.p);
+    let commands: Vec<[u64; 5]> = (0..count)
+        .map(|j| {
+            let o = size.n + j % size.p;
+            let (owner, other) = (o % size.n, (o + 1) % size.n);
+            let back = j / size.p % 2 == 1;
+            let (i, s) = if back { (other, owner) } else { (owner, other) };
+            [3, i, s, o, 0].map(|field| field as u64)
+        })
+        .collect();
+    run(record, &commands, |copy, record| {
+        copy.copy_from_slice(record)
+    })
 }
 
 /// A run of the thirteen codes in turn, all accepted, each time on a new copy of the record.

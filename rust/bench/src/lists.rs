@@ -19,7 +19,7 @@ pub fn encode(commands: &[[u64; 5]]) -> Vec<u8> {
 pub fn likely_command(numbers: &mut Numbers, record: &[u8], code: usize) -> [u64; 5] {
     let (n, p) = (record[5] as usize, record[6] as usize);
     let o = match code {
-        3 | 6 => numbers.below(n),
+        6 => numbers.below(n),
         7 | 10 | 11 => n + numbers.below(p.max(1)),
         12 | 13 => 0,
         _ => numbers.below(n + p),

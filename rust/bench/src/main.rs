@@ -31,11 +31,12 @@ use stations::Shape;
 /// The five calls at each size, on flat records.
 fn calls() {
     let flat = Shape::Flat;
-    heading("Calls by size (flat records; code 3 on a chain), nanoseconds a call");
+    heading("Calls by size (flat records; code 3 over a subject on a chain), nanoseconds a call");
     by_size("valid", 1, |size| cases::valid(flat, size));
     by_size("held", 1, |size| cases::held(flat, size));
     by_size("command 4", 1, |size| cases::grant(flat, size));
     by_size("command 3", 1, cases::transfer_own);
+    by_size("command 3, log", 1, |size| cases::transfer_log(flat, size));
     by_size("run, 10 grants", 1, |size| cases::run_of_grants(size, 10));
     by_size("safety, safe", 1, |size| cases::all_trusted(flat, size));
     by_size("safety, leaks", 1, |size| cases::root_untrusted(flat, size));
@@ -43,8 +44,13 @@ fn calls() {
 
 /// Long lists at each size.
 fn lists() {
-    heading("Runs of 10,000 commands, nanoseconds a command (13 codes: on a new copy each time)");
+    heading(
+        "Runs of 10,000 commands, nanoseconds a command (all but grants: on a new copy each time)",
+    );
     by_size("grants", LONG, |size| cases::run_of_grants(size, LONG));
+    by_size("logs change owner", LONG, |size| {
+        cases::run_of_transfers(size, LONG)
+    });
     by_size("13 codes", LONG, |size| cases::run_of_all_codes(size, LONG));
 }
 

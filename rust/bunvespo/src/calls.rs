@@ -83,7 +83,7 @@ pub fn held(record: &[u8], s: u64, o: u64, right: Right) -> Result<bool, Refusal
 }
 
 /// One command on a record. If it is accepted, the record is the next state, and the answer is the number of owner links that the
-/// walk followed, which is 0 but for code 3. If it is refused (1 to 14), no byte changes.
+/// walk followed, which is 0 but for code 3 over a subject. If it is refused (1 to 14), no byte changes.
 ///
 /// ```
 /// use bunvespo::{Basic, Command, Refusal, Right, command, held, new_record};

@@ -19,7 +19,7 @@ pub mod code {
     pub const TRANSFER: u64 = 1;
     /// i passes on a basic right that it has with the star; s gets it with the star.
     pub const TRANSFER_STARRED: u64 = 2;
-    /// i, who owns subject o, makes s the owner in its place.
+    /// i, who owns o, makes s an owner in its place. A subject o may not be s or above s.
     pub const TRANSFER_OWN: u64 = 3;
     /// i, who owns o, gives s a basic right.
     pub const GRANT: u64 = 4;

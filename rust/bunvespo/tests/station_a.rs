@@ -117,6 +117,23 @@ fn ownership_transferred_to_its_owner() {
 }
 
 #[test]
+fn a_log_changes_owner() {
+    let transfer = Command::transfer_own(2, 1, 3);
+    let mut copy = A;
+    assert_eq!(command(&mut copy, transfer), Ok(0));
+    assert_eq!(held(&copy, 1, 3, Right::Own), Ok(true));
+    assert_eq!(held(&copy, 2, 3, Right::Own), Ok(false));
+    assert_eq!(refused(&copy, transfer), (Refusal::RightLacking, 0));
+    let back = encode(&[Command::transfer_own(1, 2, 3)]).unwrap();
+    assert_eq!(run(&mut copy, &back), Ok(1));
+    assert_eq!(copy, A);
+    assert_eq!(
+        refused(&B, Command::transfer_own(0, 0, 2)),
+        (Refusal::NameAbsent, 0)
+    );
+}
+
+#[test]
 fn lists_run() {
     let destroy = Command::destroy_subject(1, 2);
     let list = encode(&[destroy, Command::grant(1, 1, 3, Basic::R0), destroy]).unwrap();

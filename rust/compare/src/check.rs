@@ -103,7 +103,9 @@ pub fn command(
     compare(&expected, got, outcome_text, "command", inputs)?;
     counts.add(Call::Command, answer.refusal);
     if answer.refusal == 0 {
-        counts.accepted[fields[0] as usize] += 1;
+        let [code, _, _, o, _] = fields;
+        counts.accepted[code as usize] += 1;
+        counts.handed_logs += u64::from(code == 3 && o >= u64::from(record[5]));
     }
     Ok(())
 }
@@ -120,6 +122,10 @@ pub fn run(record: &[u8], list: &[u8], null: bool, counts: &mut Counts) -> Resul
     let inputs = || format!("list {}, record {}", hex(list), hex(record));
     compare(&expected, got, outcome_text, "run", inputs)?;
     counts.add(Call::Run, answer.refusal);
+    let accepted = list.get(5..).unwrap_or_default().chunks_exact(6);
+    for command in accepted.take(answer.value as usize) {
+        counts.handed_in_lists += u64::from(command[1] == 3 && command[4] >= record[5]);
+    }
     let digits = answer.value.checked_ilog10().map_or(0, |log| log + 1);
     counts.ran[digits as usize] += 1;
     Ok(())

@@ -53,6 +53,9 @@ pub struct Counts {
     pub held: [u64; 2],
     /// Accepted commands by code, of the command call.
     pub accepted: [u64; 14],
+    /// Those of code 3 over a log, and accepted ones in lists.
+    pub handed_logs: u64,
+    pub handed_in_lists: u64,
     /// Lists of the run call by the number of commands accepted: 0, 1 to 9, 10 to 99, and so on.
     pub ran: [u64; 6],
     pub safe: u64,
@@ -70,6 +73,8 @@ impl Counts {
             by_refusal: [[0; 17]; 5],
             held: [0; 2],
             accepted: [0; 14],
+            handed_logs: 0,
+            handed_in_lists: 0,
             ran: [0; 6],
             safe: 0,
             leaks: [0; 67],
@@ -107,6 +112,12 @@ impl Counts {
         let codes = (1..=13).filter(|code| self.accepted[*code] == 0);
         missing.extend(codes.map(|code| format!("command: code {code} accepted")));
         let answers = [
+            ("command: code 3 accepted over a log", self.handed_logs),
+            (
+                "command: code 3 accepted over a subject",
+                self.accepted[3] - self.handed_logs,
+            ),
+            ("run: code 3 accepted over a log", self.handed_in_lists),
             ("held: no", self.held[0]),
             ("held: yes", self.held[1]),
             ("safety: safe", self.safe),
@@ -126,17 +137,22 @@ impl Counts {
         match call {
             Call::Valid => format!("yes {}", self.of(call, 0)),
             Call::Held => format!("yes {}, no {}", self.held[1], self.held[0]),
-            Call::Command => format!("accepted, by code:{}", listed(&self.accepted, 1)),
+            Call::Command => format!(
+                "accepted, by code:{}; of code 3 over a log: {}",
+                listed(&self.accepted, 1),
+                self.handed_logs
+            ),
             Call::Run => format!(
                 "no refusal {}; commands accepted, also before a refusal: none {}, 1 to 9 {}, 10 to 99 {}, \
-                 100 to 999 {}, 1,000 to 9,999 {}, 10,000 {}",
+                 100 to 999 {}, 1,000 to 9,999 {}, 10,000 {}; code 3 over a log {}",
                 self.of(call, 0),
                 self.ran[0],
                 self.ran[1],
                 self.ran[2],
                 self.ran[3],
                 self.ran[4],
-                self.ran[5]
+                self.ran[5],
+                self.handed_in_lists
             ),
             Call::Safety => format!(
                 "safe {}; leaks, by number of commands:{}",

@@ -67,7 +67,11 @@ impl Facts {
                 let (i, o, k) = some_of(&self.stars, random)?;
                 [code, i, s, o, k]
             }
-            3 | 6 => {
+            3 => {
+                let (i, o) = self.owned(random)?;
+                [code, i, s, o, 0]
+            }
+            6 => {
                 let (i, o) = some_of(&self.owned_subjects, random)?;
                 [code, i, s, o, 0]
             }

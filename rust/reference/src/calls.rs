@@ -70,8 +70,8 @@ fn step(station: &mut Station, fields: [u64; 5]) -> Answer {
     }
 }
 
-/// One command on a record. The value is the links that the walk of code 3 followed, where the command is
-/// accepted or refused by 13, and else 0 (Manual 5.5).
+/// One command on a record. The value is the links that the walk of code 3 over a subject followed, where the
+/// command is accepted or refused by 13, and else 0 (Manual 5.5).
 pub fn command(record: &mut [u8], fields: [u64; 5]) -> Answer {
     let mut station = match read(record) {
         Ok(station) => station,

@@ -67,7 +67,7 @@ pub struct Refused {
 }
 
 /// The tests 8 to 14 in their order. An allowed command gives the links that it reports: those of the walk for
-/// code 3, otherwise 0.
+/// code 3 over a subject, otherwise 0.
 pub fn allowed(state: &State, c: &Command) -> Result<u64, Refused> {
     let refused = |refusal| Err(Refused { refusal, links: 0 });
     // 8: i exists.
@@ -90,8 +90,9 @@ pub fn allowed(state: &State, c: &Command) -> Result<u64, Refused> {
     if !has_right_needed(state, c) {
         return refused(12);
     }
-    // 13: the walk meets o; it starts at s itself.
-    if c.code == 3 {
+    // 13: the walk meets o; it starts at s itself. A plain object owns nothing and is above nobody, so for it
+    // there is no walk, and no link to report.
+    if c.code == 3 && matches!(c.o, Name::Subject(_)) {
         let walk = state.walk(c.s, c.o);
         let links = walk.links;
         return if walk.met {
@@ -107,10 +108,11 @@ pub fn allowed(state: &State, c: &Command) -> Result<u64, Refused> {
     Ok(0)
 }
 
-/// Whether o is of the kind that the command needs, if it needs one.
+/// Whether o is of the kind that the command needs, if it needs one. Transfer of own, as the other codes that
+/// are not listed, takes an o of either kind.
 fn right_kind(c: &Command) -> bool {
     match c.code {
-        3 | 6 => matches!(c.o, Name::Subject(_)),
+        6 => matches!(c.o, Name::Subject(_)),
         7 | 10 | 11 => matches!(c.o, Name::Plain(_)),
         _ => true,
     }
@@ -143,7 +145,7 @@ fn has_right_needed(state: &State, c: &Command) -> bool {
     match c.code {
         // Transfer r, r*: i has r* over o.
         1 | 2 => state.has(c.i, c.o, Right::Basic(c.k, Form::Starred)),
-        // Transfer own: i owns subject o.
+        // Transfer own: i owns o, a subject or a plain object.
         3 => owns_o,
         // Grant r, r*: i owns o.
         4 | 5 => owns_o,
@@ -176,7 +178,8 @@ pub fn change(state: &mut State, c: &Command) {
         // Transfer and grant of r or r*: s gets it.
         1 | 4 => state.gain(c.s, c.o, plain),
         2 | 5 => state.gain(c.s, c.o, starred),
-        // Transfer own: from i to s; i loses it first, so that nothing changes where s = i.
+        // Transfer own: from i to s; i loses it first, so that nothing changes where s = i. A plain object may
+        // have more owners: the others keep it, and where s is one of them already, i alone loses it.
         3 => {
             state.lose(c.i, c.o, Right::Own);
             state.gain(c.s, c.o, Right::Own);

@@ -1,5 +1,5 @@
-//! A second implementation, written from the scope paper alone, whose rules docs/MANUAL.md has. The program
-//! `compare` asks it and the proved library the same questions.
+//! A second implementation, written from the scope paper and the change requests in force alone, whose rules
+//! docs/MANUAL.md has. The program `compare` asks it and the proved library the same questions.
 //!
 //! It is written to be read beside the manual: each rule names its section, and nothing is made fast at the
 //! cost of being plain.
@@ -22,7 +22,7 @@ pub use list::{LIST_MAXIMUM, read_list, write_list};
 pub use record::{Station, read, record_length, write};
 pub use rights::{Cell, Form, Right};
 pub use safety::{Question, buffer_minimum, leaks, question};
-pub use search::{Names, leaks_by_definition, projected};
+pub use search::{Names, leaks_by_codes, leaks_by_definition, projected};
 pub use state::{Name, State, U, Walk};
 
 /// The number of a refusal, 1 to 16 (Manual 7.1).

@@ -49,6 +49,10 @@ pub fn buffer_minimum(n: u64) -> usize {
 /// Whether the question leaks: held at the start, or the right over o is possible for s, some untrusted
 /// subject exists, and o is absent, or an untrusted subject is above o, or the right is basic and an untrusted
 /// subject has it starred over o.
+///
+/// That own over a plain object can be transferred, as well as granted, makes no further question leak: the one
+/// who begins it owns the object, and so is above it, and the object has an owner afterwards, so that it does
+/// not become absent.
 pub fn leaks(station: &Station, q: &Question) -> bool {
     let state = &station.state;
     let untrusted: Vec<u64> = (0..station.n)

@@ -34,11 +34,22 @@ pub struct Names {
 /// Whether some list of commands over these names, begun by untrusted subjects, leads to a state in which the
 /// right asked is held. The empty list counts.
 pub fn leaks_by_definition(start: &State, q: &Question, names: &Names) -> bool {
+    leaks_by_codes(start, q, names, 1..=13)
+}
+
+/// The same search with commands of some codes only, to see what these do and whether the others are needed.
+pub fn leaks_by_codes(
+    start: &State,
+    q: &Question,
+    names: &Names,
+    codes: impl IntoIterator<Item = u64>,
+) -> bool {
     let held = |state: &State| state.held(q.s, q.o, q.right);
     if held(start) {
         return true;
     }
-    let commands: Vec<Command> = (1..=13)
+    let commands: Vec<Command> = codes
+        .into_iter()
         .flat_map(|code| commands_of(code, q, names))
         .collect();
     let mut met = HashSet::from([start.clone()]);
@@ -62,7 +73,8 @@ pub fn leaks_by_definition(start: &State, q: &Question, names: &Names) -> bool {
     false
 }
 
-/// All commands of one code over the names, begun by untrusted subjects; an unused field is 0.
+/// All commands of one code over the names, begun by untrusted subjects; an unused field is 0. Where k is not
+/// used, o goes through the names of both kinds, so that transfers of own are tried over plain names too.
 fn commands_of(code: u64, q: &Question, names: &Names) -> Vec<Command> {
     let uses = uses(code).expect("the code is 1 to 13");
     let subjects = names.subjects.iter().map(|s| Name::Subject(*s));

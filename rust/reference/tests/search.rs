@@ -1,11 +1,11 @@
 //! The characterisation of the safety question against the search by its definition, on all questions of many
 //! small stations.
 
-use std::collections::BTreeMap;
+use std::collections::{BTreeMap, BTreeSet};
 
 use reference::{
-    Name, Names, Question, Right, State, Station, allowed, change, decode, leaks,
-    leaks_by_definition, projected, question,
+    Name, Names, Question, Right, State, Station, allowed, change, decode, leaks, leaks_by_codes,
+    leaks_by_definition, projected, question, uses,
 };
 
 /// The codes of the rights asked: own, control, and both forms of the first and the last basic right.
@@ -23,20 +23,18 @@ impl Random {
     }
 }
 
-/// The station with U alone, after some random commands; those that are not allowed are passed over.
+/// The station with U alone, after some random commands; those that are not allowed are passed over. A field
+/// that a command does not use is left 0, and there are many commands, so that most stations come to have more
+/// subjects than U, and plain objects.
 fn station(n: u64, p: u64, random: &mut Random) -> Station {
     let mut state = State::default();
     state.gain(0, Name::Subject(0), Right::Control);
-    for _ in 0..random.below(60) {
+    for _ in 0..random.below(300) {
         let code = 1 + random.below(13);
-        let k = 6 * random.below(2);
-        let fields = [
-            code,
-            random.below(n),
-            random.below(n),
-            random.below(n + p),
-            k,
-        ];
+        let uses = uses(code).expect("the code is 1 to 13");
+        let mut field = |used: bool, bound: u64| if used { random.below(bound) } else { 0 };
+        let (i, s, o) = (field(true, n), field(uses.s, n), field(uses.o, n + p));
+        let fields = [code, i, s, o, 6 * field(uses.k, 2)];
         if let Ok(command) = decode(fields, n, p)
             && allowed(&state, &command).is_ok()
         {
@@ -78,6 +76,13 @@ fn agree(n: u64, p: u64, beyond: u64, stations: u64, rights: &[u64]) {
         }
     }
     assert!(safe > 0 && leaking > 0, "both answers occur");
+}
+
+/// The questions of a station about own over its plain names.
+fn own_over_plain_names(station: &Station) -> Vec<Question> {
+    let mut asked = questions(station, &[0]);
+    asked.retain(|q| matches!(q.o, Name::Plain(_)));
+    asked
 }
 
 #[test]
@@ -130,6 +135,75 @@ fn all_columns_with_a_plain_name_beyond() {
                     Right::Basic(k, _) => columns.map(|column| (column, k)).to_vec(),
                     _ => vec![],
                 },
+            };
+            let found = leaks_by_definition(&station.state, &q, &names);
+            assert_eq!(leaks(&station, &q), found, "{station:?} {q:?}");
+        }
+    }
+}
+
+/// Transfers of own alone take a plain object from an untrusted owner to every subject that exists, and to no
+/// other.
+#[test]
+fn transfers_alone_over_plain_names() {
+    let mut random = Random(101);
+    let (mut safe, mut leaking) = (0, 0);
+    for _ in 0..200 {
+        let station = station(3, 2, &mut random);
+        let state = &station.state;
+        for q in own_over_plain_names(&station) {
+            let (kept, names) = projected(state, &q, 3);
+            let found = leaks_by_codes(&kept, &q, &names, [3]);
+            let mut owners = state.rows_with(q.o, Right::Own);
+            let from_untrusted = owners.any(|owner| !q.trusted(owner));
+            let at_start = state.held(q.s, q.o, q.right);
+            let moved = from_untrusted && state.exists(Name::Subject(q.s));
+            assert_eq!(found, at_start || moved, "{station:?} {q:?}");
+            leaking += u64::from(found && !at_start);
+            safe += u64::from(!found);
+        }
+    }
+    assert!(safe > 0 && leaking > 0, "both answers occur");
+}
+
+/// Without grants of own, transfers do in their place: the search comes to the same answers. Without both, it
+/// misses leaks, so the transfers over plain names are among what it tries.
+#[test]
+fn transfers_in_place_of_grants() {
+    let mut random = Random(102);
+    let mut known = BTreeSet::new();
+    let mut missed = 0;
+    for _ in 0..100 {
+        let station = station(3, 1, &mut random);
+        for q in own_over_plain_names(&station) {
+            let (state, names) = projected(&station.state, &q, 3);
+            if !known.insert((state.clone(), q.trust, q.s)) {
+                continue;
+            }
+            let by = |without: &[u64]| {
+                let codes = (1..=13).filter(|code| !without.contains(code));
+                leaks_by_codes(&state, &q, &names, codes)
+            };
+            assert_eq!(leaks(&station, &q), by(&[7]), "{station:?} {q:?}");
+            assert_eq!(leaks(&station, &q), by(&[3]), "{station:?} {q:?}");
+            missed += u64::from(leaks(&station, &q) && !by(&[3, 7]));
+        }
+    }
+    assert!(missed > 0, "own comes to a trusted subject by 3 or 7 only");
+}
+
+/// With several plain names in the record and one beyond it, none of them left out: transfers of other plain
+/// objects change no answer.
+#[test]
+fn transfers_among_several_plain_names() {
+    let mut random = Random(103);
+    for _ in 0..20 {
+        let station = station(2, 2, &mut random);
+        for q in questions(&station, &[0, 1]) {
+            let names = Names {
+                subjects: vec![0, 1],
+                plains: vec![2, 3, 4],
+                basics: vec![],
             };
             let found = leaks_by_definition(&station.state, &q, &names);
             assert_eq!(leaks(&station, &q), found, "{station:?} {q:?}");

@@ -19,7 +19,9 @@ pub fn allowed(c: Command, record: &Record, names: &Names) -> String {
         code::TRANSFER | code::TRANSFER_STARRED => {
             format!("{i} has {} over {o}", needed(c, names))
         }
-        code::TRANSFER_OWN => format!("{i} owns {o}, which is not {s} nor above it"),
+        code::TRANSFER_OWN if c.o < record.logins() => {
+            format!("{i} owns {o}, which is not {s} nor above it")
+        }
         code::GRANT_CONTROL => format!("{i} owns {o}, and nobody else controls it"),
         code::DELETE | code::DELETE_STARRED if !owns => format!("{i} controls {s}"),
         code::CREATE_OBJECT => format!("{o} does not exist yet"),
@@ -37,7 +39,7 @@ pub fn refused(c: Command, why: CommandRefused, record: &Record, names: &Names) 
         Refusal::Code => format!("{} is no code, which are 1 to 13", c.code),
         Refusal::Bounds => beyond(c, record),
         Refusal::InitiatorAbsent => format!("{i} does not exist, so it can begin nothing"),
-        Refusal::Kind if matches!(c.code, code::TRANSFER_OWN | code::GRANT_CONTROL) => {
+        Refusal::Kind if c.code == code::GRANT_CONTROL => {
             format!("{o} is a log, and this is for logins")
         }
         Refusal::Kind => format!("{o} is a login, and this is for logs"),

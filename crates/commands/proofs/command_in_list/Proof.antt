@@ -8,7 +8,7 @@ use Rattle.matrix.specs.Reading.{stateOf}
 use Rattle.matrix.specs.Valid.{Valid}
 use Rattle.cells.specs.Station.{Station}
 use Rattle.states.specs.Needs.{Guessed, guessed-at}
-use Rattle.commands.specs.Answered.{Answered}
+use Rattle.short_ways.specs.Answered.{Answered}
 use borrow.Author.Needs.{needs}
 use Rattle.commands.proofs.command_in_list.Statement.{statement}
 use Rattle.commands.proofs.command_in_list.Tie as tie

@@ -2,8 +2,8 @@
 use Rattle.cells.specs.Station.{right-shape}
 use Rattle.states.specs.Needs.{Guessed, guessed-at}
 use Rattle.opening.specs.Opened.{station-long}
-use Rattle.commands.specs.Ready.{decoded-to, refused-by}
-use Rattle.commands.specs.Outcomes.{answered-refused, answered-decoded, command-in}
+use Rattle.short_ways.specs.Ready.{decoded-to, refused-by}
+use Rattle.short_ways.specs.Outcomes.{answered-refused, answered-decoded, command-in}
 use borrow.Author.Needs.{needs}
 use Rattle.commands.proofs.command_on.Statement.{statement}
 use Rattle.commands.proofs.command_on.Tie as tie

@@ -1,6 +1,5 @@
 -- `verdict::own_transferred` meets its contract.
-use mathlib.Core.Path.{refl}
-use Rattle.verdict.specs.Late.{own-judged, not-plain}
+use Rattle.verdict.specs.Late.{own-judged, object-judged}
 use borrow.Author.Needs.{needs}
 use Rattle.verdict.proofs.own_transferred.Statement.{statement}
 use Rattle.verdict.proofs.own_transferred.Tie as tie
@@ -36,7 +35,7 @@ returns-3 c =
     own-judged _ _ (c .before .before .before .before .before .before .before .pre .0 .right) (c .before .before .before .before .before .before .before .pre .1) (c .before .before .before .before .o .given .1) _ (c .before .before .owner-walk .ensures) (c .enum-told .given .1)
 
 returns-4 : tie.Need-returns-4
-returns-4 c = absurd (not-plain (c .before .before .before .pre .0) (c .before .before .before .pre .1) refl (c .enum-told2 .given .1))
+returns-4 c = object-judged _ _ (c .before .before .before .pre .0 .right) (c .before .before .before .pre .1) (c .enum-told2 .given .1)
 
 pub own-transferred-spec : {M : Type 1} → statement M
 own-transferred-spec =

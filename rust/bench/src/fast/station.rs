@@ -111,14 +111,19 @@ impl<'a> Station<'a> {
         0
     }
 
-    /// Code 3, whose answers carry the links of the walk from s.
+    /// Code 3, whose answers over a subject carry the links of the walk from s.
     fn transfer_own(&mut self, i: usize, s: usize, o: usize) -> (u64, u64) {
-        let refusal = self.parties(i, s, o, 0..self.n);
+        let refusal = self.parties(i, s, o, 0..self.columns);
         if refusal != 0 {
             return (refusal, 0);
         }
         if !self.has(i, o, OWN) {
             return (12, 0);
+        }
+        if o >= self.n {
+            self.clear(i, o, OWN);
+            self.set(s, o, OWN);
+            return (0, 0);
         }
         let (mut at, mut links) = (s, 0);
         while at != o && at != 0 {

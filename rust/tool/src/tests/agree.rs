@@ -117,6 +117,21 @@ fn refusals_of_commands_are_told() {
     panic!("some refusals did not occur: {seen:?}");
 }
 
+#[test]
+fn transfers_of_own_are_told() {
+    let names = Names::default();
+    let record = open(&[
+        1, 0, 0, 0, 26, 3, 1, // Station A: login 1 owns login 2, who owns log 3.
+        0, 2, 0, 1, 0, 0, 0, 0, 0, 0, 0, 2, 0, 1, 0, 0, 0, 0, 0, 0, 0, 2, 0, 1,
+    ]);
+    let told = |i, s, o| why::allowed(Command::transfer_own(i, s, o), &record, &names);
+    assert_eq!(told(2, 1, 3), "login 2 owns log 3");
+    assert_eq!(
+        told(1, 0, 2),
+        "login 1 owns login 2, which is not login 0 nor above it"
+    );
+}
+
 /// Whether what a refusal's words rest on is so in the record.
 fn fits(c: Command, refusal: Refusal, record: &Record) -> bool {
     let o = record.name(c.o.min(record.columns()));

@@ -20,7 +20,7 @@ use Rattle.codec.specs.Columns.{named-nameOf}
 use Rattle.decoding.specs.declared.Decoded.{Decoded}
 use Rattle.decoding.specs.declared.Decoded.the-variants.{Ready, Refused}
 use Rattle.decoding.specs.Decoded.{decodedOf}
-use Rattle.commands.specs.Rows.{row-kind}
+use Rattle.short_ways.specs.Rows.{row-kind}
 
 -- the code is known, and the names and fields fit
 pub record Fits (f : Shape) (c : Fields) : Type 0 where

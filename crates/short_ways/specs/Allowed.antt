@@ -33,9 +33,9 @@ use Rattle.decoding.specs.Decoded.{formFrom}
 use Rattle.decoding.specs.Arms.{basicRule, of-pair}
 use Rattle.bits.specs.Became.{Became}
 use Rattle.bits.specs.Steps.{became-as}
-use Rattle.commands.specs.Answered.{Answered}
-use Rattle.commands.specs.Ready.{doing}
-use Rattle.commands.specs.Accepting.{answered-accepted}
+use Rattle.short_ways.specs.Answered.{Answered}
+use Rattle.short_ways.specs.Ready.{doing}
+use Rattle.short_ways.specs.Accepting.{answered-accepted}
 
 -- where t holds, A; where it doesn't, the bytes stay
 pub record Where (t : Bool) (b b′ : List ℕ) (A : Type 0) : Type 0 where

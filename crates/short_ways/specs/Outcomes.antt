@@ -25,9 +25,9 @@ use Rattle.laws.specs.Tests.{way, clash, and-right, and-both}
 use Rattle.codec.specs.Columns.{columnOf-nameOf}
 use Rattle.cells.specs.Station.{Station}
 use Rattle.rules.specs.Needs.{ActIn, CommandIn}
-use Rattle.commands.specs.Answered.{Answered, Carried}
-use Rattle.commands.specs.Rows.{row-right}
-use Rattle.commands.specs.Ready.{row-i, row-s, name-o, commandOf, DecodedTo, fitsAll, RefusedBy}
+use Rattle.short_ways.specs.Answered.{Answered, Carried}
+use Rattle.short_ways.specs.Rows.{row-right}
+use Rattle.short_ways.specs.Ready.{row-i, row-s, name-o, commandOf, DecodedTo, fitsAll, RefusedBy}
 
 itself : (m : ℕ) → cond (eqb m 0) 0 m ≡ m
 itself m =

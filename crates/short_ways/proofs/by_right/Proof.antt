@@ -1,4 +1,4 @@
--- `commands::by_right` meets its contract.
+-- `short_ways::by_right` meets its contract.
 use native.Mathlib.Omega.{arith}
 use Prim.Native.Nat.{_<_}
 use mathlib.Core.Path.{_≡_, sym, _∙_}
@@ -7,10 +7,10 @@ use borrow.Author.Tests.{not-false}
 use Rattle.matrix.specs.Shape.{basicsOf}
 use Rattle.matrix.specs.Calls.{namesFit}
 use Rattle.cells.specs.Station.{right-shape}
-use Rattle.commands.specs.Allowed.{left-alone, where-then, answered-transfer, answered-grant, answered-delete}
+use Rattle.short_ways.specs.Allowed.{left-alone, where-then, answered-transfer, answered-grant, answered-delete}
 use borrow.Author.Needs.{needs}
-use Rattle.commands.proofs.by_right.Statement.{statement}
-use Rattle.commands.proofs.by_right.Tie as tie
+use Rattle.short_ways.proofs.by_right.Statement.{statement}
+use Rattle.short_ways.proofs.by_right.Tie as tie
 
 basics-of-requires : tie.Need-basics-of-requires
 basics-of-requires c κs = right-shape (c .before .pre .0)

@@ -20,15 +20,15 @@ use Rattle.laws.specs.Passed.{Passed, all-passed}
 use Rattle.cells.specs.Station.{Station}
 use Rattle.bits.specs.Became.{Became}
 use Rattle.bits.specs.Steps.{became-as}
-use Rattle.commands.specs.Answered.{Answered, Carried}
-use Rattle.commands.specs.Ready.{doing, DecodedTo}
-use Rattle.commands.specs.Outcomes.{answered-decoded}
+use Rattle.short_ways.specs.Answered.{Answered, Carried}
+use Rattle.short_ways.specs.Ready.{doing, DecodedTo}
+use Rattle.short_ways.specs.Outcomes.{answered-decoded}
 
 module _ {b : List ℕ} {f : Shape} (c : Fields) (station : Station b f) (names : namesFit f c ≡ true) where
   abbrev S : State
   S = stateOf b
 
-  -- without links, where the act is none that walks
+  -- without links, where the command makes no walk
   pub answered-accepted : (act : Act) {b′ : List ℕ} → ruleOf (c .code) (c .k) .act ≡ act → known (c .code) ≡ true
       → fieldsFit (basicsOf f) (ruleOf (c .code) (c .k)) (c .s) (c .o) (c .k) ≡ true → Passed (commandTests S (doing (f .n) c act)) → walkLinks S (doing (f .n) c act) act ≡ 0
       → Became b b′ (change S (doing (f .n) c act) act) → Answered b b′ c (Accepted 0)

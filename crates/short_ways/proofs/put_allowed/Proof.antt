@@ -1,4 +1,4 @@
--- `commands::put_allowed` meets its contract.
+-- `short_ways::put_allowed` meets its contract.
 use mathlib.Core.Path.{sym, _∙_, ap₂}
 use borrow.Author.Tests.{not-false}
 use Rattle.matrix.specs.declared.Name.{Name}
@@ -7,11 +7,11 @@ use Rattle.matrix.specs.declared.Right.the-variants.{Basic}
 use Rattle.matrix.specs.State.{has, put}
 use Rattle.matrix.specs.Reading.{stateOf}
 use Rattle.bits.specs.Steps.{became-as}
-use Rattle.commands.specs.Ready.{row-i, row-s, name-is}
-use Rattle.commands.specs.Allowed.{left-alone, made, at-name}
+use Rattle.short_ways.specs.Ready.{row-i, row-s, name-is}
+use Rattle.short_ways.specs.Allowed.{left-alone, made, at-name}
 use borrow.Author.Needs.{needs}
-use Rattle.commands.proofs.put_allowed.Statement.{statement}
-use Rattle.commands.proofs.put_allowed.Tie as tie
+use Rattle.short_ways.proofs.put_allowed.Statement.{statement}
+use Rattle.short_ways.proofs.put_allowed.Tie as tie
 
 name-of-requires : tie.Need-name-of-requires
 name-of-requires c κs = search needs
