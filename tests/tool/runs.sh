@@ -65,6 +65,11 @@ for list in '02 00 00 00 00' '01' '01 00 00 00 01 05' '01 00 00 00 06 04 0c 00 0
     bytes commands $list
     try run station commands
 done
+# Lines of one huge word are told in a short sentence.
+for word in 3 x; do
+    head -c 100000 /dev/zero | tr '\0' "$word" >commands
+    try run station commands
+done
 head -c 70000 /dev/zero | tr '\0' '\1' >commands
 try run station commands
 try run station nowhere

@@ -50,6 +50,7 @@ try held "$a" 3 3 own
 try held "$a" 1 4 own
 try who "$a" 4 own
 try new
+try new station
 try new station 0 1
 try new station 65 1
 try new station 1 193

@@ -23,8 +23,25 @@ impl From<String> for NoAnswer {
 
 impl fmt::Display for NoAnswer {
     fn fmt(&self, f: &mut fmt::Formatter<'_>) -> fmt::Result {
-        f.write_str(&one_line(&self.0))
+        f.write_str(&one_line(&cut(&self.0)))
     }
+}
+
+/// The longest word that a sentence has whole, in characters.
+const LONGEST: usize = 1_000;
+
+/// A sentence with the middle of its longest words left out, so that a huge file without a space makes a sentence that can be read.
+fn cut(text: &str) -> String {
+    let short = |word: &str| {
+        let length = word.chars().count();
+        if length <= LONGEST {
+            return String::from(word);
+        }
+        let first: String = word.chars().take(40).collect();
+        let last: String = word.chars().skip(length - 3).collect();
+        format!("{first}..{last}")
+    };
+    text.split_inclusive(' ').map(short).collect()
 }
 
 /// Text with its control characters made visible, so that it stays on one line and leaves a terminal as it is.

@@ -157,10 +157,12 @@ impl Split {
         };
         let (command, words) = (form.command, words.collect::<Vec<_>>());
         if words.len() != form.words.len() {
-            let (takes, count) = (form.words.join(" "), words.len());
-            return no_answer(format!(
-                "{command} takes {takes}, and {count} words are given"
-            ));
+            let takes = form.words.join(" ");
+            let given = match words.len() {
+                1 => String::from("1 word is"),
+                count => format!("{count} words are"),
+            };
+            return no_answer(format!("{command} takes {takes}, and {given} given"));
         }
         let mut options = self.options.iter();
         if let Some((name, _)) = options.find(|(name, _)| !form.options.contains(name)) {
