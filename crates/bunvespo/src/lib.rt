@@ -8,6 +8,7 @@ ghost use mathlib.Core.Path.{_≡_};
 ghost use Rattle.matrix.specs.Calls.{validAnswer, heldAnswer, commandAnswer, commandBytes, runAnswer, runBytes};
 ghost use Rattle.station.specs.Given.{fieldsOf};
 ghost use Rattle.matrix.specs.Numbers.{truth, heldNumbers, commandNumbers, runNumbers};
+ghost use Rattle.history.specs.Calls.{Emptied, Put, Counted};
 ghost use Rattle.bunvespo.specs.Numbers.{AnswersNumbers};
 
 // Whether a record is valid: 1 or 0.
@@ -106,4 +107,28 @@ pub extern "C" fn bunvespo_safety(
             value: 0,
         },
     }
+}
+
+// An empty window of late refusals.
+#[no_mangle]
+pub extern "C" fn bunvespo_window_empty(w: &mut [u8])
+    ensures { λ _. ⌜ Emptied (now (w .entry)) (now (w .exit)) ⌝ }
+{
+    window::empty(w);
+}
+
+// One more entry of the window: the value is 0.
+#[no_mangle]
+pub extern "C" fn bunvespo_window_put(w: &mut [u8], initiator: u64, outcome: u64) -> Numbers
+    ensures { λ r. ⌜ Put (now (w .entry)) initiator outcome (now (w .exit)) r ⌝ }
+{
+    window::put(w, initiator, outcome)
+}
+
+// The count of a number: the value is the count.
+#[no_mangle]
+pub extern "C" fn bunvespo_window_count(w: &[u8], number: u64) -> Numbers
+    ensures { λ r. ⌜ Counted (now (w .entry)) number r ⌝ }
+{
+    window::count(w, number)
 }

@@ -1,7 +1,7 @@
 -- Where the cells of a record stand, in numbers: what the code computes is what the definitions say. That a cell has two bytes is known here
 -- alone, where they are read and stored.
 use Prim.Native.Nat.{ℕ, suc, _+_, _-_, _*_, _/_, _%_, _^_, _≤_, _<_}
-use native.Mathlib.Nat.{add-zero, zero-add, le-trans, mul-le-mul, mul-le-mul-right}
+use native.Mathlib.Nat.{zero-add, le-trans, mul-le-mul, mul-le-mul-right}
 use native.Mathlib.Omega.{arith}
 use mathlib.Core.Path.{_≡_, refl, sym, _∙_, ap, ap₂, subst}
 use mathlib.Core.List.{List}
@@ -10,6 +10,7 @@ use Rattle.matrix.specs.declared.Shape.{Shape}
 use Rattle.matrix.specs.Bytes.{numberAt, setNumber, bit}
 use Rattle.matrix.specs.Shape.{mostSubjects, mostPlain, columns, cellPlace, sizeOf}
 use Rattle.matrix.specs.Reading.{cellAt, setCell}
+use Rattle.codec.specs.Numbers.{two-read, two-stored}
 use Rattle.codec.specs.Bits.{bit-low}
 use Rattle.codec.specs.ShapeRight.{ShapeRight, mostWidth, mostBytes, width-some, width-most, size-most}
 use Rattle.codec.specs.Cells.{place-inside}
@@ -80,16 +81,10 @@ module _ (b : List ℕ) (f : Shape) (h : Station b f) where
 
   -- the cell's two bytes, read and stored
   pub cell-is : (r c : ℕ) → cellAt b r c ≡ getD b (cellPlace f r c) 0 * 256 + getD b (cellPlace f r c + 1) 0
-  cell-is r c = cell-number r c ∙ ap (numberAt b (cellPlace f r c)) (right-shape h .width) ∙ two (cellPlace f r c)
-    where
-      two : (at : ℕ) → numberAt b at 2 ≡ getD b at 0 * 256 + getD b (at + 1) 0
-      two at = unfold numberAt in rw add-zero (simp zero-add)
+  cell-is r c = cell-number r c ∙ ap (numberAt b (cellPlace f r c)) (right-shape h .width) ∙ two-read b (cellPlace f r c)
 
   pub store-is : (r c v : ℕ) → setCell b r c v ≡ set (set b (cellPlace f r c) (v / 256 % 256)) (cellPlace f r c + 1) (v % 256)
   unfolding setCell
   store-is r c v =
       ap (λ (e : Shape). setNumber b (cellPlace e r c) (e .width) v) (sym (h .shape))
-      ∙ ap (λ (w : ℕ). setNumber b (cellPlace f r c) w v) (right-shape h .width) ∙ two (cellPlace f r c)
-    where
-      two : (at : ℕ) → setNumber b at 2 v ≡ set (set b at (v / 256 % 256)) (at + 1) (v % 256)
-      two at = unfold setNumber in rw add-zero refl
+      ∙ ap (λ (w : ℕ). setNumber b (cellPlace f r c) w v) (right-shape h .width) ∙ two-stored b (cellPlace f r c) v

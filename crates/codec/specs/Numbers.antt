@@ -1,7 +1,7 @@
 -- Laws of big-endian numbers in a list of bytes, over their width: what is stored is read back, nothing else changes, and the bytes of a
 -- number stand in the list as they are.
 use Prim.Native.Nat.{ℕ, zero, suc, _+_, _-_, _*_, _/_, _%_, _^_, _≤_, _<_}
-use native.Mathlib.Nat.{not-suc-le-zero, mod-lt, div-lt-iff-lt-mul, div-add-mod', pow-suc, pow-succ', div-div-eq-div-mul, div-one}
+use native.Mathlib.Nat.{add-zero, zero-add, not-suc-le-zero, mod-lt, div-lt-iff-lt-mul, div-add-mod', pow-suc, pow-succ', div-div-eq-div-mul, div-one}
 use native.Mathlib.Omega.{arith}
 use mathlib.Core.Path.{_≡_, refl, sym, _∙_, ap, ap₂, subst}
 use mathlib.Core.Logic.{⊎-elim}
@@ -64,6 +64,16 @@ numberAt-set-same b at (suc w) v h l =
 
     low : getD (set front (at + w) (v % 256)) (at + w) 0 ≡ v % 256
     low = getD-set-same front (at + w) (v % 256) 0 (let e : length front ≡ length b = length-setNumber b at w (v / 256) in omega arith)
+
+-- ---- a number of two bytes
+
+pub two-read : (b : List ℕ) (at : ℕ) → numberAt b at 2 ≡ getD b at 0 * 256 + getD b (at + 1) 0
+unfolding numberAt
+two-read b at = rw add-zero (simp zero-add)
+
+pub two-stored : (b : List ℕ) (at v : ℕ) → setNumber b at 2 v ≡ set (set b at (v / 256 % 256)) (at + 1) (v % 256)
+unfolding setNumber
+two-stored b at v = rw add-zero refl
 
 -- ---- bytes stay bytes
 

@@ -14,6 +14,7 @@ mod safety;
 mod search;
 mod state;
 mod valid;
+mod window;
 
 pub use calls::{Answer, Safety, command, held, run, safety, valid};
 pub use command::{Command, Uses, allowed, change, decode, uses};
@@ -24,6 +25,7 @@ pub use rights::{Cell, Form, Right};
 pub use safety::{Question, buffer_minimum, leaks, question};
 pub use search::{Names, leaks_by_codes, leaks_by_definition, projected};
 pub use state::{Name, State, U, Walk};
+pub use window::{WINDOW_SIZE, Window};
 
-/// The number of a refusal, 1 to 16 (Manual 7.1).
+/// The number of a refusal, 1 to 17 (Manual 7.1).
 pub type Refusal = u64;
