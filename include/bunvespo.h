@@ -1,6 +1,6 @@
 /*
- * Bunvespo: the rights record of a log station (Graham-Denning), its thirteen commands and its safety question.
- * The five calls of the proved library, for C99 and C++11. `./install PREFIX` puts this header, the archive and a file for pkg-config
+ * Bunvespo: the rights record of a log station (Graham-Denning), its thirteen commands and its safety question, and a window of the
+ * commands that were refused of late. The eight calls of the proved library, for C99 and C++11. `./install PREFIX` puts this header, the archive and a file for pkg-config
  * below a prefix; without it, link with target/staticlib/libbunvespo.a, which `rt staticlib bunvespo` proves and writes. The archive
  * is built for x86-64 and needs nothing but memset of the C library.
  *
@@ -24,20 +24,32 @@
  *   bytes 1 to 4  L: how many bytes come after these four, six for each command, 60,000 at most
  *   from byte 5   for each command 05, code, i, s, o, k
  *
+ * A WINDOW OF LATE REFUSALS. It shows, for each subject number below 64, how many of the last 256 commands were refused. Entries are put
+ * into it one by one, each the initiator of a command and its outcome. It has BUNVESPO_WINDOW_SIZE bytes, which may be kept in a file. A
+ * window that was emptied by bunvespo_window_empty, and then changed by bunvespo_window_put alone, shows the history of the entries
+ * that were put and not refused:
+ *   bytes 0 to 255    the entries, the oldest being entry 0: entry m stands in byte m mod 256 while it is one of the last 256. It is 0
+ *                     if the command was accepted, else one more than the initiator's number. 0 where no entry has stood yet
+ *   bytes 256 to 383  the counts of the numbers 0 to 63, two bytes each, high byte first: 0 to 256
+ *   byte 384          how many entries the history has, mod 256
+ * So BUNVESPO_WINDOW_SIZE zero bytes are an empty window. Bytes of any other content and any length are answered too: then nothing is
+ * promised of the counts, and bytes of another length are never written.
+ *
  * SLICES. Each pointer is followed by its length in bytes. A call reads, and where the pointer isn't const may write, these
  * bytes and no others, and keeps no pointer after it returns. A record or a buffer that a call may write must not overlap its
  * other slice.
  * NULL with length 0 is an empty slice, for each of them: the compiled code looks at a slice's length before it reads or
  * writes a byte, and never at the pointer itself. So an empty record, NULL or not, gives 0 for validity and else refusal 1;
- * an empty list on a valid record refusal 16; an empty buffer on a valid record refusal 15 (7 stands before it). NULL with
- * another length is not allowed. tests/c_interface/null_and_empty.c tests this.
+ * an empty list on a valid record refusal 16; an empty buffer on a valid record refusal 15 (7 stands before it); an empty window,
+ * which is of another length than a window's, stays empty and has counts of 0. NULL with another length is not allowed. tests/c_interface/null_and_empty.c tests this.
  *
  * THREADS. The library has no variables and takes no locks: all that a call touches is the bytes lent to it. So threads may call
  * it at the same time, under the rule that C has for all bytes: none may be written by one thread while another reads or writes it.
- *   - valid, held and safety only read a record, and run only reads a list: any number of threads may ask of one record, and share
- *     one list, at once.
- *   - command and run write their record, and safety its buffer. While a thread is in such a call, no other may use that record or
- *     that buffer in any call, not even to ask. A lock, or a copy of the record for each thread, is the caller's to provide.
+ *   - valid, held and safety only read a record, run only reads a list, and window_count only reads a window: any number of threads
+ *     may ask of one record or window, and share one list, at once.
+ *   - command and run write their record, safety its buffer, and window_empty and window_put their window. While a thread is in such
+ *     a call, no other may use that record, buffer or window in any call, not even to ask. A lock, or a copy of the record for each
+ *     thread, is the caller's to provide.
  */
 #ifndef BUNVESPO_H
 #define BUNVESPO_H
@@ -52,16 +64,17 @@ extern "C" {
 /*
  * THE VERSION of this header and its archive, as numbers for #if. It has nothing to do with the version byte of a record.
  *   #if BUNVESPO_LIBRARY_VERSION >= 3000      0.3.0 or later: code 3 takes plain objects too
+ *   #if BUNVESPO_LIBRARY_VERSION >= 4000      0.4.0 or later: the window of late refusals
  */
 #define BUNVESPO_VERSION_MAJOR 0
-#define BUNVESPO_VERSION_MINOR 3
+#define BUNVESPO_VERSION_MINOR 4
 #define BUNVESPO_VERSION_PATCH 0
 #define BUNVESPO_LIBRARY_VERSION (BUNVESPO_VERSION_MAJOR * 1000000 + BUNVESPO_VERSION_MINOR * 1000 + BUNVESPO_VERSION_PATCH)
 
 /*
  * REFUSALS. The answer is the lowest number whose condition holds; only bunvespo_run tests 16 before its first command. The words
  * of each condition are those of bunvespo_refusal_words. Here stand the calls that give the number, and what the words leave out.
- * bunvespo_valid never refuses. Like the codes below these are enumerators, for programs and not for #if.
+ * bunvespo_valid and bunvespo_window_empty never refuse. Like the codes below these are enumerators, for programs and not for #if.
  */
 enum {
     BUNVESPO_ANSWERED = 0,                  /* not refused */
@@ -81,11 +94,12 @@ enum {
     BUNVESPO_REFUSED_WALK_MEETS = 13,       /* command, run: code 3 over a subject */
     BUNVESPO_REFUSED_OTHER_CONTROLLER = 14, /* command, run: code 6 */
     BUNVESPO_REFUSED_BUFFER_SHORT = 15,     /* safety */
-    BUNVESPO_REFUSED_LIST_FORM = 16         /* run: fewer than 5 bytes, a version other than 1, a command that does not begin with 05, or
+    BUNVESPO_REFUSED_LIST_FORM = 16,        /* run: fewer than 5 bytes, a version other than 1, a command that does not begin with 05, or
                                                an L above 60,000, not divisible by six, or not the number of bytes after it */
+    BUNVESPO_REFUSED_WINDOW_NUMBER = 17     /* window_put, window_count: whatever the window's bytes */
 };
 
-/* A refusal in words, without a full stop. Any number has some: 0 and those above 16 are told so. The text is never freed. */
+/* A refusal in words, without a full stop. Any number has some: 0 and those above 17 are told so. The text is never freed. */
 static inline const char *bunvespo_refusal_words(uint64_t refusal)
 {
     switch (refusal) {
@@ -107,6 +121,7 @@ static inline const char *bunvespo_refusal_words(uint64_t refusal)
     case BUNVESPO_REFUSED_OTHER_CONTROLLER: return "somebody else controls o already";
     case BUNVESPO_REFUSED_BUFFER_SHORT: return "the buffer has fewer than 5 + 6 (n + 2) bytes";
     case BUNVESPO_REFUSED_LIST_FORM: return "the list is not of the right form";
+    case BUNVESPO_REFUSED_WINDOW_NUMBER: return "the initiator, or the number whose count is read, is 64 or more";
     default: return "no refusal has this number";
     }
 }
@@ -149,6 +164,11 @@ enum {
 #define BUNVESPO_MOST_PLAIN 192
 #define BUNVESPO_BUFFER_SIZE(n) (5 + 6 * (2 + ((size_t)(n) > BUNVESPO_MOST_SUBJECTS ? (size_t)BUNVESPO_MOST_SUBJECTS : (size_t)(n))))
 
+/* The subject numbers that have a count in a window, the entries that are counted, and the bytes of a window. */
+#define BUNVESPO_WINDOW_NUMBERS 64
+#define BUNVESPO_WINDOW_ENTRIES 256
+#define BUNVESPO_WINDOW_SIZE 385
+
 /* An answer, by value. refusal: 0 where the call is answered, else the number above. value: as said at each call. */
 typedef struct {
     uint64_t refusal;
@@ -188,6 +208,23 @@ bunvespo_answer bunvespo_run(uint8_t *record, size_t record_len, const uint8_t *
  */
 bunvespo_answer bunvespo_safety(const uint8_t *record, size_t record_len, uint64_t trust, uint64_t s, uint64_t o,
                                 uint64_t right, uint8_t *out, size_t out_len);
+
+/* Makes bytes an empty window. window_len is BUNVESPO_WINDOW_SIZE; bytes of another length stay as they are. */
+void bunvespo_window_empty(uint8_t *window, size_t window_len);
+
+/*
+ * Puts one more entry into a window: the initiator of a command, and its outcome, which is the refusal that the command was answered
+ * with: 0 where it was accepted, and any other number, 17 too, where it was refused. Refusal: 17 for an initiator of 64 or more, with
+ * every byte as it was and the entry not in the history. value: 0.
+ */
+bunvespo_answer bunvespo_window_put(uint8_t *window, size_t window_len, uint64_t initiator, uint64_t outcome);
+
+/*
+ * How many of the last 256 entries, or of all while there are fewer, are refusals of commands begun by a subject number. Entries of
+ * all subjects count among the 256, and accepted ones too. Refusal: 17 for a number of 64 or more. value: the count, 0 to 256; 0 with a
+ * refusal. Of bytes that are not a window's it may be any number up to 65,535.
+ */
+bunvespo_answer bunvespo_window_count(const uint8_t *window, size_t window_len, uint64_t number);
 
 #ifdef __cplusplus
 }

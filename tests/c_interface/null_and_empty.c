@@ -1,5 +1,5 @@
 /*
- * The five calls with NULL and length 0 for each slice, and with an empty slice that isn't NULL: the answers are those of an
+ * Every call with NULL and length 0 for each slice, and with an empty slice that isn't NULL: the answers are those of an
  * empty slice. tests/c_interface/run builds and runs it; it exits with 0 and prints nothing where all answers are right.
  */
 #include <stdio.h>
@@ -58,6 +58,16 @@ static void empty_buffer(const char *what, uint8_t *at, const uint8_t *record_at
     expect(what, bunvespo_safety(record_at, 0, 0, 0, 0, 0, at, 0), BUNVESPO_REFUSED_RECORD_SHORT, 0);
 }
 
+/* An empty window: 17 as ever, and else answered. */
+static void empty_window(const char *what, uint8_t *at)
+{
+    bunvespo_window_empty(at, 0);
+    expect(what, bunvespo_window_put(at, 0, 63, 12), BUNVESPO_ANSWERED, 0);
+    expect(what, bunvespo_window_put(at, 0, 64, 12), BUNVESPO_REFUSED_WINDOW_NUMBER, 0);
+    expect(what, bunvespo_window_count(at, 0, 63), BUNVESPO_ANSWERED, 0);
+    expect(what, bunvespo_window_count(at, 0, 64), BUNVESPO_REFUSED_WINDOW_NUMBER, 0);
+}
+
 int main(void)
 {
     uint8_t bytes[1] = {0xEE};
@@ -67,6 +77,8 @@ int main(void)
     empty_list("list empty", bytes, bytes);
     empty_buffer("buffer NULL", NULL, NULL);
     empty_buffer("buffer empty", bytes, bytes);
+    empty_window("window NULL", NULL);
+    empty_window("window empty", bytes);
     failures += bytes[0] != 0xEE;
     return failures != 0;
 }

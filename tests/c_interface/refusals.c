@@ -13,7 +13,7 @@
 #ifdef BUNVESPO_VERSION
 #error "BUNVESPO_VERSION was a refusal once, and must mean nothing else now"
 #endif
-#if BUNVESPO_LIBRARY_VERSION < 3000
+#if BUNVESPO_LIBRARY_VERSION < 4000
 #error "the version can't be tested by #if"
 #endif
 
@@ -37,12 +37,12 @@ static int has_words(uint64_t number, const char *words)
 /* The words of all refusals, and of numbers that are none. */
 static void test_words(void)
 {
-    for (uint64_t number = 1; number <= 16; number++) {
+    for (uint64_t number = 1; number <= 17; number++) {
         printf("%" PRIu64 " %s\n", number, bunvespo_refusal_words(number));
         expect("words differ in the other unit", has_words(number, bunvespo_refusal_words(number)));
     }
     expect("the words of 0", has_words(BUNVESPO_ANSWERED, "not refused"));
-    const uint64_t unknown[] = {17, 255, 256, UINT64_C(0x100000001), UINT64_MAX};
+    const uint64_t unknown[] = {18, 255, 256, UINT64_C(0x100000001), UINT64_MAX};
     for (size_t j = 0; j < sizeof unknown / sizeof unknown[0]; j++) {
         expect("the words of an unknown number", has_words(unknown[j], "no refusal has this number"));
     }

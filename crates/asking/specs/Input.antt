@@ -1,4 +1,4 @@
--- The program's input (Manual 9.2): a record, and the question in the last 11 bytes. Over 65,536 bytes are refused by 4, under 11 by 1.
+-- The program's input (Manual 10.2): a record, and the question in the last 11 bytes. Over 65,536 bytes are refused by 4, under 11 by 1.
 use Prim.Native.Nat.{ℕ, _+_, _-_, _≤_, _<_}
 use native.Mathlib.Omega.{arith}
 use mathlib.Core.Path.{_≡_, refl}

@@ -1,4 +1,4 @@
--- The rows of Manual 10.2 about validity and commands, as theorems about the definitions.
+-- The rows of Manual 11.2 about validity and commands, as theorems about the definitions.
 use mathlib.Core.Path.{_≡_, refl}
 use mathlib.Core.Bool.{true, false}
 use Rattle.matrix.specs.declared.Name.the-variants.{Plain}

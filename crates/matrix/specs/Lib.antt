@@ -1,5 +1,5 @@
 -- The definitions, in the order to read them. A reader who checks these against docs/MANUAL.md has checked what every promise says;
--- its section 11 has the notation and says which rule is where.
+-- its section 12 has the notation and says which rule is where.
 pub mod Bounded
 pub mod Names
 pub mod Numbers

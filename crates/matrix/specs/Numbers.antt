@@ -1,5 +1,5 @@
 -- The answers in numbers: a refusal, 0 where the call is answered, and a value. Each case of an answer has its two numbers here, and the
--- calls for other languages answer by them (Manual 9). That of the safety question is in the crate question.
+-- calls for other languages answer by them (Manual 10). That of the safety question is in the crate question.
 use Prim.Native.Nat.{ℕ}
 use mathlib.Core.Bool.{Bool, cond}
 use Rattle.matrix.specs.declared.Answer.{Answer}

@@ -1,4 +1,4 @@
--- The answer to a safety question in numbers, as those of the other calls (Manual 9).
+-- The answer to a safety question in numbers, as those of the other calls (Manual 10).
 use Prim.Native.Nat.{_+_}
 use Rattle.matrix.specs.declared.Numbers.{Numbers}
 use Rattle.matrix.specs.Numbers.{numbers}

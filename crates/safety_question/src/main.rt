@@ -1,4 +1,4 @@
-// Asks the safety question that stands in the standard input (Manual 9.2) and prints the answer (Manual 9.3): `safe`, `refused N`, or
+// Asks the safety question that stands in the standard input (Manual 10.2) and prints the answer (Manual 10.3): `safe`, `refused N`, or
 // `leaks N` with the commands of the list, a line for each.
 
 use asking::MOST_INPUT;

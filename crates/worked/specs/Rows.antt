@@ -1,4 +1,4 @@
--- The worked rows that are theorems (Manual 10.2), gathered under one proof: those about commands (crate frame), and those about the safety
+-- The worked rows that are theorems (Manual 11.2), gathered under one proof: those about commands (crate frame), and those about the safety
 -- question. The safe ones go through the theorem that decides the question, the others are computed.
 use Prim.Native.Nat.{ℕ, _+_, _≤_, _<_}
 use native.Mathlib.Omega.{arith}

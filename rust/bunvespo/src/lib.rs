@@ -1,11 +1,11 @@
 //! Safe calls of the proved library Bunvespo, which keeps the rights record of a log station: who owns, controls and may read each
 //! login (subject) and each log (plain object), as bytes.
 //!
-//! There are five calls: [`valid`], [`held`], [`command`], [`run`] and [`safety`]; [`check`] and [`witness`] are two of them in another
-//! form. Each takes any bytes, an empty slice too, and any
-//! numbers as names; one that is out of range is refused and never wraps. Errors are types that `?` takes, each with the refusal's
-//! number and words. The calls keep nothing between them, so threads may call them at the same time; who may write a record is for
-//! Rust's borrows.
+//! There are five calls on a record: [`valid`], [`held`], [`command`], [`run`] and [`safety`]; [`check`] and [`witness`] are two of them
+//! in another form. Each takes any bytes, an empty slice too, and any numbers as names; one that is out of range is refused and never
+//! wraps. Errors are types that `?` takes, each with the refusal's number and words. The calls keep nothing between them, so threads
+//! may call them at the same time; who may write a record is for Rust's borrows. A [`Window`] counts the commands that were refused of
+//! late.
 //!
 //! ```
 //! use bunvespo::{Basic, Command, Right, command, held, new_record};
@@ -21,7 +21,7 @@
 //! }
 //! ```
 //!
-//! The bytes of records and lists are described in `include/bunvespo.h`. [`raw`] has the exports of the archive as they are, for
+//! The bytes of records, lists and windows are described in `include/bunvespo.h`. [`raw`] has the exports of the archive as they are, for
 //! rights that are only numbers and for pointers.
 
 #![deny(missing_docs)]
@@ -34,6 +34,7 @@ pub mod raw;
 mod refusal;
 mod refused;
 mod right;
+mod window;
 
 pub use calls::{Safety, check, command, held, run, safety, trust_mask, valid, witness};
 pub use command::{Command, code};
@@ -42,3 +43,4 @@ pub use list::{EncodeError, MOST_COMMANDS, commands, encode};
 pub use refusal::Refusal;
 pub use refused::{CommandRefused, RunRefused};
 pub use right::{Basic, ParseRightError, Right};
+pub use window::{WINDOW_ENTRIES, WINDOW_NUMBERS, WINDOW_SIZE, Window};

@@ -1,4 +1,4 @@
-//! The five exports of the archive, as `include/bunvespo.h` declares them. A slice is a pointer and then its length.
+//! The eight exports of the archive, as `include/bunvespo.h` declares them. A slice is a pointer and then its length.
 //!
 //! # Safety
 //! Each pointer and length are those of bytes that may be read, or written where the pointer is `*mut`, and that overlap no other
@@ -57,4 +57,18 @@ unsafe extern "C" {
         out: *mut u8,
         out_len: usize,
     ) -> Answer;
+
+    /// Bytes of a window's length become an empty window.
+    pub fn bunvespo_window_empty(window: *mut u8, window_len: usize);
+
+    /// The value is 0.
+    pub fn bunvespo_window_put(
+        window: *mut u8,
+        window_len: usize,
+        initiator: u64,
+        outcome: u64,
+    ) -> Answer;
+
+    /// The value is the count.
+    pub fn bunvespo_window_count(window: *const u8, window_len: usize, number: u64) -> Answer;
 }

@@ -1,4 +1,4 @@
-//! The sixteen refusals.
+//! The seventeen refusals.
 
 use std::error::Error;
 use std::fmt;
@@ -54,11 +54,13 @@ pub enum Refusal {
     BufferShort = 15,
     /// The bytes of the list are no list. Given by `run` alone.
     ListForm = 16,
+    /// The number has no count in a window. Given by `Window` alone.
+    WindowNumber = 17,
 }
 
 impl Refusal {
     /// Every refusal, in number order.
-    pub const ALL: [Refusal; 16] = [
+    pub const ALL: [Refusal; 17] = [
         Refusal::RecordShort,
         Refusal::Version,
         Refusal::Counts,
@@ -75,21 +77,22 @@ impl Refusal {
         Refusal::OtherController,
         Refusal::BufferShort,
         Refusal::ListForm,
+        Refusal::WindowNumber,
     ];
 
-    /// The number, 1 to 16.
+    /// The number, 1 to 17.
     pub const fn number(self) -> u8 {
         self as u8
     }
 
-    /// The refusal of a number, if it is 1 to 16.
+    /// The refusal of a number, if it is 1 to 17.
     ///
     /// ```
     /// use bunvespo::Refusal;
     ///
     /// assert_eq!(Refusal::from_number(7), Some(Refusal::Bounds));
     /// assert_eq!(Refusal::from_number(0), None);
-    /// assert_eq!(Refusal::from_number(17), None);
+    /// assert_eq!(Refusal::from_number(18), None);
     /// ```
     pub fn from_number(number: u64) -> Option<Refusal> {
         let place = usize::try_from(number.checked_sub(1)?).ok()?;
@@ -117,6 +120,9 @@ impl Refusal {
             Refusal::OtherController => "somebody else controls o already",
             Refusal::BufferShort => "the buffer has fewer than 5 + 6 (n + 2) bytes",
             Refusal::ListForm => "the list is not of the right form",
+            Refusal::WindowNumber => {
+                "the initiator, or the number whose count is read, is 64 or more"
+            }
         }
     }
 }

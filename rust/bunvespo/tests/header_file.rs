@@ -1,6 +1,9 @@
 //! The C header and this crate say the same: version, refusals and their words, codes of commands and rights, limits.
 
-use bunvespo::{MOST_PLAIN, MOST_SUBJECTS, Refusal, buffer_size, code};
+use bunvespo::{
+    MOST_PLAIN, MOST_SUBJECTS, Refusal, WINDOW_ENTRIES, WINDOW_NUMBERS, WINDOW_SIZE, buffer_size,
+    code,
+};
 
 const HEADER: &str = include_str!("../../../include/bunvespo.h");
 
@@ -44,7 +47,7 @@ fn refusals() {
         let name = format!("REFUSED_{}", in_capitals(&format!("{refusal:?}")));
         assert_eq!(enumerator(&name), u64::from(refusal.number()));
     }
-    assert_eq!(HEADER.matches("    BUNVESPO_REFUSED_").count(), 16);
+    assert_eq!(HEADER.matches("    BUNVESPO_REFUSED_").count(), 17);
 }
 
 #[test]
@@ -82,4 +85,12 @@ fn limits() {
     assert_eq!(number("PLAIN"), MOST_PLAIN.to_string());
     assert_eq!(buffer_size(MOST_SUBJECTS), 401);
     assert_eq!(buffer_size(u8::MAX), 5 + 6 * 257);
+}
+
+#[test]
+fn windows() {
+    let number = |name: &str| after(&format!("#define BUNVESPO_WINDOW_{name} "));
+    assert_eq!(number("NUMBERS"), WINDOW_NUMBERS.to_string());
+    assert_eq!(number("ENTRIES"), WINDOW_ENTRIES.to_string());
+    assert_eq!(number("SIZE"), WINDOW_SIZE.to_string());
 }

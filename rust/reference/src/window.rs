@@ -1,9 +1,9 @@
-//! The window of the last 256 entries (Manual 10). The whole history is kept here, and each answer is worked
+//! The window of the last 256 entries (Manual 9). The whole history is kept here, and each answer is worked
 //! out from it anew.
 
 use crate::calls::Answer;
 
-/// How many bytes a window has (Manual 10): the places, the counts and the number of entries.
+/// How many bytes a window has (Manual 9): the places, the counts and the number of entries.
 pub const WINDOW_SIZE: usize = 385;
 
 /// How many entries are counted, over all initiators together.
@@ -33,7 +33,7 @@ impl Window {
         }
     }
 
-    /// One more entry (Manual 10). An initiator that is no subject number is answered 17, and the entry is
+    /// One more entry (Manual 9). An initiator that is no subject number is answered 17, and the entry is
     /// not taken. Any outcome is taken.
     pub fn put(&mut self, initiator: u64, outcome: u64) -> Answer {
         if !is_number(initiator) {
@@ -49,7 +49,7 @@ impl Window {
         }
     }
 
-    /// How many of the last 256 entries are refused ones of this initiator (Manual 10), or 17 where it is no
+    /// How many of the last 256 entries are refused ones of this initiator (Manual 9), or 17 where it is no
     /// subject number.
     pub fn count(&self, number: u64) -> Answer {
         if !is_number(number) {
@@ -69,7 +69,7 @@ impl Window {
         self.history.len()
     }
 
-    /// The bytes of a window that shows this history (Manual 10).
+    /// The bytes of a window that shows this history (Manual 9).
     pub fn bytes(&self) -> [u8; WINDOW_SIZE] {
         let mut bytes = [0; WINDOW_SIZE];
         for (m, entry) in self.history.iter().enumerate().skip(self.first()) {

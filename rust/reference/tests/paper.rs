@@ -1,10 +1,10 @@
-//! The worked examples of docs/MANUAL.md: the rows of its section 10, and the example of each refusal.
+//! The worked examples of docs/MANUAL.md: the rows of its section 11, and the example of each refusal.
 
 use reference::{
     Answer, Safety, command, held, leaks_by, read, run, safety, valid, write, write_list,
 };
 
-/// Station A (Manual 10.1).
+/// Station A (Manual 11.1).
 fn a() -> Vec<u8> {
     vec![
         0x01, 0x00, 0x00, 0x00, 0x1A, 0x03, 0x01, //
@@ -14,7 +14,7 @@ fn a() -> Vec<u8> {
     ]
 }
 
-/// Station B (Manual 10.1).
+/// Station B (Manual 11.1).
 fn b() -> Vec<u8> {
     vec![
         0x01, 0x00, 0x00, 0x00, 0x0E, 0x02, 0x01, //

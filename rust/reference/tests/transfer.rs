@@ -2,7 +2,7 @@
 
 use reference::{Answer, Safety, command, held, leaks_by, run, safety, valid, write_list};
 
-/// Station A (Manual 10.1), with the log 3, which subject 2 owns.
+/// Station A (Manual 11.1), with the log 3, which subject 2 owns.
 const A: [u8; 31] = [
     0x01, 0x00, 0x00, 0x00, 0x1A, 0x03, 0x01, //
     0x00, 0x02, 0x00, 0x01, 0x00, 0x00, 0x00, 0x00, //

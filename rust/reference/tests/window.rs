@@ -1,4 +1,4 @@
-//! The window of the last 256 entries and the counts it shows (Manual 10).
+//! The window of the last 256 entries and the counts it shows (Manual 9).
 
 use reference::{Answer, WINDOW_SIZE, Window};
 
