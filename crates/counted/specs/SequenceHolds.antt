@@ -11,7 +11,7 @@ use Rattle.matrix.specs.declared.Numbers.{Numbers}
 use Rattle.matrix.specs.Numbers.{numbers}
 use Rattle.matrix.specs.Tests.{test, firstFailed}
 use Rattle.laws.specs.Tests.{way}
-use Rattle.history.specs.Entries.{Entry, windowNumbers, windowRefusal, taken, refusedOfLate}
+use Rattle.history.specs.Entries.{Entry, windowNumbers, windowRefusal, taken}
 use Rattle.history.specs.Window.{Shows}
 use Rattle.history.specs.Calls.{Put, Counted}
 use Rattle.demands.specs.First.{Numbered}

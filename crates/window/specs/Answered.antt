@@ -3,7 +3,6 @@ use Prim.Native.Nat.{ℕ, _≤_, _<_}
 use native.Mathlib.Omega.{arith}
 use mathlib.Core.Path.{_≡_, refl, sym, _∙_, ap, subst}
 use mathlib.Core.Logic.{⊎-elim}
-use mathlib.Core.Bool.{true, false}
 use mathlib.Core.List.{List, [], _∷_, _++_}
 use lib.Dec.{ltb}
 use lib.ListN.{length}
@@ -11,7 +10,7 @@ use borrow.Author.Tests.{ltb-true, lt-ltb, le-ltb}
 use Rattle.matrix.specs.Bytes.{numberAt}
 use Rattle.matrix.specs.Numbers.{numbers}
 use Rattle.laws.specs.Tests.{way}
-use Rattle.history.specs.Entries.{Entry, windowNumbers, windowRefusal}
+use Rattle.history.specs.Entries.{windowNumbers, windowRefusal}
 use Rattle.history.specs.Window.{countPlace, windowBytes, Shows}
 use Rattle.history.specs.Calls.{entry, Put, Counted}
 use Rattle.window.specs.Changed.{refusedOne, entered}

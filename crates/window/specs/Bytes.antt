@@ -1,10 +1,10 @@
 -- Laws of the changes to a window's bytes: the counts after an entry has left, the bytes of the entries and their next place.
-use Prim.Native.Nat.{ℕ, _+_, _-_, _*_, _%_, _≤_, _<_}
+use Prim.Native.Nat.{ℕ, _+_, _-_, _*_, _/_, _%_, _≤_, _<_}
 use native.Mathlib.Nat.{mul-le-mul-right}
 use native.Mathlib.Omega.{arith}
 use mathlib.Core.Path.{_≡_, refl, sym, _∙_, ap, subst}
 use mathlib.Core.Logic.{⊎-elim}
-use mathlib.Core.Bool.{Bool, true, false, cond, _&&_}
+use mathlib.Core.Bool.{true, false, cond}
 use mathlib.Core.List.{List}
 use lib.Dec.{eqb, ltb}
 use lib.ListN.{length, getD, set, length-set}
@@ -15,7 +15,7 @@ use Rattle.laws.specs.Tests.{way}
 use Rattle.codec.specs.Numbers.{numberAt-agree, length-setNumber, getD-setNumber-other, numberAt-set-other, numberAt-set-same}
 use Rattle.history.specs.Entries.{Entry, refused, windowNumbers, windowEntries}
 use Rattle.history.specs.Window.{countPlace, nextPlace, windowBytes, entryByte}
-use Rattle.window.specs.Changed.{lowered, placed, raised, entered}
+use Rattle.window.specs.Changed.{initiatorOf, refusedBit, lowered, placed, raised, entered}
 use Rattle.window.specs.Late.{hits}
 
 -- a byte that is no count's
@@ -35,91 +35,90 @@ module _ (w : List ℕ) (size : length w ≡ windowBytes) (number v : ℕ) (name
 
 -- ---- an entry leaves
 
-module _ (w : List ℕ) where
-  -- what the tests of its byte lead to
-  pub lowered-none : (b : ℕ) → b ≡ 0 → lowered w b ≡ w
+module _ (w : List ℕ) (b : ℕ) where
+  -- the count that is stored
+  abbrev lower : ℕ
+  lower = (numberAt w (countPlace (initiatorOf b)) 2 + 65536 - refusedBit b) % 65536
+
+  pub lowered-beyond : windowNumbers < b → lowered w b ≡ w
   unfolding lowered
-  lowered-none b h = rw (eq-eqb b 0 h) refl
+  lowered-beyond l = rw (lt-ltb windowNumbers b l) refl
 
-  pub lowered-beyond : (b : ℕ) → (b ≡ 0 → ⊥) → windowNumbers < b → lowered w b ≡ w
+  pub lowered-within : b ≤ windowNumbers → lowered w b ≡ setNumber w (countPlace (initiatorOf b)) 2 lower
   unfolding lowered
-  lowered-beyond b h l = rw (ne-eqb b 0 h, lt-ltb windowNumbers b l) refl
+  lowered-within l = rw (le-ltb windowNumbers b l) refl
 
-  module _ (b : ℕ) (some : b ≡ 0 → ⊥) (named : b ≤ windowNumbers) where
-    pub lowered-zero : numberAt w (countPlace (b - 1)) 2 ≡ 0 → lowered w b ≡ w
-    unfolding lowered
-    lowered-zero h = rw (ne-eqb b 0 some, le-ltb windowNumbers b named, eq-eqb (numberAt w (countPlace (b - 1)) 2) 0 h) refl
+  -- what holds of the bytes, and of those with that count stored, holds of them once the entry has left
+  lowered-by : (P : List ℕ → Type 0) → P w → (b ≤ windowNumbers → P (setNumber w (countPlace (initiatorOf b)) 2 lower)) → P (lowered w b)
+  lowered-by P same stored =
+      ⊎-elim (λ u. subst P (sym (lowered-beyond (ltb-true windowNumbers b u))) same)
+      (λ u. let l : b ≤ windowNumbers = ltb-false windowNumbers b u in subst P (sym (lowered-within l)) (stored l)) (way (ltb windowNumbers b))
 
-    pub lowered-one : (numberAt w (countPlace (b - 1)) 2 ≡ 0 → ⊥)
-        → lowered w b ≡ setNumber w (countPlace (b - 1)) 2 (numberAt w (countPlace (b - 1)) 2 - 1)
-    unfolding lowered
-    lowered-one h = rw (ne-eqb b 0 some, le-ltb windowNumbers b named, ne-eqb (numberAt w (countPlace (b - 1)) 2) 0 h) refl
+  pub length-lowered : length (lowered w b) ≡ length w
+  length-lowered = lowered-by (λ v. length v ≡ length w) refl (λ l. length-setNumber w (countPlace (initiatorOf b)) 2 _)
 
-  -- what holds of the bytes, and of those with one count stored, holds of them once an entry has left
-  lowered-by : (P : List ℕ → Type 0) (b : ℕ) → P w
-      → ((b ≡ 0 → ⊥) → b ≤ windowNumbers → P (setNumber w (countPlace (b - 1)) 2 (numberAt w (countPlace (b - 1)) 2 - 1))) → P (lowered w b)
-  lowered-by P b same stored = ⊎-elim none some (way (eqb b 0))
-    where
-      none : eqb b 0 ≡ true → P (lowered w b)
-      none t = subst P (sym (lowered-none b (eqb-true b 0 t))) same
+  module _ (size : length w ≡ windowBytes) where
+    pub lowered-byte : (j : ℕ) → OtherByte j → getD (lowered w b) j 0 ≡ getD w j 0
+    lowered-byte j h = lowered-by (λ v. getD v j 0 ≡ getD w j 0) refl (λ l. set-byte w size (initiatorOf b) _ (omega arith) j h)
 
-      within : (b ≡ 0 → ⊥) → b ≤ windowNumbers → P (lowered w b)
-      within n l =
-          ⊎-elim (λ t. subst P (sym (lowered-zero b n l (eqb-true _ 0 t))) same)
-          (λ t. subst P (sym (lowered-one b n l (eqb-false _ 0 t))) (stored n l)) (way (eqb (numberAt w (countPlace (b - 1)) 2) 0))
+    lowered-same : b ≤ windowNumbers → numberAt (lowered w b) (countPlace (initiatorOf b)) 2 ≡ lower
+    lowered-same l =
+        ap (λ (v : List ℕ). numberAt v (countPlace (initiatorOf b)) 2) (lowered-within l) ∙ set-same w size (initiatorOf b) _ (omega arith) (omega arith)
 
-      some : eqb b 0 ≡ false → P (lowered w b)
-      some t =
-          let n : b ≡ 0 → ⊥ = eqb-false b 0 t in
-          ⊎-elim (λ u. subst P (sym (lowered-beyond b n (ltb-true windowNumbers b u))) same)
-          (λ u. within n (ltb-false windowNumbers b u)) (way (ltb windowNumbers b))
+    lowered-other : (number : ℕ) → (number ≡ initiatorOf b → ⊥) → numberAt (lowered w b) (countPlace number) 2 ≡ numberAt w (countPlace number) 2
+    lowered-other number h =
+        lowered-by (λ v. numberAt v (countPlace number) 2 ≡ numberAt w (countPlace number) 2) refl
+        (λ l. set-other w size (initiatorOf b) _ (omega arith) number h)
 
-  pub length-lowered : (b : ℕ) → length (lowered w b) ≡ length w
-  length-lowered b = lowered-by (λ v. length v ≡ length w) b refl (λ n l. length-setNumber w (countPlace (b - 1)) 2 _)
+    -- a count from which r is taken, where r is what the entry gave to it
+    lowered-number : (number r : ℕ) → b ≤ windowNumbers → (number ≡ initiatorOf b → r ≡ refusedBit b) → ((number ≡ initiatorOf b → ⊥) → r ≡ 0)
+        → r ≤ numberAt w (countPlace number) 2 → numberAt w (countPlace number) 2 ≤ windowEntries
+        → numberAt (lowered w b) (countPlace number) 2 ≡ numberAt w (countPlace number) 2 - r
+    lowered-number number r l one none some few = ⊎-elim same other (way (eqb number (initiatorOf b)))
+      where
+        same : eqb number (initiatorOf b) ≡ true → numberAt (lowered w b) (countPlace number) 2 ≡ numberAt w (countPlace number) 2 - r
+        same t =
+            let e : number ≡ initiatorOf b = eqb-true number (initiatorOf b) t in
+            let o : r ≡ refusedBit b = one e in
+            let v : numberAt w (countPlace (initiatorOf b)) 2 ≡ numberAt w (countPlace number) 2 = ap (λ (m : ℕ). numberAt w (countPlace m) 2) (sym e) in
+            ap (λ (m : ℕ). numberAt (lowered w b) (countPlace m) 2) e ∙ lowered-same l ∙ (omega arith)
 
-  pub lowered-byte : length w ≡ windowBytes → (b j : ℕ) → OtherByte j → getD (lowered w b) j 0 ≡ getD w j 0
-  lowered-byte size b j h =
-      lowered-by (λ v. getD v j 0 ≡ getD w j 0) b refl (λ n l. set-byte w size (b - 1) _ (omega arith) j h)
+        other : eqb number (initiatorOf b) ≡ false → numberAt (lowered w b) (countPlace number) 2 ≡ numberAt w (countPlace number) 2 - r
+        other t =
+            let n : number ≡ initiatorOf b → ⊥ = eqb-false number (initiatorOf b) t in
+            let z : r ≡ 0 = none n in
+            lowered-other number n ∙ (omega arith)
 
-module _ (w : List ℕ) (size : length w ≡ windowBytes) (few : (number : ℕ) → number < windowNumbers → numberAt w (countPlace number) 2 ≤ windowEntries) where
-  lowered-same : (b : ℕ) → (b ≡ 0 → ⊥) → b ≤ windowNumbers → numberAt (lowered w b) (countPlace (b - 1)) 2 ≡ numberAt w (countPlace (b - 1)) 2 - 1
-  lowered-same b n l = ⊎-elim zero some (way (eqb (numberAt w (countPlace (b - 1)) 2) 0))
-    where
-      zero : eqb (numberAt w (countPlace (b - 1)) 2) 0 ≡ true → numberAt (lowered w b) (countPlace (b - 1)) 2 ≡ numberAt w (countPlace (b - 1)) 2 - 1
-      zero t =
-          let z : numberAt w (countPlace (b - 1)) 2 ≡ 0 = eqb-true _ 0 t in
-          ap (λ (v : List ℕ). numberAt v (countPlace (b - 1)) 2) (lowered-zero w b n l z) ∙ (omega arith)
-
-      some : eqb (numberAt w (countPlace (b - 1)) 2) 0 ≡ false → numberAt (lowered w b) (countPlace (b - 1)) 2 ≡ numberAt w (countPlace (b - 1)) 2 - 1
-      some t =
-          ap (λ (v : List ℕ). numberAt v (countPlace (b - 1)) 2) (lowered-one w b n l (eqb-false _ 0 t))
-          ∙ set-same w size (b - 1) _ (omega arith) (omega (arith, few (b - 1) (omega arith)))
-
-  lowered-other : (b number : ℕ) → (number + 1 ≡ b → ⊥) → numberAt (lowered w b) (countPlace number) 2 ≡ numberAt w (countPlace number) 2
-  lowered-other b number h =
-      lowered-by w (λ v. numberAt v (countPlace number) 2 ≡ numberAt w (countPlace number) 2) b refl
-      (λ n l. set-other w size (b - 1) _ (omega arith) number (λ e. h (omega arith)))
-
+module _ (w : List ℕ) (size : length w ≡ windowBytes) (x : Entry) (number : ℕ) (named : number < windowNumbers)
+    (some : hits number x ≤ numberAt w (countPlace number) 2) (few : numberAt w (countPlace number) 2 ≤ windowEntries) where
   -- an entry's byte takes from each count what the entry gave to it
-  pub lowered-count : (x : Entry) (number : ℕ) → number < windowNumbers
-      → numberAt (lowered w (entryByte x)) (countPlace number) 2 ≡ numberAt w (countPlace number) 2 - hits number x
-  lowered-count x number named = ⊎-elim yes-refused not-refused (way (refused x))
+  pub lowered-count : numberAt (lowered w (entryByte x)) (countPlace number) 2 ≡ numberAt w (countPlace number) 2 - hits number x
+  lowered-count = ⊎-elim of-refused of-accepted (way (refused x))
     where
-      same : x .initiator ≡ number → numberAt (lowered w (x .initiator + 1)) (countPlace number) 2 ≡ numberAt w (countPlace number) 2 - 1
-      same e =
-          let q : x .initiator + 1 - 1 ≡ number = omega arith in
-          subst (λ (m : ℕ). numberAt (lowered w (x .initiator + 1)) (countPlace m) 2 ≡ numberAt w (countPlace m) 2 - 1) q
-          (lowered-same (x .initiator + 1) (omega arith) (omega arith))
+      of-refused : refused x ≡ true → numberAt (lowered w (entryByte x)) (countPlace number) 2 ≡ numberAt w (countPlace number) 2 - hits number x
+      of-refused t = rw t (⊎-elim within beyond (way (ltb (x .initiator) windowNumbers)))
+        where
+          given : cond (eqb (x .initiator) number) 1 0 ≤ numberAt w (countPlace number) 2
+          given = rw t at some
 
-      yes-refused : refused x ≡ true → numberAt (lowered w (entryByte x)) (countPlace number) 2 ≡ numberAt w (countPlace number) 2 - hits number x
-      yes-refused t =
-          rw t
-          (⊎-elim (λ u. rw u (same (eqb-true (x .initiator) number u)))
-          (λ u. rw u (lowered-other (x .initiator + 1) number (λ e. eqb-false (x .initiator) number u (omega arith)) ∙ (omega arith)))
-          (way (eqb (x .initiator) number)))
+          within : ltb (x .initiator) windowNumbers ≡ true
+              → numberAt (lowered w (x .initiator + 1)) (countPlace number) 2 ≡ numberAt w (countPlace number) 2 - cond (eqb (x .initiator) number) 1 0
+          within u =
+              let l : x .initiator < windowNumbers = ltb-true (x .initiator) windowNumbers u in
+              lowered-number w (x .initiator + 1) size number (cond (eqb (x .initiator) number) 1 0) (omega arith)
+              (λ e. rw (eq-eqb (x .initiator) number (omega arith)) (omega arith)) (λ n. rw (ne-eqb (x .initiator) number (λ e. n (omega arith))) refl) given few
 
-      not-refused : refused x ≡ false → numberAt (lowered w (entryByte x)) (countPlace number) 2 ≡ numberAt w (countPlace number) 2 - hits number x
-      not-refused t = rw t (lowered-other 0 number (λ e. omega arith) ∙ (omega arith))
+          beyond : ltb (x .initiator) windowNumbers ≡ false
+              → numberAt (lowered w (x .initiator + 1)) (countPlace number) 2 ≡ numberAt w (countPlace number) 2 - cond (eqb (x .initiator) number) 1 0
+          beyond u =
+              let l : windowNumbers ≤ x .initiator = ltb-false (x .initiator) windowNumbers u in
+              rw (ne-eqb (x .initiator) number (λ e. omega arith))
+              (ap (λ (v : List ℕ). numberAt v (countPlace number) 2) (lowered-beyond w (x .initiator + 1) (omega arith)) ∙ (omega arith))
+
+      of-accepted : refused x ≡ false → numberAt (lowered w (entryByte x)) (countPlace number) 2 ≡ numberAt w (countPlace number) 2 - hits number x
+      of-accepted t =
+          let s : 0 ≤ numberAt w (countPlace number) 2 = omega arith in
+          rw t (lowered-number w 0 size number 0 (omega arith) (λ e. refl) (λ n. refl) s few)
 
 -- ---- a count is higher
 

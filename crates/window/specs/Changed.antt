@@ -1,5 +1,5 @@
 -- What the code makes of a window's bytes, one change after another.
-use Prim.Native.Nat.{ℕ, _+_, _-_, _*_, _%_}
+use Prim.Native.Nat.{ℕ, _+_, _-_, _*_, _/_, _%_}
 use mathlib.Core.Bool.{cond}
 use mathlib.Core.List.{List}
 use lib.Dec.{eqb, ltb}
@@ -12,13 +12,18 @@ use Rattle.history.specs.Window.{countPlace, nextPlace}
 abbrev pub refusedOne : ℕ → ℕ
 refusedOne outcome = cond (eqb outcome 0) 0 1
 
--- an entry with this byte has left: the count of its initiator is one lower
+-- the initiator of the entry with this byte, any number where it was accepted; 1 where it was refused
+abbrev pub initiatorOf : ℕ → ℕ
+initiatorOf b = (b + 63) % windowNumbers
+
+abbrev pub refusedBit : ℕ → ℕ
+refusedBit b = (b + 255) / 256
+
+-- the entry with this byte has left: the count of its initiator is one lower if it was refused
 unfoldable pub lowered : List ℕ → ℕ → List ℕ
-lowered w leaving =
-    cond (eqb leaving 0) w
-    (cond (ltb windowNumbers leaving) w
-    (cond (eqb (numberAt w (countPlace (leaving - 1)) 2) 0) w
-    (setNumber w (countPlace (leaving - 1)) 2 (numberAt w (countPlace (leaving - 1)) 2 - 1))))
+lowered w b =
+    cond (ltb windowNumbers b) w
+    (setNumber w (countPlace (initiatorOf b)) 2 ((numberAt w (countPlace (initiatorOf b)) 2 + 65536 - refusedBit b) % 65536))
 
 -- the byte at the place of the next entry is written, and that place moves on
 unfoldable pub placed : List ℕ → ℕ → ℕ → List ℕ

@@ -4,7 +4,7 @@ use native.Mathlib.Omega.{arith}
 use native.Mathlib.Nat.{not-suc-le-zero}
 use mathlib.Core.Path.{_≡_, refl, sym, _∙_, ap, subst}
 use mathlib.Core.Logic.{⊎-elim}
-use mathlib.Core.Bool.{true, false, cond, not, _&&_}
+use mathlib.Core.Bool.{true, false}
 use mathlib.Core.List.{List, [], _∷_, _++_}
 use lib.Dec.{eqb, leb}
 use lib.ListN.{length, getD, set, length-append, List·getD-append}
@@ -12,7 +12,7 @@ use lib.Seq.{getD-at, getD-set-same, getD-set-other}
 use borrow.Author.Tests.{eqb-true, eqb-false, eq-eqb, ne-eqb, leb-true, leb-false}
 use Rattle.matrix.specs.Bytes.{numberAt}
 use Rattle.laws.specs.Tests.{way}
-use Rattle.history.specs.Entries.{Entry, refused, windowNumbers, windowEntries, refusedBy, refusedOfLate}
+use Rattle.history.specs.Entries.{Entry, windowNumbers, windowEntries, refusedBy, refusedOfLate}
 use Rattle.history.specs.Window.{countPlace, nextPlace, windowBytes, entryByte, noEntry, Shows}
 use Rattle.history.specs.Calls.{entry}
 use Rattle.window.specs.Changed.{refusedOne, lowered, placed, raised, entered}
@@ -107,7 +107,7 @@ module _ (h : List Entry) (w : List ℕ) (s : Shows h w) (number outcome : ℕ) 
   kept-byte : (j : ℕ) → j < windowEntries → (j ≡ place → ⊥) → getD three j 0 ≡ getD w j 0
   kept-byte j l n =
       raised-byte two size-two number _ named j (λ a b. omega arith) ∙ placed-other one size-one place _ within j n (λ q. omega arith)
-      ∙ lowered-byte w (s .size) (getD w place 0) j (λ a b. omega arith)
+      ∙ lowered-byte w (getD w place 0) (s .size) j (λ a b. omega arith)
 
   new-byte : getD three place 0 ≡ entryByte e
   new-byte =
@@ -140,21 +140,24 @@ module _ (h : List Entry) (w : List ℕ) (s : Shows h w) (number outcome : ℕ) 
 
   -- ---- the counts
 
-  few : (other : ℕ) → other < windowNumbers → numberAt w (countPlace other) 2 ≤ windowEntries
-  few other l = subst (λ (x : ℕ). x ≤ windowEntries) (sym (s .counts other l)) (late-few other h)
+  -- the entry that leaves was counted, as one more accepted entry would show
+  counted : (other : ℕ) → hits other (leaving h) ≤ refusedOfLate other h
+  counted other = omega (arith, late-more other h noEntry)
 
   -- before the new entry is counted
   count-two : (other : ℕ) → other < windowNumbers → numberAt two (countPlace other) 2 ≡ refusedOfLate other h - hits other (leaving h)
   count-two other l =
+      let c : numberAt w (countPlace other) 2 ≡ refusedOfLate other h = s .counts other l in
       placed-count one size-one place _ within other l ∙ ap (λ (b : ℕ). numberAt (lowered w b) (countPlace other) 2) leaves
-      ∙ lowered-count w (s .size) few (leaving h) other l ∙ ap (λ (x : ℕ). x - hits other (leaving h)) (s .counts other l)
+      ∙ lowered-count w (s .size) (leaving h) other l (omega (arith, counted other)) (omega (arith, late-few other h))
+      ∙ ap (λ (x : ℕ). x - hits other (leaving h)) c
 
-  -- the new entry's own count; the entry that leaves was counted, as one more accepted entry would show
+  -- the new entry's own count
   count-new : numberAt three (countPlace number) 2 ≡ refusedOfLate number (h ++ (e ∷ []))
   count-new =
       let two-count : numberAt two (countPlace number) 2 ≡ refusedOfLate number h - hits number (leaving h) = count-two number named in
       raised-same two size-two number _ named (omega (arith, late-few number h, one-few outcome))
-      ∙ omega (arith, late-more number h e, late-more number h noEntry, entry-hits number outcome)
+      ∙ omega (arith, late-more number h e, counted number, entry-hits number outcome)
 
   counts : (other : ℕ) → other < windowNumbers → numberAt three (countPlace other) 2 ≡ refusedOfLate other (h ++ (e ∷ []))
   counts other l = ⊎-elim same different (way (eqb number other))

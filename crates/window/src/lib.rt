@@ -10,9 +10,9 @@ use lists::wide;
 use matrix::Numbers;
 ghost use mathlib.Core.Path.{_≡_};
 ghost use Prim.Native.Nat.{_≤_, _<_};
-ghost use lib.ListN.{length, set};
+ghost use lib.ListN.{length};
 ghost use Rattle.matrix.specs.Bytes.{numberAt, setNumber};
-ghost use Rattle.history.specs.Entries.{windowNumbers, windowEntries, windowRefusal};
+ghost use Rattle.history.specs.Entries.{windowNumbers, windowRefusal};
 ghost use Rattle.history.specs.Window.{countPlace, windowBytes};
 ghost use Rattle.history.specs.Calls.{Emptied, Put, Counted};
 ghost use Rattle.window.specs.Changed.{refusedOne, lowered, entered};
@@ -56,22 +56,20 @@ fn set_count(w: &mut [u8], number: usize, v: usize)
     w[at + 1] = (v % 256) as u8;
 }
 
-// An entry leaves the window, given by its byte: if it was refused, its initiator's count is one lower.
+// An entry leaves the window, given by its byte: if it was refused, the count of its initiator, whose number is one less than the byte, is
+// one lower. Where it was accepted, so that the byte is 0, the count of 63 is stored as it was: the way through the code does not depend on
+// outcomes. A byte above 64 is no entry's.
 fn lower(w: &mut [u8], leaving: usize)
-    requires { ⌜ length (now w) ≡ windowBytes ⌝ }
+    requires { ⌜ (length (now w) ≡ windowBytes) × (leaving < 256) ⌝ }
     ensures { λ _. ⌜ now (w .exit) ≡ lowered (now (w .entry)) leaving ⌝ }
 {
-    if leaving == 0 {
-        return;
-    }
     if WINDOW_NUMBERS < leaving {
         return;
     }
-    let v = count_at(w, leaving - 1);
-    if v == 0 {
-        return;
-    }
-    set_count(w, leaving - 1, v - 1);
+    let number = (leaving + 63) % WINDOW_NUMBERS;
+    let refused = (leaving + 255) / 256;
+    let v = count_at(w, number);
+    set_count(w, number, (v + 65536 - refused) % 65536);
 }
 
 // An entry takes the place of the one that has to leave, and its initiator's count is higher by one where it was refused.

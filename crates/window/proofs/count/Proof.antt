@@ -1,5 +1,4 @@
 -- `window::count` meets its contract.
-use native.Mathlib.Omega.{arith}
 use mathlib.Core.Path.{sym, _∙_}
 use Rattle.window.specs.Answered.{named-of, count-refused, count-other, count-shown}
 use borrow.Author.Needs.{needs}
