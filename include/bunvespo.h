@@ -1,8 +1,8 @@
 /*
  * Bunvespo: the rights record of a log station (Graham-Denning), its thirteen commands and its safety question, and a window of the
- * commands that were refused of late. The eight calls of the proved library, for C99 and C++11. `./install PREFIX` puts this header, the archive and a file for pkg-config
- * below a prefix; without it, link with target/staticlib/libbunvespo.a, which `rt staticlib bunvespo` proves and writes. The archive
- * is built for x86-64 and needs nothing but memset of the C library.
+ * commands that were refused of late. The eight calls of the proved library, for C99 and C++11. `./install PREFIX` puts this header,
+ * the archive and a file for pkg-config below a prefix; without it, link with target/staticlib/libbunvespo.a, which
+ * `rt staticlib bunvespo` proves and writes. The archive is built for x86-64 and needs nothing but memset of the C library.
  *
  * THE RECORD. A matrix of cells, 16 bits each, high byte first like every number in a record.
  *   byte 0        version: 1
@@ -24,24 +24,25 @@
  *   bytes 1 to 4  L: how many bytes come after these four, six for each command, 60,000 at most
  *   from byte 5   for each command 05, code, i, s, o, k
  *
- * A WINDOW OF LATE REFUSALS. It shows, for each subject number below 64, how many of the last 256 commands were refused. Entries are put
- * into it one by one, each the initiator of a command and its outcome. It has BUNVESPO_WINDOW_SIZE bytes, which may be kept in a file. A
- * window that was emptied by bunvespo_window_empty, and then changed by bunvespo_window_put alone, shows the history of the entries
- * that were put and not refused:
+ * A WINDOW OF LATE REFUSALS. It shows, for each subject number below 64, how many of the last 256 commands were begun by it and
+ * refused. Entries are put into it one by one, each the initiator of a command and its outcome. It has BUNVESPO_WINDOW_SIZE bytes,
+ * which may be kept in a file. A window that was emptied by bunvespo_window_empty, and then changed by bunvespo_window_put alone,
+ * shows the history of the entries that were put and not refused:
  *   bytes 0 to 255    the entries, the oldest being entry 0: entry m stands in byte m mod 256 while it is one of the last 256. It is 0
  *                     if the command was accepted, else one more than the initiator's number. 0 where no entry has stood yet
  *   bytes 256 to 383  the counts of the numbers 0 to 63, two bytes each, high byte first: 0 to 256
  *   byte 384          how many entries the history has, mod 256
- * So BUNVESPO_WINDOW_SIZE zero bytes are an empty window. Bytes of any other content and any length are answered too: then nothing is
- * promised of the counts, and bytes of another length are never written.
+ * So BUNVESPO_WINDOW_SIZE zero bytes are an empty window. Bytes of any other content and any length are answered too: as many bytes
+ * made in another way show any counts, and bytes of another length are never written and have counts of 0.
  *
  * SLICES. Each pointer is followed by its length in bytes. A call reads, and where the pointer isn't const may write, these
  * bytes and no others, and keeps no pointer after it returns. A record or a buffer that a call may write must not overlap its
  * other slice.
  * NULL with length 0 is an empty slice, for each of them: the compiled code looks at a slice's length before it reads or
  * writes a byte, and never at the pointer itself. So an empty record, NULL or not, gives 0 for validity and else refusal 1;
- * an empty list on a valid record refusal 16; an empty buffer on a valid record refusal 15 (7 stands before it); an empty window,
- * which is of another length than a window's, stays empty and has counts of 0. NULL with another length is not allowed. tests/c_interface/null_and_empty.c tests this.
+ * an empty list on a valid record refusal 16; an empty buffer on a valid record refusal 15 (7 stands before it); and an empty
+ * slice for a window is one of another length than a window's. NULL with another length is not allowed.
+ * tests/c_interface/null_and_empty.c tests this.
  *
  * THREADS. The library has no variables and takes no locks: all that a call touches is the bytes lent to it. So threads may call
  * it at the same time, under the rule that C has for all bytes: none may be written by one thread while another reads or writes it.
@@ -215,7 +216,8 @@ void bunvespo_window_empty(uint8_t *window, size_t window_len);
 /*
  * Puts one more entry into a window: the initiator of a command, and its outcome, which is the refusal that the command was answered
  * with: 0 where it was accepted, and any other number, 17 too, where it was refused. Refusal: 17 for an initiator of 64 or more, with
- * every byte as it was and the entry not in the history. value: 0.
+ * every byte as it was and the entry not in the history. value: 0. An entry for bytes of another length than BUNVESPO_WINDOW_SIZE is
+ * answered by 0 as well, and lost.
  */
 bunvespo_answer bunvespo_window_put(uint8_t *window, size_t window_len, uint64_t initiator, uint64_t outcome);
 

@@ -8,6 +8,7 @@ use crate::measure::Case;
 use crate::numbers::Numbers;
 use crate::sides::Calls;
 use crate::stations::Shape;
+use crate::windows::{mixed_entries, window_of};
 
 /// The size of a record.
 #[derive(Clone, Copy)]
@@ -163,4 +164,40 @@ pub fn all_trusted(shape: Shape, size: Size) -> Case {
 /// Everybody but U is trusted, so that the list destroys every owner between U and the log.
 pub fn root_untrusted(shape: Shape, size: Size) -> Case {
     question(shape, size, size.all() & !1, true)
+}
+
+/// Makes a window empty again.
+pub fn window_empty() -> Case {
+    let window = window_of(&mixed_entries(&mut Numbers(1), LONG));
+    Case::new(|calls| {
+        let mut window = window.clone();
+        move || (calls.window_empty)(black_box(&mut window))
+    })
+}
+
+/// Many entries put into a full window one by one.
+pub fn window_put() -> Case {
+    let entries = Rc::new(mixed_entries(&mut Numbers(1), LONG));
+    Case::new(|calls| {
+        let (entries, mut window) = (entries.clone(), window_of(&entries));
+        move || {
+            for &[initiator, outcome] in entries.iter() {
+                let window = black_box(&mut window[..]);
+                assert!((calls.window_put)(window, initiator, outcome) == (0, 0));
+            }
+        }
+    })
+}
+
+/// Many counts of a full window, those of all numbers in turn.
+pub fn window_count() -> Case {
+    let window = Rc::new(window_of(&mixed_entries(&mut Numbers(1), LONG)));
+    let refused = window[..256].iter().filter(|&&byte| byte != 0).count();
+    Case::new(|calls| {
+        let window = window.clone();
+        move || {
+            let count = |number| (calls.window_count)(black_box(&window), number).1;
+            assert!((0..64).map(count).sum::<u64>() == refused as u64);
+        }
+    })
 }

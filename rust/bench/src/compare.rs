@@ -6,6 +6,7 @@ use crate::lists::{accepted_commands, encode, likely_command};
 use crate::numbers::Numbers;
 use crate::sides::{Calls, LIBRARY, PLAIN, SSE2};
 use crate::stations::{any_record, damage};
+use crate::windows::{WINDOW_SIZE, compared_entry};
 
 /// The number of seeded records.
 pub const RECORDS: u64 = 4000;
@@ -13,8 +14,17 @@ pub const RECORDS: u64 = 4000;
 /// The sizes that are measured, which are compared more often than others.
 const SIZES: [(usize, usize); 4] = [(4, 4), (16, 48), (40, 120), (64, 192)];
 
-/// Compares all five calls on every record.
+/// The entries that are put into the seeded window.
+pub const ENTRIES: usize = 50_000;
+
+/// Compares all calls: the five on every record, and those of the window after each entry.
 pub fn compare_all() {
+    compare_records();
+    compare_window();
+}
+
+/// Compares the five calls on every record.
+fn compare_records() {
     for seed in 0..RECORDS {
         let mut numbers = Numbers(seed);
         let (n, p) = match numbers.below(8) {
@@ -72,6 +82,35 @@ fn compare_record(numbers: &mut Numbers, seed: u64, record: &[u8], n: usize, p: 
     same(seed, "run", |calls| {
         changed(record, |copy| (calls.run)(copy, &list))
     });
+}
+
+/// The calls on one window, which is emptied first. After each entry all sides have the same bytes, and the next one is put
+/// into these.
+fn compare_window() {
+    let seed = RECORDS;
+    let mut numbers = Numbers(seed);
+    let mut window: Vec<u8> = (0..WINDOW_SIZE).map(|_| numbers.bits() as u8).collect();
+    same(seed, "window_empty", |calls| emptied(calls, &window));
+    window = emptied(LIBRARY, &window);
+    for place in 0..ENTRIES {
+        let [i, outcome] = compared_entry(&mut numbers, place);
+        same(seed, "window_put", |calls| {
+            changed(&window, |copy| (calls.window_put)(copy, i, outcome))
+        });
+        (LIBRARY.window_put)(&mut window, i, outcome);
+        for number in [i, numbers.below(66) as u64] {
+            same(seed, "window_count", |calls| {
+                (calls.window_count)(&window, number)
+            });
+        }
+    }
+}
+
+/// The window after it was emptied.
+fn emptied(calls: Calls, window: &[u8]) -> Vec<u8> {
+    let mut copy = window.to_vec();
+    (calls.window_empty)(&mut copy);
+    copy
 }
 
 /// Five fields, near the bounds of small records as often as anywhere.

@@ -1,4 +1,4 @@
-//! The five exports of the archive on slices. Each answer is the refusal and the value, as the Rust side gives them.
+//! The eight exports of the archive on slices. Each answer is the refusal and the value, as the Rust side gives them.
 
 use bunvespo::raw;
 
@@ -34,4 +34,20 @@ pub fn safety(record: &[u8], trust: u64, s: u64, o: u64, right: u64, out: &mut [
     let (to, room) = (out.as_mut_ptr(), out.len());
     // SAFETY: as in `run`.
     pair(unsafe { raw::bunvespo_safety(at, length, trust, s, o, right, to, room) })
+}
+
+pub fn window_empty(window: &mut [u8]) {
+    // SAFETY: as in `command`.
+    unsafe { raw::bunvespo_window_empty(window.as_mut_ptr(), window.len()) }
+}
+
+pub fn window_put(window: &mut [u8], initiator: u64, outcome: u64) -> (u64, u64) {
+    let (at, length) = (window.as_mut_ptr(), window.len());
+    // SAFETY: as in `command`.
+    pair(unsafe { raw::bunvespo_window_put(at, length, initiator, outcome) })
+}
+
+pub fn window_count(window: &[u8], number: u64) -> (u64, u64) {
+    // SAFETY: as in `valid`.
+    pair(unsafe { raw::bunvespo_window_count(window.as_ptr(), window.len(), number) })
 }

@@ -23,12 +23,13 @@ mod report;
 mod sides;
 mod sse2;
 mod stations;
+mod windows;
 
 use cases::{LONG, SIZES};
-use report::{by_shape, by_size, heading};
+use report::{by_shape, by_size, heading, on_window, window_heading};
 use stations::Shape;
 
-/// The five calls at each size, on flat records.
+/// The five calls on flat records at each size.
 fn calls() {
     let flat = Shape::Flat;
     heading("Calls by size (flat records; code 3 over a subject on a chain), nanoseconds a call");
@@ -54,13 +55,24 @@ fn lists() {
     by_size("13 codes", LONG, |size| cases::run_of_all_codes(size, LONG));
 }
 
+/// The three calls on a window.
+fn window() {
+    window_heading();
+    on_window("window empty", 1, cases::window_empty());
+    on_window("window put", LONG, cases::window_put());
+    on_window("window count", 64, cases::window_count());
+}
+
 fn main() {
     compare::compare_all();
     println!(
-        "The library and both Rust sides answer alike on {} seeded records, five calls each.",
-        compare::RECORDS
+        "The library and both Rust sides answer alike on {} seeded records, five calls each, and on a window with {} \
+         seeded entries.",
+        compare::RECORDS,
+        compare::ENTRIES
     );
     calls();
     lists();
     by_shape(SIZES[3]);
+    window();
 }

@@ -82,3 +82,22 @@ pub fn by_shape(size: Size) {
         }
     }
 }
+
+/// The heading of the calls on a window. They use no lanes, so that SSE2 by hand is the same as plain Rust.
+pub fn window_heading() {
+    println!(
+        "\nCalls on a window of late refusals that is full, nanoseconds a call (entries of random numbers, half of them refused)"
+    );
+    println!("{:<16}   library  plain Rust  ratio", "call");
+}
+
+/// One line for a call on a window, where each case does so many.
+pub fn on_window(call: &str, parts: usize, case: Case) {
+    for now in in_turn(vec![case], parts) {
+        let ratio = now.library / now.plain;
+        println!(
+            "{call:<16}{:>10.1}{:>12.1}{ratio:>7.2}",
+            now.library, now.plain
+        );
+    }
+}

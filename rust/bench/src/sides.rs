@@ -8,7 +8,7 @@ type Answer = (u64, u64);
 /// The safety question: record, trust mask, subject, object, right and buffer.
 type Safety = fn(&[u8], u64, u64, u64, u64, &mut [u8]) -> Answer;
 
-/// The five calls of a side. They are pointers on every side, so that a call costs
+/// The eight calls of a side. They are pointers on every side, so that a call costs
 /// the same on the way.
 #[derive(Clone, Copy)]
 pub struct Calls {
@@ -17,6 +17,9 @@ pub struct Calls {
     pub command: fn(&mut [u8], [u64; 5]) -> Answer,
     pub run: fn(&mut [u8], &[u8]) -> Answer,
     pub safety: Safety,
+    pub window_empty: fn(&mut [u8]),
+    pub window_put: fn(&mut [u8], u64, u64) -> Answer,
+    pub window_count: fn(&[u8], u64) -> Answer,
 }
 
 pub const LIBRARY: Calls = Calls {
@@ -25,6 +28,9 @@ pub const LIBRARY: Calls = Calls {
     command: library::command,
     run: library::run,
     safety: library::safety,
+    window_empty: library::window_empty,
+    window_put: library::window_put,
+    window_count: library::window_count,
 };
 
 pub const PLAIN: Calls = Calls {
@@ -33,6 +39,9 @@ pub const PLAIN: Calls = Calls {
     command: plain::command,
     run: plain::run,
     safety: plain::safety,
+    window_empty: plain::window_empty,
+    window_put: plain::window_put,
+    window_count: plain::window_count,
 };
 
 pub const SSE2: Calls = Calls {
@@ -41,4 +50,7 @@ pub const SSE2: Calls = Calls {
     command: sse2::command,
     run: sse2::run,
     safety: sse2::safety,
+    window_empty: sse2::window_empty,
+    window_put: sse2::window_put,
+    window_count: sse2::window_count,
 };

@@ -27,7 +27,8 @@ pub fn hex(bytes: &[u8]) -> String {
     text
 }
 
-fn outcome_text(outcome: &Outcome) -> String {
+/// An answer and the bytes after it in words.
+pub fn outcome_text(outcome: &Outcome) -> String {
     let Answer { refusal, value } = outcome.answer;
     format!(
         "refusal {refusal}, value {value}, bytes after {}",
@@ -36,7 +37,7 @@ fn outcome_text(outcome: &Outcome) -> String {
 }
 
 /// Compares an expected answer with the one given; texts are made only where they differ.
-fn compare<T: PartialEq>(
+pub fn compare<T: PartialEq>(
     expected: &T,
     got: Result<T, String>,
     text: impl Fn(&T) -> String,

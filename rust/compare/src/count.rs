@@ -2,7 +2,11 @@
 
 use std::fmt;
 
-/// The five calls.
+use reference::WINDOW_SIZE;
+
+use crate::forged;
+
+/// The calls that give an answer: all but window_empty.
 #[derive(Clone, Copy, Debug, PartialEq, Eq)]
 pub enum Call {
     Valid,
@@ -10,14 +14,18 @@ pub enum Call {
     Command,
     Run,
     Safety,
+    WindowPut,
+    WindowCount,
 }
 
-const CALLS: [Call; 5] = [
+const CALLS: [Call; 7] = [
     Call::Valid,
     Call::Held,
     Call::Command,
     Call::Run,
     Call::Safety,
+    Call::WindowPut,
+    Call::WindowCount,
 ];
 
 impl Call {
@@ -28,6 +36,8 @@ impl Call {
             Call::Command => "command",
             Call::Run => "run",
             Call::Safety => "safety",
+            Call::WindowPut => "window_put",
+            Call::WindowCount => "window_count",
         }
     }
 
@@ -41,14 +51,77 @@ impl Call {
             Call::Command => record.chain(6..=14).collect(),
             Call::Run => record.chain(6..=14).chain([16]).collect(),
             Call::Safety => record.chain([7, 15]).collect(),
+            Call::WindowPut | Call::WindowCount => vec![17],
         }
+    }
+}
+
+/// What the windows gave.
+pub struct Windows {
+    pub emptied: u64,
+    /// Entries taken into histories, and how many the longest history has.
+    pub taken: u64,
+    pub longest: usize,
+    /// Counts read of windows that show a history, and those of them that were 256.
+    pub read: u64,
+    pub full: u64,
+    /// Forged windows by their length.
+    pub forged: Vec<u64>,
+}
+
+impl Windows {
+    fn new() -> Windows {
+        Windows {
+            emptied: 0,
+            taken: 0,
+            longest: 0,
+            read: 0,
+            full: 0,
+            forged: vec![0; forged::LONGEST + 1],
+        }
+    }
+
+    /// So many entries were not refused, those of forged windows among them.
+    fn put(&self, answered: u64) -> String {
+        format!(
+            "taken into histories {}, the longest of {} entries; answered on forged windows {}",
+            self.taken,
+            self.longest,
+            answered - self.taken
+        )
+    }
+
+    /// So many counts were read, those of forged windows among them.
+    fn counted(&self, answered: u64) -> String {
+        format!(
+            "read of histories {}, of these 256: {}; read of forged windows {}",
+            self.read,
+            self.full,
+            answered - self.read
+        )
+    }
+}
+
+impl fmt::Display for Windows {
+    fn fmt(&self, f: &mut fmt::Formatter<'_>) -> fmt::Result {
+        let of_lengths = |from: usize, to: usize| self.forged[from..to].iter().sum::<u64>();
+        let lengths = self.forged.iter().filter(|count| **count > 0).count();
+        writeln!(f, "window_empty: {} inputs", self.emptied)?;
+        writeln!(
+            f,
+            "forged windows: {} shorter than a window, {} of its length, {} longer; lengths: {lengths} of {}",
+            of_lengths(0, WINDOW_SIZE),
+            self.forged[WINDOW_SIZE],
+            of_lengths(WINDOW_SIZE + 1, self.forged.len()),
+            self.forged.len()
+        )
     }
 }
 
 /// The counts of a whole run. They take the same room however long the run.
 pub struct Counts {
     /// By call and refusal; place 0 counts the inputs that were answered.
-    by_refusal: [[u64; 17]; 5],
+    by_refusal: [[u64; 18]; 7],
     /// Valid: no, yes. Held: no, yes.
     pub held: [u64; 2],
     /// Accepted commands by code, of the command call.
@@ -65,12 +138,13 @@ pub struct Counts {
     pub searched: u64,
     /// The sizes of the valid records met, by n - 1 and p.
     pub sizes: Vec<bool>,
+    pub windows: Windows,
 }
 
 impl Counts {
     pub fn new() -> Counts {
         Counts {
-            by_refusal: [[0; 17]; 5],
+            by_refusal: [[0; 18]; 7],
             held: [0; 2],
             accepted: [0; 14],
             handed_logs: 0,
@@ -80,6 +154,7 @@ impl Counts {
             leaks: [0; 67],
             searched: 0,
             sizes: vec![false; 64 * 193],
+            windows: Windows::new(),
         }
     }
 
@@ -123,6 +198,7 @@ impl Counts {
             ("safety: safe", self.safe),
             ("safety: leaks", self.leaks.iter().sum()),
             ("safety: a question answered by the search", self.searched),
+            ("window_count: 256", self.windows.full),
         ];
         let never = answers.iter().filter(|(_, count)| *count == 0);
         missing.extend(never.map(|(answer, _)| String::from(*answer)));
@@ -159,6 +235,8 @@ impl Counts {
                 self.safe,
                 listed(&self.leaks, 0)
             ),
+            Call::WindowPut => self.windows.put(self.of(call, 0)),
+            Call::WindowCount => self.windows.counted(self.of(call, 0)),
         }
     }
 }
@@ -196,6 +274,7 @@ impl fmt::Display for Counts {
             f,
             "safety questions also answered by the search: {}",
             self.searched
-        )
+        )?;
+        write!(f, "{}", self.windows)
     }
 }

@@ -17,9 +17,11 @@ fn guard_byte(place: usize) -> u8 {
 }
 
 impl Guarded {
-    /// A buffer with this content. Its start is moved by up to six bytes, so that all alignments occur.
+    /// A buffer with this content. Its start is moved by up to six bytes, as its length and last byte say, so that
+    /// all alignments occur, also for contents of one length.
     pub fn holding(content: &[u8]) -> Guarded {
-        let (start, length) = (GUARD + content.len() % 7, content.len());
+        let last = content.last().map_or(0, |byte| usize::from(*byte));
+        let (start, length) = (GUARD + (content.len() + last) % 7, content.len());
         let mut bytes: Vec<u8> = (0..start + length + GUARD).map(guard_byte).collect();
         bytes[start..start + length].copy_from_slice(content);
         Guarded {

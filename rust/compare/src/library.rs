@@ -1,4 +1,4 @@
-//! The five calls of the library through its C interface. Each buffer lent is guarded; what a call must not change
+//! The calls of the library through its C interface. Each buffer lent is guarded; what a call must not change
 //! is compared here, and an error in words says what was changed.
 
 use bunvespo::raw;
@@ -101,4 +101,37 @@ pub fn safety(
         answer: answer(got),
         written: lent_buffer.content()?.to_vec(),
     })
+}
+
+/// Makes bytes an empty window; its bytes after that.
+pub fn window_empty(window: &[u8], null: bool) -> Result<Vec<u8>, String> {
+    let mut lent = Guarded::holding(window);
+    // SAFETY: as in `command`.
+    unsafe { raw::bunvespo_window_empty(lent.pointer(null), window.len()) };
+    Ok(lent.content()?.to_vec())
+}
+
+/// One more entry; the window after it is what was written.
+pub fn window_put(
+    window: &[u8],
+    [initiator, outcome]: [u64; 2],
+    null: bool,
+) -> Result<Outcome, String> {
+    let mut lent = Guarded::holding(window);
+    let length = window.len();
+    // SAFETY: as in `command`.
+    let got = unsafe { raw::bunvespo_window_put(lent.pointer(null), length, initiator, outcome) };
+    Ok(Outcome {
+        answer: answer(got),
+        written: lent.content()?.to_vec(),
+    })
+}
+
+/// The count of a number.
+pub fn window_count(window: &[u8], number: u64, null: bool) -> Result<Answer, String> {
+    let mut lent = Guarded::holding(window);
+    // SAFETY: as in `valid`.
+    let got = unsafe { raw::bunvespo_window_count(lent.pointer(null), window.len(), number) };
+    lent.unchanged(window, "window")?;
+    Ok(answer(got))
 }

@@ -3,11 +3,14 @@
 //! answer that the manual gives occurred.
 //!
 //!     compare [--inputs N] [--seed S] [--program PATH]
+//!
+//! N is the number of inputs on records. The inputs of windows come after them and are not among the N.
 
 mod check;
 mod count;
 mod damage;
 mod facts;
+mod forged;
 mod generate;
 mod guarded;
 mod inputs;
@@ -17,6 +20,7 @@ mod program;
 mod random;
 mod rounds;
 mod small;
+mod window;
 
 use std::process::ExitCode;
 use std::time::Instant;
@@ -38,6 +42,12 @@ const PROGRAM: &str = concat!(
     env!("CARGO_MANIFEST_DIR"),
     "/../../target/bin/safety_question"
 );
+
+/// How many inputs on records there are to one time with windows.
+const INPUTS_TO_WINDOWS: u64 = 100_000;
+
+/// The stream of random numbers of the first time with windows, beyond those of all rounds.
+const FIRST_OF_WINDOWS: u64 = 1 << 48;
 
 fn options() -> Result<Options, String> {
     let mut options = Options {
@@ -64,33 +74,59 @@ fn options() -> Result<Options, String> {
     Ok(options)
 }
 
-/// Rounds until there were as many inputs as asked for. A difference comes with its round.
-fn run_rounds(options: &Options, counts: &mut Counts) -> Result<(), (u64, Difference)> {
+/// A difference in words, with where in a run it was met.
+fn told(options: &Options, place: &str, number: u64, d: Difference) -> String {
+    format!(
+        "DIFFERENCE, seed {}, {place} {number}\ncall: {}\ninputs: {}\nsecond implementation: {}\nlibrary: {}",
+        options.seed, d.call, d.inputs, d.reference, d.library
+    )
+}
+
+/// Rounds until there were as many inputs on records as asked for. No window was asked before them.
+fn run_rounds(options: &Options, counts: &mut Counts) -> Result<(), String> {
     let mut searches = Searches::default();
     let mut number = 0;
     while counts.inputs() < options.inputs {
         let mut random = Random::new(options.seed, number);
         rounds::round(number, &mut random, &mut searches, counts)
-            .map_err(|difference| (number, difference))?;
+            .map_err(|difference| told(options, "round", number, difference))?;
         number += 1;
     }
     Ok(())
 }
 
-/// Both parts: the five calls, and the program.
+/// Windows: once, and once more for each further 100,000 inputs on records that are asked for.
+fn run_windows(options: &Options, counts: &mut Counts) -> Result<(), String> {
+    for number in 0..options.inputs.div_ceil(INPUTS_TO_WINDOWS).max(1) {
+        let mut random = Random::new(options.seed, FIRST_OF_WINDOWS + number);
+        window::all(&mut random, counts)
+            .map_err(|difference| told(options, "windows", number, difference))?;
+    }
+    Ok(())
+}
+
+/// The calls on records and those on windows, with the inputs and the seconds of each.
+fn run_calls(options: &Options) -> Result<Counts, String> {
+    let mut counts = Counts::new();
+    let started = Instant::now();
+    run_rounds(options, &mut counts)?;
+    let (inputs, seconds) = (counts.inputs(), started.elapsed().as_secs_f64());
+    let started = Instant::now();
+    run_windows(options, &mut counts)?;
+    let of_windows = counts.inputs() - inputs;
+    print!("{counts}");
+    println!("{inputs} inputs in {seconds:.1} s");
+    println!(
+        "{of_windows} inputs of windows in {:.1} s",
+        started.elapsed().as_secs_f64()
+    );
+    Ok(counts)
+}
+
+/// All three parts: the calls on records, those on windows, and the program.
 fn compare(options: &Options) -> Result<(), String> {
     println!("seed {}", options.seed);
-    let started = Instant::now();
-    let mut counts = Counts::new();
-    run_rounds(options, &mut counts).map_err(|(round, d)| {
-        format!(
-            "DIFFERENCE, seed {}, round {round}\ncall: {}\ninputs: {}\nsecond implementation: {}\nlibrary: {}",
-            options.seed, d.call, d.inputs, d.reference, d.library
-        )
-    })?;
-    print!("{counts}");
-    let seconds = started.elapsed().as_secs_f64();
-    println!("{} inputs in {seconds:.1} s", counts.inputs());
+    let counts = run_calls(options)?;
     let missing = counts.missing();
     if !missing.is_empty() {
         return Err(format!("never occurred: {}", missing.join("; ")));

@@ -1,4 +1,4 @@
-//! The program safety_question: what it prints, compared with what Manual 9.3 says it prints.
+//! The program safety_question: what it prints, compared with what Manual 10.3 says it prints.
 
 use std::fmt;
 use std::io::Write;
@@ -12,7 +12,7 @@ use crate::generate::valid_record;
 use crate::inputs;
 use crate::random::Random;
 
-/// The most bytes of an input that is asked (Manual 9.2).
+/// The most bytes of an input that is asked (Manual 10.2).
 const INPUT_MAXIMUM: usize = 65_536;
 
 /// The bytes of a question after the record: the trust mask in eight, and s, o and the right.

@@ -1,5 +1,5 @@
-//! One round: a valid record of the next size, a small valid record and a damaged one, with inputs of all five calls;
-//! in some rounds also the longest lists and all questions of a small station.
+//! One round: a valid record of the next size, a small valid record and a damaged one, with inputs of all five calls
+//! on records; in some rounds also the longest lists and all questions of a small station.
 
 use reference::{Station, read};
 
@@ -55,7 +55,7 @@ fn station_of(record: &[u8]) -> Result<Station, Difference> {
     read(record).map_err(|refusal| not_valid(record, refusal))
 }
 
-/// One input of each call on a valid record.
+/// One input of each of the five calls on a valid record.
 fn ask_of_valid(record: &[u8], random: &mut Random, counts: &mut Counts) -> Result<(), Difference> {
     let station = station_of(record)?;
     counts.add_size(station.n, station.p);

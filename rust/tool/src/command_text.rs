@@ -1,5 +1,7 @@
 //! The commands that `run` is given: text of one command a line, or the bytes of a list.
 
+use std::iter::repeat_n;
+
 use crate::library::{
     Command, CommandRefused, EncodeError, MOST_COMMANDS, Refusal, command, commands, encode, run,
 };
@@ -84,6 +86,19 @@ impl Commands {
             }
         }
         Ran::Whole
+    }
+
+    /// The commands that a run tried, in order: the initiator of each and its outcome, which is 0 where it was accepted and else the
+    /// number of the refusal.
+    pub fn tried(&self, ran: &Ran) -> Vec<(u64, u64)> {
+        let (accepted, refused) = match ran {
+            Ran::Whole => (self.numbered.len(), None),
+            Ran::Refused(accepted, refused) => (*accepted, Some(u64::from(refused.number()))),
+            Ran::NoList => (0, None),
+        };
+        let outcomes = repeat_n(0, accepted).chain(refused);
+        let initiators = self.numbered.iter().map(|(_, c)| c.i);
+        initiators.zip(outcomes).collect()
     }
 
     /// Asks for the command that ended a run once more by itself, which tells the links of its owner walk and changes nothing.

@@ -69,7 +69,7 @@ pub fn record_bytes(path: &OsStr) -> Answered<Vec<u8>> {
 pub fn station(path: &OsStr, names: Option<&OsString>) -> Answered<Station> {
     let bytes = record_bytes(path)?;
     let record = opened(path, bytes)?;
-    let names = names_of(path, names, &record)?;
+    let names = names_of(path, names, Some(&record))?;
     Ok(Station {
         file: called(path),
         record,
@@ -91,15 +91,20 @@ pub fn opened(path: &OsStr, bytes: Vec<u8>) -> Answered<Record> {
     ))
 }
 
-/// The names of a record: those of the file given, or of the file beside it, or none.
-pub fn names_of(path: &OsStr, given: Option<&OsString>, record: &Record) -> Answered<Names> {
+/// The names of a record or a window: those of the file given, or of the file beside it, or none. A window has no record to say which
+/// logins and logs there are.
+pub fn names_of(
+    path: &OsStr,
+    given: Option<&OsString>,
+    record: Option<&Record>,
+) -> Answered<Names> {
     match given.cloned().or_else(|| beside(path)) {
         None => Ok(Names::default()),
         Some(file) => read_names(&file, record),
     }
 }
 
-/// The file of names beside a record, or beside the file that a link leads to.
+/// The file of names beside a record or a window, or beside the file that a link leads to.
 pub fn beside(path: &OsStr) -> Option<OsString> {
     if path == "-" {
         return None;
@@ -108,14 +113,14 @@ pub fn beside(path: &OsStr) -> Option<OsString> {
     if !target.is_file() {
         return None;
     }
-    [path, target.as_os_str()].into_iter().find_map(|record| {
-        let mut file = record.to_os_string();
+    [path, target.as_os_str()].into_iter().find_map(|named| {
+        let mut file = named.to_os_string();
         file.push(".names");
         fs::symlink_metadata(&file).is_ok().then_some(file)
     })
 }
 
-fn read_names(file: &OsStr, record: &Record) -> Answered<Names> {
+fn read_names(file: &OsStr, record: Option<&Record>) -> Answered<Names> {
     let bytes = read(file, MOST_NAMES)?;
     if bytes.len() > MOST_NAMES {
         return no_answer(format!("{} has more than {MOST_NAMES} bytes", called(file)));

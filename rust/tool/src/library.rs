@@ -3,6 +3,6 @@
 
 pub use bunvespo::{
     Basic, Command, CommandRefused, EncodeError, Header, MOST_COMMANDS, MOST_PLAIN, MOST_RECORD,
-    MOST_SUBJECTS, Refusal, Right, check, code, command, commands, encode, held, new_record, run,
-    trust_mask, valid, witness,
+    MOST_SUBJECTS, Refusal, Right, WINDOW_ENTRIES, WINDOW_NUMBERS, WINDOW_SIZE, Window, check,
+    code, command, commands, encode, held, new_record, run, trust_mask, valid, witness,
 };

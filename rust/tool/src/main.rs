@@ -22,6 +22,7 @@ mod table;
 mod tests;
 mod tree;
 mod why;
+mod window_file;
 mod words;
 
 use std::env;
@@ -77,6 +78,7 @@ fn run(given: &Given) -> Answered<Answer> {
         "who" => commands::held::who(given),
         "ask" => commands::ask::ask(given),
         "run" => commands::run::run(given),
+        "refused" => commands::refused::refused(given),
         _ => commands::diff::diff(given),
     }
 }

@@ -1,14 +1,15 @@
-//! The file of names beside a record: lines such as `login 1 = night-nurse`, `log 3 = bed-3` and `right 0 = read`. Empty lines and
-//! lines that begin with `#` say nothing.
+//! The file of names beside a record or a window: lines such as `login 1 = night-nurse`, `log 3 = bed-3` and `right 0 = read`. Empty
+//! lines and lines that begin with `#` say nothing.
 
 use std::collections::BTreeMap;
 
-use crate::library::Basic;
+use crate::library::{Basic, MOST_PLAIN, MOST_SUBJECTS};
 use crate::names::Names;
-use crate::record::Record;
+use crate::record::{Name, Record};
 
-/// The names of a file's text, or the number of a line and what is wrong with it.
-pub fn parse(text: &str, record: &Record) -> Result<Names, String> {
+/// The names of a file's text, or the number of a line and what is wrong with it. Without a record each login and log that some record
+/// has may be named.
+pub fn parse(text: &str, record: Option<&Record>) -> Result<Names, String> {
     let mut names = Names::default();
     for (at, line) in text.lines().enumerate() {
         let line = line.trim();
@@ -21,7 +22,7 @@ pub fn parse(text: &str, record: &Record) -> Result<Names, String> {
 }
 
 /// Adds the name that a line gives.
-fn add(names: &mut Names, line: &str, record: &Record) -> Result<(), String> {
+fn add(names: &mut Names, line: &str, record: Option<&Record>) -> Result<(), String> {
     let form = "a line is 'login N = NAME', 'log N = NAME' or 'right N = NAME'";
     let (what, name) = line.split_once('=').ok_or(form)?;
     let (kind, number) = what.trim().split_once(' ').ok_or(form)?;
@@ -31,7 +32,7 @@ fn add(names: &mut Names, line: &str, record: &Record) -> Result<(), String> {
         .map_err(|_| format!("'{number}' is no number"))?;
     let name = name.trim();
     tidy(name)?;
-    match kind {
+    let key = match kind {
         "login" => login_fits(number, record)?,
         "log" => log_fits(number, record)?,
         "right" => {
@@ -41,9 +42,9 @@ fn add(names: &mut Names, line: &str, record: &Record) -> Result<(), String> {
             return insert(&mut names.of_rights, k, name);
         }
         _ => return Err(String::from(form)),
-    }
+    };
     column_name_fits(name)?;
-    insert(&mut names.of_names, record.name(number), name)
+    insert(&mut names.of_names, key, name)
 }
 
 /// What every name has to be, so that it is printed and read again as itself.
@@ -65,29 +66,36 @@ fn tidy(name: &str) -> Result<(), String> {
     Ok(())
 }
 
-fn login_fits(number: u64, record: &Record) -> Result<(), String> {
-    let logins = record.logins();
+/// The login of a number, if the record has it, or without a record if some record has.
+fn login_fits(number: u64, record: Option<&Record>) -> Result<Name, String> {
+    let logins = record.map_or(u64::from(MOST_SUBJECTS), Record::logins);
     if number < logins {
-        return Ok(());
+        return Ok(Name::Login(number));
     }
-    Err(format!(
-        "login {number} is beyond the record, which has logins 0 to {}",
-        logins - 1
-    ))
+    let last = logins - 1;
+    Err(match record {
+        Some(_) => {
+            format!("login {number} is beyond the record, which has logins 0 to {last}")
+        }
+        None => format!("login {number} is in no record, and logins are 0 to {last}"),
+    })
 }
 
-fn log_fits(number: u64, record: &Record) -> Result<(), String> {
-    let (first, end) = (record.logins(), record.columns());
+/// The log of a number, if the record has it, or without a record if some record has.
+fn log_fits(number: u64, record: Option<&Record>) -> Result<Name, String> {
+    let most = u64::from(MOST_SUBJECTS) + u64::from(MOST_PLAIN);
+    let (first, end) = record.map_or((1, most), |record| (record.logins(), record.columns()));
     if first == end {
         return Err(format!("log {number}: the record has no logs"));
     }
     if (first..end).contains(&number) {
-        return Ok(());
+        return Ok(Name::Log(number));
     }
-    Err(format!(
-        "log {number}: the record has logs {first} to {}",
-        end - 1
-    ))
+    let last = end - 1;
+    Err(match record {
+        Some(_) => format!("log {number}: the record has logs {first} to {last}"),
+        None => format!("log {number} is in no record, and logs are {first} to {last}"),
+    })
 }
 
 /// A right's name is none of the words for a right.

@@ -1,5 +1,6 @@
 //! A file is replaced whole or not at all: a new file is written beside it and synced, takes the old one's name, and the folder is
-//! synced. A record that is to be replaced is locked, so that of two runs at once each sees what the other left.
+//! synced. A record or a window that is to be replaced is locked, so that of two runs at once each sees what the other left. Where a
+//! window is to be made its folder is locked, so that no other run makes it meanwhile.
 
 use std::ffi::{OsStr, OsString};
 use std::fs::{self, File, Metadata, OpenOptions, TryLockError};
@@ -11,71 +12,143 @@ use std::time::Duration;
 
 use crate::html::START;
 use crate::input::{called, read_from, trouble};
-use crate::library::MOST_RECORD;
 use crate::no_answer::{Answered, NoAnswer, no_answer};
 
 /// How often another run's lock is tried, and the pause between.
 const TRIES: u32 = 200;
 const PAUSE: Duration = Duration::from_millis(50);
 
-/// A record's file, locked until this value goes.
+/// A file that is to be replaced or made, locked until this value goes.
 pub struct Locked {
     given: OsString,
     target: PathBuf,
-    file: File,
+    /// The file; where it is to be made, its folder.
+    open: File,
+    is_new: bool,
 }
 
 impl Locked {
     /// Opens and locks the file that a path, or the link that it is, leads to.
     pub fn open(path: &OsStr) -> Answered<Locked> {
-        let what = called(path);
-        let pipe = format!("{what} is no file that can be replaced; with --dry it can be read");
+        until_locked(path, || Locked::try_file(path))
+    }
+
+    /// The same, or where there is no such file locks the folder that it is to be made in.
+    pub fn open_or_new(path: &OsStr) -> Answered<Locked> {
+        until_locked(path, || {
+            if is_missing(path)? {
+                Locked::try_new(path)
+            } else {
+                Locked::try_file(path)
+            }
+        })
+    }
+
+    /// Opens a file and tries its lock once; none where another run has it, or put another file in its place.
+    fn try_file(path: &OsStr) -> Answered<Option<Locked>> {
+        let pipe = || {
+            let what = called(path);
+            NoAnswer(format!(
+                "{what} is no file that can be replaced; with --dry it can be read"
+            ))
+        };
         if path == "-" {
-            return no_answer(pipe);
+            return Err(pipe());
         }
         let failed = |error: io::Error| trouble(path, "opened to be replaced", &error);
-        for _ in 0..TRIES {
-            let target = fs::canonicalize(path).map_err(failed)?;
-            let before = fs::metadata(&target).map_err(failed)?;
-            if !before.is_file() && !before.is_dir() {
-                return no_answer(pipe);
-            }
-            let file = OpenOptions::new()
-                .read(true)
-                .write(true)
-                .open(&target)
-                .map_err(failed)?;
-            match file.try_lock() {
-                Ok(()) if same_file(&file, &target).map_err(failed)? => {
-                    return Ok(Locked {
-                        given: path.to_os_string(),
-                        target,
-                        file,
-                    });
-                }
-                Ok(()) => {}
-                Err(TryLockError::WouldBlock) => sleep(PAUSE),
-                Err(TryLockError::Error(error)) => return Err(failed(error)),
-            }
+        let target = fs::canonicalize(path).map_err(failed)?;
+        let before = fs::metadata(&target).map_err(failed)?;
+        if !before.is_file() && !before.is_dir() {
+            return Err(pipe());
         }
-        no_answer(format!("another run is at work on {what} and does not end"))
+        let open = OpenOptions::new().read(true).write(true).open(&target);
+        let open = open.map_err(failed)?;
+        let free = try_lock(&open).map_err(failed)?;
+        let locked = free && same_file(&open, &target).map_err(failed)?;
+        Ok(locked.then(|| Locked {
+            given: path.to_os_string(),
+            target,
+            open,
+            is_new: false,
+        }))
     }
 
-    /// The record's bytes, and one more than the longest has at most.
-    pub fn read(&self) -> Answered<Vec<u8>> {
-        read_from(&self.file, MOST_RECORD).map_err(|error| trouble(&self.given, "read", &error))
+    /// Opens the folder of a file that is to be made and tries its lock once; none where another run has it, or made the file.
+    fn try_new(path: &OsStr) -> Answered<Option<Locked>> {
+        let failed = |error: io::Error| not_made(path, &error);
+        let (folder, name) = folder_of(path)?;
+        let open = File::open(&folder).map_err(failed)?;
+        let locked = try_lock(&open).map_err(failed)? && is_missing(path)?;
+        Ok(locked.then(|| Locked {
+            given: path.to_os_string(),
+            target: folder.join(name),
+            open,
+            is_new: true,
+        }))
     }
 
-    /// Replaces the file. Its permissions and its owner stay.
+    /// Whether the file is to be made.
+    pub fn is_new(&self) -> bool {
+        self.is_new
+    }
+
+    /// The file's bytes, `most` and one more at most.
+    pub fn read(&self, most: usize) -> Answered<Vec<u8>> {
+        read_from(&self.open, most).map_err(|error| trouble(&self.given, "read", &error))
+    }
+
+    /// Writes the new file, which is not in its place yet. The permissions and the owner of the old one stay.
+    pub fn prepare(&self, bytes: &[u8]) -> Answered<Fresh> {
+        let old = if self.is_new {
+            Ok(None)
+        } else {
+            self.open.metadata().map(Some)
+        };
+        let fresh = old.and_then(|old| Fresh::write(&self.target, bytes, old.as_ref()));
+        fresh.map_err(|error| self.failed(&error))
+    }
+
+    /// Puts the new file in its place.
+    pub fn put(&self, fresh: Fresh) -> Answered<()> {
+        fresh.put().map_err(|error| self.failed(&error))
+    }
+
+    /// Replaces the file.
     pub fn replace(&self, bytes: &[u8]) -> Answered<()> {
-        let old = self.file.metadata();
-        let replaced = old.and_then(|old| replace(&self.target, bytes, Some(&old)));
-        replaced.map_err(|error| {
-            let file = called(&self.given);
-            NoAnswer(format!(
-                "{file} can't be replaced and is left as it is: {error}"
-            ))
-        })
+        self.put(self.prepare(bytes)?)
+    }
+
+    fn failed(&self, error: &io::Error) -> NoAnswer {
+        if self.is_new {
+            return not_made(&self.given, error);
+        }
+        let file = called(&self.given);
+        NoAnswer(format!(
+            "{file} can't be replaced and is left as it is: {error}"
+        ))
+    }
+}
+
+/// Tries a lock until it is there.
+fn until_locked(path: &OsStr, attempt: impl Fn() -> Answered<Option<Locked>>) -> Answered<Locked> {
+    for _ in 0..TRIES {
+        if let Some(locked) = attempt()? {
+            return Ok(locked);
+        }
+    }
+    let what = called(path);
+    no_answer(format!("another run is at work on {what} and does not end"))
+}
+
+/// Whether a file or folder is locked now. Where another run has the lock, there is a pause.
+fn try_lock(file: &File) -> io::Result<bool> {
+    match file.try_lock() {
+        Ok(()) => Ok(true),
+        Err(TryLockError::WouldBlock) => {
+            sleep(PAUSE);
+            Ok(false)
+        }
+        Err(TryLockError::Error(error)) => Err(error),
     }
 }
 
@@ -85,28 +158,90 @@ fn same_file(file: &File, path: &Path) -> io::Result<bool> {
     Ok((held.dev(), held.ino()) == (there.dev(), there.ino()))
 }
 
-/// Writes a new file beside the target and gives it the target's name. Until that the target is as it was.
-fn replace(target: &Path, bytes: &[u8], old: Option<&Metadata>) -> io::Result<()> {
-    let (Some(folder), Some(name)) = (target.parent(), target.file_name()) else {
-        return Err(io::Error::from(ErrorKind::InvalidInput));
+/// Whether there is nothing at a path. A link to nothing is turned down, since a file in its place would end the link.
+pub fn is_missing(path: &OsStr) -> Answered<bool> {
+    let not_found =
+        |found: io::Result<Metadata>| found.is_err_and(|error| error.kind() == ErrorKind::NotFound);
+    let missing = not_found(fs::symlink_metadata(path));
+    if !missing && not_found(fs::metadata(path)) {
+        let file = called(path);
+        return no_answer(format!("{file} is a link to a file that is not there"));
+    }
+    Ok(missing)
+}
+
+/// The folder that a file is to be made in, and the file's name there.
+pub fn folder_of(path: &OsStr) -> Answered<(PathBuf, &OsStr)> {
+    let whole = Path::new(path);
+    // A path that ends with / or /. is a folder's, and its last name is that of no file.
+    let ends = |name: &&OsStr| path.as_encoded_bytes().ends_with(name.as_encoded_bytes());
+    let name = whole.file_name().filter(ends);
+    let (Some(folder), Some(name)) = (whole.parent(), name) else {
+        return no_answer(format!("{} is no name for a file", called(path)));
     };
-    let folder = if folder.as_os_str().is_empty() {
+    let folder = fs::canonicalize(or_here(folder));
+    Ok((folder.map_err(|error| not_made(path, &error))?, name))
+}
+
+/// A folder, which is the present one where a path has none.
+fn or_here(folder: &Path) -> &Path {
+    if folder.as_os_str().is_empty() {
         Path::new(".")
     } else {
         folder
-    };
-    let mut fresh_name = OsString::from(".");
-    fresh_name.push(name);
-    fresh_name.push(".new");
-    let fresh = folder.join(fresh_name);
-    if let Err(error) = write_fresh(&fresh, bytes, old).and_then(|()| fs::rename(&fresh, target)) {
-        let _ = fs::remove_file(&fresh);
-        return Err(error);
     }
-    stop_for_test("renamed");
-    // The name is changed; that the folder is not synced yet is no reason to say that it isn't.
-    let _ = File::open(folder).and_then(|folder| folder.sync_all());
-    Ok(())
+}
+
+/// Why a file can't be made.
+fn not_made(path: &OsStr, error: &io::Error) -> NoAnswer {
+    let file = called(path);
+    NoAnswer(match error.kind() {
+        ErrorKind::NotFound => format!("there is no folder for {file}"),
+        _ => format!("{file} can't be made: {error}"),
+    })
+}
+
+/// A new file beside its target. Until it is put in its place the target is as it was; where it never is, it goes with this value.
+pub struct Fresh {
+    fresh: PathBuf,
+    target: PathBuf,
+    is_put: bool,
+}
+
+impl Fresh {
+    /// Writes the new file.
+    fn write(target: &Path, bytes: &[u8], old: Option<&Metadata>) -> io::Result<Fresh> {
+        let name = target.file_name().ok_or(ErrorKind::InvalidInput)?;
+        let mut fresh_name = OsString::from(".");
+        fresh_name.push(name);
+        fresh_name.push(".new");
+        let fresh = Fresh {
+            fresh: target.with_file_name(fresh_name),
+            target: target.to_path_buf(),
+            is_put: false,
+        };
+        write_fresh(&fresh.fresh, bytes, old)?;
+        Ok(fresh)
+    }
+
+    /// Gives it the target's name.
+    fn put(mut self) -> io::Result<()> {
+        fs::rename(&self.fresh, &self.target)?;
+        self.is_put = true;
+        stop_for_test("renamed");
+        // The name is changed; that the folder is not synced yet is no reason to say that it isn't.
+        let folder = or_here(self.target.parent().unwrap_or(Path::new("")));
+        let _ = File::open(folder).and_then(|folder| folder.sync_all());
+        Ok(())
+    }
+}
+
+impl Drop for Fresh {
+    fn drop(&mut self) {
+        if !self.is_put {
+            let _ = fs::remove_file(&self.fresh);
+        }
+    }
 }
 
 /// A new file with the bytes, with the permissions and the owner of the old one, synced.
@@ -171,8 +306,11 @@ pub fn write_page(path: &OsStr, page: &str) -> Answered<()> {
             ));
         }
     }
-    replace(&target, page.as_bytes(), old.as_ref()).map_err(|error| match error.kind() {
-        ErrorKind::NotFound => NoAnswer(format!("there is no folder for {}", called(path))),
-        _ => failed(error),
-    })
+    let fresh = Fresh::write(&target, page.as_bytes(), old.as_ref());
+    fresh
+        .and_then(Fresh::put)
+        .map_err(|error| match error.kind() {
+            ErrorKind::NotFound => NoAnswer(format!("there is no folder for {}", called(path))),
+            _ => failed(error),
+        })
 }

@@ -12,7 +12,7 @@ pub struct Form {
 }
 
 /// The commands. `--names FILE` is taken by each but `new`.
-pub const FORMS: [Form; 8] = [
+pub const FORMS: [Form; 9] = [
     form("new", &["FILE", "LOGINS", "LOGS"], &[]),
     form("show", &["FILE"], &["--html", "--names"]),
     form("check", &["FILE"], &["--json", "--names"]),
@@ -27,7 +27,12 @@ pub const FORMS: [Form; 8] = [
         &["FILE", "TRUSTED", "LOGIN", "COLUMN", "RIGHT"],
         &["--html", "--json", "--names"],
     ),
-    form("run", &["FILE", "COMMANDS"], &["--dry", "--names"]),
+    form(
+        "run",
+        &["FILE", "COMMANDS"],
+        &["--dry", "--names", "--window"],
+    ),
+    form("refused", &["WINDOW"], &["--json", "--names"]),
     form("diff", &["OLD", "NEW"], &["--json", "--names"]),
 ];
 
@@ -44,11 +49,12 @@ const fn form(
 }
 
 /// The options, each with whether a file follows it.
-const OPTIONS: [(&str, bool); 4] = [
+const OPTIONS: [(&str, bool); 5] = [
     ("--json", false),
     ("--dry", false),
     ("--html", true),
     ("--names", true),
+    ("--window", true),
 ];
 
 /// What was given: as many words as the command takes, and its options.
@@ -59,6 +65,7 @@ pub struct Given {
     pub dry: bool,
     pub html: Option<OsString>,
     pub names: Option<OsString>,
+    pub window: Option<OsString>,
 }
 
 impl Given {
@@ -177,6 +184,7 @@ impl Split {
             dry: set("--dry").is_some(),
             html: value("--html"),
             names: value("--names"),
+            window: value("--window"),
         })
     }
 }

@@ -1,4 +1,4 @@
-//! Runs the program on files: what `run` leaves and what `diff` tells are the library's bytes.
+//! Runs the program on files: what `run` leaves, also in a window, and what `diff` tells are the library's bytes.
 
 mod library {
     pub use bunvespo::{Command, command, new_record};
@@ -10,7 +10,7 @@ use std::fs;
 use std::path::{Path, PathBuf};
 use std::process::{Command as Process, Output};
 
-use bunvespo::{Command, encode, run};
+use bunvespo::{Command, WINDOW_ENTRIES, Window, encode, run};
 use random::{Numbers, any_command, station};
 
 /// A folder that goes with this value.
@@ -62,18 +62,24 @@ fn exits(output: &Output, yes: bool) {
     assert!(output.stderr.is_empty());
 }
 
+/// Commands as text or as a list.
+fn written(commands: &[Command], as_text: bool) -> Vec<u8> {
+    let line = |c: &Command| format!("{} {} {} {} {}\n", c.code, c.i, c.s, c.o, c.k);
+    if as_text {
+        commands.iter().map(line).collect::<String>().into_bytes()
+    } else {
+        encode(commands).unwrap()
+    }
+}
+
 /// Runs commands on a file, dry and then in earnest, and compares the file and the differences with the library's; whether it was refused.
 fn run_and_compare(folder: &Folder, old: &[u8], commands: &[Command], as_text: bool) -> bool {
-    let list = encode(commands).unwrap();
-    let line = |c: &Command| format!("{} {} {} {} {}\n", c.code, c.i, c.s, c.o, c.k);
-    let text: String = commands.iter().map(line).collect();
-    let given = if as_text { text.as_bytes() } else { &list };
     let mut new = old.to_vec();
-    let ran = run(&mut new, &list);
+    let ran = run(&mut new, &encode(commands).unwrap());
 
     let before = folder.file("old", old);
     let file = folder.file("record", old);
-    let commands = folder.file("commands", given);
+    let commands = folder.file("commands", &written(commands, as_text));
     exits(
         &bunvespo("run", &[Path::new("--dry"), &file, &commands]),
         ran.is_ok(),
@@ -101,4 +107,45 @@ fn run_and_diff_have_the_bytes_of_the_library() {
         refused += u64::from(run_and_compare(&folder, &old, &commands, round % 2 == 0));
     }
     assert!(refused > 20, "{refused}");
+}
+
+/// Puts the commands of a run into a window, one by one, up to the first that is refused; how many these are.
+fn put(window: &mut Window, record: &[u8], commands: &[Command]) -> u64 {
+    let mut copy = record.to_vec();
+    for (tried, c) in (1..).zip(commands) {
+        let answer = library::command(&mut copy, *c);
+        let outcome = answer.map_or_else(|refused| refused.number(), |_| 0);
+        window.put(c.i, outcome.into()).unwrap();
+        if outcome != 0 {
+            return tried;
+        }
+    }
+    commands.len() as u64
+}
+
+#[test]
+fn a_window_has_what_was_tried() {
+    let folder = Folder::new("bunvespo-window");
+    let file = folder.0.join("window");
+    let mut numbers = Numbers::new(9);
+    let (mut window, mut tried) = (Window::new(), 0);
+    for round in 0..400 {
+        let old = station(&mut numbers);
+        let commands = some_commands(&mut numbers, &old);
+        tried += put(&mut window, &old, &commands);
+        let record = folder.file("record", &old);
+        let commands = folder.file("commands", &written(&commands, round % 2 == 0));
+        let ran = bunvespo("run", &[Path::new("--window"), &file, &record, &commands]);
+        assert!(ran.stderr.is_empty() && matches!(ran.status.code(), Some(0 | 1)));
+        assert_eq!(file.exists(), tried > 0);
+        assert!(tried == 0 || fs::read(&file).unwrap() == window.as_bytes());
+    }
+    // So entries were pushed out, and the places written again.
+    assert!(tried > 2 * WINDOW_ENTRIES as u64, "{tried}");
+    let told = bunvespo("refused", &[Path::new("--json"), &file]);
+    exits(&told, true);
+    let counts: Vec<u64> = (0..64).map(|s| window.count(s).unwrap()).collect();
+    let wanted = format!("{{\"refused\":{counts:?}}}\n").replace(' ', "");
+    assert_eq!(String::from_utf8(told.stdout).unwrap(), wanted);
+    assert!(counts.iter().sum::<u64>() > 3, "{wanted}");
 }

@@ -18,7 +18,7 @@ count-at-requires : tie.Need-count-at-requires
 count-at-requires c κs = (c .if2 .left, named-of _ (sym (c .before .before .refusal-of .ensures) ∙ c .before .if1 .left))
 
 returns-3 : tie.Need-returns-3
-returns-3 c = count-shown (c .before .before .before .refusal-of .ensures) (c .before .before .if1 .left) (c .count-at .ensures .0)
+returns-3 c = count-shown (c .before .before .before .refusal-of .ensures) (c .before .before .if1 .left) (c .before .if2 .left) (c .count-at .ensures .0) (c .count-at .ensures .1)
 
 pub count-spec : {M : Type 1} → statement M
 count-spec = tie.close (tie.spec refusal-of-requires returns returns-2 count-at-requires returns-3)

@@ -1,4 +1,4 @@
-//! The five calls in Rust written for speed, with no proof: what the library is timed against. A refusal is its number, 0 where
+//! The eight calls in Rust written for speed, with no proof: what the library is timed against. A refusal is its number, 0 where
 //! the call is answered.
 //!
 //! This source is two modules, `plain::fast` and `sse2::fast`. Each takes its lanes, on which the scan works, from the module
@@ -13,9 +13,11 @@ mod scan;
 mod station;
 mod subjects;
 mod tables;
+mod window;
 mod witness;
 
 pub use safety::safety;
+pub use window::{window_count, window_empty, window_put};
 
 use super::lanes;
 use scan::scan;

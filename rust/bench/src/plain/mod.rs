@@ -1,4 +1,4 @@
-//! The five calls in plain Rust: safe, with no intrinsics, in loops that LLVM turns into vector instructions.
+//! The eight calls in plain Rust: safe, with no intrinsics, in loops that LLVM turns into vector instructions.
 
 #![forbid(unsafe_code)]
 
@@ -6,4 +6,4 @@
 mod fast;
 mod lanes;
 
-pub use fast::{command, held, run, safety, valid};
+pub use fast::{command, held, run, safety, valid, window_count, window_empty, window_put};

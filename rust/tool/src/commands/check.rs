@@ -20,7 +20,7 @@ pub fn check(given: &Given) -> Answered<Answer> {
     let record = Record::shaped(&bytes).ok();
     let record = record.filter(|_| matches!(refusal, None | Some(Refusal::NotValid)));
     let names = match &record {
-        Some(record) => names_of(path, given.names.as_ref(), record)?,
+        Some(record) => names_of(path, given.names.as_ref(), Some(record))?,
         None => Names::default(),
     };
     let faults = reasons(&bytes, refusal, &names);

@@ -38,9 +38,9 @@ fn named(given: &Given, old: &Record, new: Record) -> Answered<Station> {
     let (old_path, new_path) = (&given.words[0], &given.words[1]);
     let by_option: Option<&OsString> = given.names.as_ref();
     let names = if by_option.is_some() || beside(new_path).is_some() {
-        names_of(new_path, by_option, &new)?
+        names_of(new_path, by_option, Some(&new))?
     } else {
-        names_of(old_path, None, old)?
+        names_of(old_path, None, Some(old))?
     };
     Ok(Station {
         file: crate::input::called(new_path),

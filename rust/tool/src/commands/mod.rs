@@ -5,5 +5,6 @@ pub mod check;
 pub mod diff;
 pub mod held;
 pub mod new;
+pub mod refused;
 pub mod run;
 pub mod show;

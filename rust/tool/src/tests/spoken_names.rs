@@ -4,7 +4,7 @@ use crate::json;
 use crate::library::{Basic, Right, new_record};
 use crate::names::Names;
 use crate::names_file::parse;
-use crate::record::Record;
+use crate::record::{Name, Record};
 use crate::spoken::{column, login, right, trusted};
 
 fn record() -> Record {
@@ -12,7 +12,7 @@ fn record() -> Record {
 }
 
 fn names(text: &str) -> Names {
-    parse(text, &record()).unwrap_or_else(|why| panic!("{why}"))
+    parse(text, Some(&record())).unwrap_or_else(|why| panic!("{why}"))
 }
 
 #[test]
@@ -56,10 +56,31 @@ fn lines_that_are_refused() {
             "line 2: it has the name 'a' already",
         ),
     ] {
-        match parse(text, &record()) {
+        match parse(text, Some(&record())) {
             Ok(_) => panic!("{text:?} is taken"),
             Err(why) => assert!(why.contains(said), "{text:?}: {why}"),
         }
+    }
+}
+
+/// A window has no record: then a file may name what some record has.
+#[test]
+fn names_without_a_record() {
+    let text = "login 63 = ann\nlog 1 = bed 1\nlog 255 = bed 255\nright 0 = read";
+    let names = parse(text, None).unwrap_or_else(|why| panic!("{why}"));
+    assert_eq!(names.login(63), "ann");
+    assert_eq!(names.label(Name::Log(255)), "bed 255");
+    for (text, said) in [
+        (
+            "login 64 = a",
+            "login 64 is in no record, and logins are 0 to 63",
+        ),
+        ("log 0 = a", "log 0 is in no record, and logs are 1 to 255"),
+        ("log 256 = a", "log 256 is in no record"),
+        ("login 1 = a\nlog 3 = a", "line 2: 'a' is given twice"),
+    ] {
+        let why = parse(text, None).err().unwrap_or_default();
+        assert!(why.contains(said), "{text:?}: {why}");
     }
 }
 
