@@ -1,6 +1,6 @@
-//! Forged windows: bytes of any length and content. Manual 9.2 leaves their counts free, and what an entry does to
-//! bytes of a window's length. Compared are the refusals, the bytes that have to stay, and the most that the header
-//! lets a count be.
+//! Forged windows: bytes of any length and content. Manual 9.2 leaves the counts of those of a window's length free, and
+//! what an entry does to them. Compared are the refusals, the bytes that have to stay, the counts of other lengths,
+//! which are 0, and the most that a count may be.
 
 use reference::{Answer, WINDOW_SIZE, Window};
 
@@ -123,10 +123,10 @@ fn read_all(
     Ok(())
 }
 
-/// The count of a number. Of an empty slice it is 0, else any up to the most.
+/// The count of a number. Of bytes of a window's length it is any up to the most, of others 0.
 fn read(window: &[u8], number: u64, null: bool, counts: &mut Counts) -> Result<(), Difference> {
     let refusal = Window::new().count(number).refusal;
-    let free = refusal == 0 && !window.is_empty();
+    let free = refusal == 0 && window.len() == WINDOW_SIZE;
     let most = if free { MOST } else { 0 };
     let got = library::window_count(window, number, null);
     // The value that was given, or the nearest that is allowed.

@@ -1,4 +1,4 @@
-//! The five calls on any bytes and any numbers. Tests go by their numbers, the lowest first, and where one holds the call is
+//! The five calls on a record, of any bytes and any numbers. Tests go by their numbers, the lowest first, and where one holds the call is
 //! turned down and changes nothing.
 
 use crate::Refusal;
