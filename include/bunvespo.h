@@ -27,13 +27,14 @@
  * A WINDOW OF LATE REFUSALS. It shows, for each subject number below 64, how many of the last 256 commands were begun by it and
  * refused. Entries are put into it one by one, each the initiator of a command and its outcome. It has BUNVESPO_WINDOW_SIZE bytes,
  * which may be kept in a file. A window that was emptied by bunvespo_window_empty, and then changed by bunvespo_window_put alone,
- * shows the history of the entries that were put and not refused:
+ * shows the history of the entries that were put, without those given refusal 17:
  *   bytes 0 to 255    the entries, the oldest being entry 0: entry m stands in byte m mod 256 while it is one of the last 256. It is 0
  *                     if the command was accepted, else one more than the initiator's number. 0 where no entry has stood yet
  *   bytes 256 to 383  the counts of the numbers 0 to 63, two bytes each, high byte first: 0 to 256
  *   byte 384          how many entries the history has, mod 256
- * So BUNVESPO_WINDOW_SIZE zero bytes are an empty window. Bytes of any other content and any length are answered too: as many bytes
- * made in another way show any counts, and bytes of another length are never written and have counts of 0.
+ * So BUNVESPO_WINDOW_SIZE zero bytes are an empty window. Bytes made in another way, of any content and any length, are answered too;
+ * nothing is promised of their counts, nor of what an entry makes of BUNVESPO_WINDOW_SIZE of them. Bytes of another length are never
+ * written.
  *
  * SLICES. Each pointer is followed by its length in bytes. A call reads, and where the pointer isn't const may write, these
  * bytes and no others, and keeps no pointer after it returns. A record or a buffer that a call may write must not overlap its
@@ -224,7 +225,7 @@ bunvespo_answer bunvespo_window_put(uint8_t *window, size_t window_len, uint64_t
 /*
  * How many of the last 256 entries, or of all while there are fewer, are refusals of commands begun by a subject number. Entries of
  * all subjects count among the 256, and accepted ones too. Refusal: 17 for a number of 64 or more. value: the count, 0 to 256; 0 with a
- * refusal. Of bytes that are not a window's it may be any number up to 65,535.
+ * refusal.
  */
 bunvespo_answer bunvespo_window_count(const uint8_t *window, size_t window_len, uint64_t number);
 

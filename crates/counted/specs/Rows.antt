@@ -18,7 +18,10 @@ pub record Rows : Type 0 where
   pub one-accepted : refusedOfLate 5 (refusals 256 ++ (entry 9 0 ∷ [])) ≡ 255
   -- one window for all numbers
   pub one-window : refusedOfLate 5 (refusals 256 ++ (entry 9 8 ∷ [])) ≡ 255
-  -- an outcome of 17 is a refusal like any other, and an initiator of 64 is not in the history
+  -- each number's own, and no accepted ones
+  pub its-own : refusedOfLate 9 (refusals 256 ++ (entry 9 8 ∷ [])) ≡ 1
+  pub accepted : refusedOfLate 5 (entry 5 0 ∷ []) ≡ 0
+  -- an outcome of 17 is a refusal like any other, and an entry that is given 17 is not in the history
   pub seventeen : refusedOfLate 5 (entry 5 17 ∷ []) ≡ 1
   pub last-number : windowRefusal 63 ≡ 0
   pub first-refused : windowRefusal 64 ≡ 17
@@ -33,6 +36,8 @@ rows =
       one-refused = refl;
       one-accepted = refl;
       one-window = refl;
+      its-own = refl;
+      accepted = refl;
       seventeen = refl;
       last-number = refl;
       first-refused = refl;

@@ -1,5 +1,5 @@
--- What is asked of the window (Manual 9): every entry and every count that is read is answered, or refused by 17 exactly where its condition
--- holds, and from an empty window on each count is that of the history.
+-- What is asked of the window (Manual 9): an entry put and a count read are answered, or given 17 exactly where its condition holds, and the
+-- counts of a window that began empty are those of its history.
 use Prim.Native.Nat.{ℕ, _≤_}
 use mathlib.Core.Path.{_≡_}
 use mathlib.Core.Logic.{_≢_}
@@ -33,9 +33,9 @@ abbrev pub countAnswer : List Entry → ℕ → Numbers
 countAnswer es number = cond (ltb number windowNumbers) (numbers 0 (refusedOfLate number (taken es))) (numbers 17 0)
 
 pub record Sequence : Type 0 where
-  -- an entry that is refused leaves every byte as it was
+  -- an entry that is given 17 leaves every byte as it was
   pub put : {w w′ : List ℕ} {initiator outcome : ℕ} {r : Numbers} → Put w initiator outcome w′ r → Refuses initiator r × (r .refusal ≢ 0 → w′ ≡ w)
   pub count : {w : List ℕ} {number : ℕ} {r : Numbers} → Counted w number r → Refuses number r
-  -- from an empty window, after any list of entries, every count read is that of the history cut to its last 256
+  -- whatever entries are put into a window that was emptied, each count read afterwards is the definition's
   pub counts : {w empty w′ : List ℕ} {number : ℕ} {r : Numbers} (es : List Entry)
       → length w ≡ windowBytes → Emptied w empty → Puts empty es w′ → Counted w′ number r → r ≡ countAnswer es number

@@ -46,7 +46,7 @@ pub fn all() {
     enter(&mut w, 0, 0, 5, 12, 5);
     enter(&mut w, 0, 0, 5, 12, 63);
     enter(&mut w, 0, 0, 5, 12, 5);
-    // accepted entries push others out, and entries that were refused do not
+    // accepted entries push others out, and entries that are given 17 do not
     enter(&mut w, 0, 1, 9, 0, 5);
     enter(&mut w, 17, 9, 255, 12, 5);
 }

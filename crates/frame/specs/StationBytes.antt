@@ -3,7 +3,7 @@ use Prim.Native.Nat.{ℕ}
 use mathlib.Core.List.{List, [], _∷_}
 use Rattle.matrix.specs.declared.Fields.{Fields}
 
--- Station A (Manual 11.1). The last bytes of rows 1 and 2, the rights of subjects 1 and 2 over log 3, are parameters: the rows of Manual 10.2 give
+-- Station A (Manual 11.1). The last bytes of rows 1 and 2, the rights of subjects 1 and 2 over log 3, are parameters: the rows of Manual 11.2 give
 -- them as 00 and 01, as 00 and 00, and as 01 and 00.
 abbrev stationA : ℕ → ℕ → List ℕ
 stationA one two =

@@ -1,6 +1,7 @@
--- What the three calls on a window promise (Manual 9.2), for bytes of any length and content. Where bytes of a window's length show no
--- history, what they become and the counts read from them are left free; all else is said here.
-use Prim.Native.Nat.{ℕ, _^_, _<_}
+-- What the three calls on a window promise (Manual 9.2), for bytes of any length and content. The histories h are any lists of entries. Where
+-- the bytes show none, the counts read from them are left free, and so is what an entry makes of as many bytes as a window has. All else is
+-- said here.
+use Prim.Native.Nat.{ℕ}
 use mathlib.Core.Path.{_≡_}
 use mathlib.Core.List.{List, [], _∷_, _++_}
 use lib.ListN.{length}
@@ -17,18 +18,15 @@ pub record Emptied (w w′ : List ℕ) : Type 0 where
   pub shows : length w ≡ windowBytes → Shows [] w′
   pub other : (length w ≡ windowBytes → ⊥) → w′ ≡ w
 
--- One more entry: refused by 17 with every byte as it was, or taken. A window that shows a history then shows that history with the entry.
+-- One more entry: given 17, with every byte as it was, or taken. A window that shows a history then shows it with the entry as the newest.
 pub record Put (w : List ℕ) (initiator outcome : ℕ) (w′ : List ℕ) (r : Numbers) : Type 0 where
   pub answer : r ≡ numbers (windowRefusal initiator) 0
   pub refused : (windowRefusal initiator ≡ 0 → ⊥) → w′ ≡ w
   pub shows : windowRefusal initiator ≡ 0 → (h : List Entry) → Shows h w → Shows (h ++ (entry initiator outcome ∷ [])) w′
   pub other : (length w ≡ windowBytes → ⊥) → w′ ≡ w
 
--- The count of a number: refused by 17 with value 0; or, of a window that shows a history, the history's. Bytes of another length have
--- counts of 0, and no bytes one that takes more than 16 bits.
+-- The count of a number: refused by 17 with value 0; or, of a window that shows a history, the history's.
 pub record Counted (w : List ℕ) (number : ℕ) (r : Numbers) : Type 0 where
   pub refusal : r .refusal ≡ windowRefusal number
   pub refused : (windowRefusal number ≡ 0 → ⊥) → r .value ≡ 0
   pub shown : windowRefusal number ≡ 0 → (h : List Entry) → Shows h w → r .value ≡ refusedOfLate number h
-  pub other : (length w ≡ windowBytes → ⊥) → r .value ≡ 0
-  pub small : r .value < 2 ^ 16

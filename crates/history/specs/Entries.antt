@@ -1,4 +1,4 @@
--- Entries, the history that they make, and how many of the last 256 were refused for each subject number (Manual 9.1).
+-- Entries, the history that they make, and its counts of late refusals (Manual 9.1).
 use Prim.Native.Nat.{ℕ, _+_, _-_}
 use mathlib.Core.Bool.{Bool, cond, not, _&&_}
 use mathlib.Core.List.{List, [], _∷_}
@@ -29,7 +29,7 @@ unfoldable pub taken : List Entry → List Entry
 taken [] = []
 taken (e ∷ es) = cond (eqb (windowRefusal (e .initiator)) 0) (e ∷ taken es) (taken es)
 
--- a history cut to its last 256 entries; all of them while there are fewer
+-- the newest 256 entries of a history, which may have fewer
 abbrev pub late : List Entry → List Entry
 late h = drop (length h - windowEntries) h
 

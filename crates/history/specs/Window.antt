@@ -21,7 +21,7 @@ windowBytes = nextPlace + 1
 abbrev pub entryByte : Entry → ℕ
 entryByte e = cond (refused e) (e .initiator + 1) 0
 
--- what an entry that there is not is read as: its byte is 0
+-- for getD, which asks what stands beyond a list's end; Shows never looks there
 abbrev pub noEntry : Entry
 noEntry = record { initiator = 0; outcome = 0 }
 

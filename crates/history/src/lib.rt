@@ -1,4 +1,4 @@
-// The numbers that the definitions of the window and its code share. The definitions are in specs/.
+// The sizes of a window for the code, each the same as the definitions' number. The definitions are in specs/.
 
 // The subject numbers that have a count, and the entries that are counted.
 pub const WINDOW_NUMBERS: usize = 64;

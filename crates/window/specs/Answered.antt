@@ -62,32 +62,6 @@ module _ {w : List ℕ} {number m : ℕ} (outcome : ℕ) (said : m ≡ windowRef
 module _ {w : List ℕ} {number m : ℕ} (said : m ≡ windowRefusal number) where
   -- ---- a count
 
-  pub count-refused : (m ≡ 0 → ⊥) → Counted w number (numbers m 0)
-  count-refused n =
-      record {
-        refusal = said;
-        refused = λ z. refl;
-        shown = λ z. absurd (n (said ∙ z));
-        other = λ z. refl;
-        small = omega arith;
-      }
-
-  pub count-other : (length w ≡ windowBytes → ⊥) → Counted w number (numbers m 0)
-  count-other n =
-      record {
-        refusal = said;
-        refused = λ z. refl;
-        shown = λ z h s. absurd (n (s .size));
-        other = λ z. refl;
-        small = omega arith;
-      }
-
-  pub count-shown : m ≡ 0 → length w ≡ windowBytes → {v : ℕ} → v ≡ numberAt w (countPlace number) 2 → v < 65536 → Counted w number (numbers m v)
-  count-shown zero size e l =
-      record {
-        refusal = said;
-        refused = λ z. absurd (z (sym said ∙ zero));
-        shown = λ z h s. e ∙ s .counts number (named-of number z);
-        other = λ z. absurd (z size);
-        small = omega arith;
-      }
+  pub count-shown : m ≡ 0 → {v : ℕ} → v ≡ numberAt w (countPlace number) 2 → Counted w number (numbers m v)
+  count-shown zero e =
+      record { refusal = said; refused = λ z. absurd (z (sym said ∙ zero)); shown = λ z h s. e ∙ s .counts number (named-of number z) }

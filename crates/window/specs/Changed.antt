@@ -12,9 +12,9 @@ use Rattle.history.specs.Window.{countPlace, nextPlace}
 abbrev pub refusedOne : ℕ → ℕ
 refusedOne outcome = cond (eqb outcome 0) 0 1
 
--- the initiator of the entry with this byte, any number where it was accepted; 1 where it was refused
+-- the initiator of the entry with this byte, the last number where it was accepted; 1 where it was refused
 abbrev pub initiatorOf : ℕ → ℕ
-initiatorOf b = (b + 63) % windowNumbers
+initiatorOf b = (b + (windowNumbers - 1)) % windowNumbers
 
 abbrev pub refusedBit : ℕ → ℕ
 refusedBit b = (b + 255) / 256

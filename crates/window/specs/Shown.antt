@@ -1,4 +1,4 @@
--- A window that shows a history shows, after one more entry, the history with that entry; bytes that are all zero show the empty history.
+-- What a window shows: no entries where its bytes are all zero, and one entry more after each that it takes.
 use Prim.Native.Nat.{ℕ, _+_, _-_, _*_, _%_, _≤_, _<_}
 use native.Mathlib.Omega.{arith}
 use native.Mathlib.Nat.{not-suc-le-zero}
@@ -41,9 +41,6 @@ module _ (w : List ℕ) (size : length w ≡ windowBytes) (zero : (j : ℕ) → 
 
 -- ---- one more entry
 
-pub one-few : (outcome : ℕ) → refusedOne outcome ≤ 1
-one-few outcome = ⊎-elim (λ t. rw t (omega arith)) (λ t. rw t (omega arith)) (way (eqb outcome 0))
-
 -- the byte and the count of an entry, by its outcome
 entry-byte : (number outcome : ℕ) → refusedOne outcome * (number + 1) ≡ entryByte (entry number outcome)
 entry-byte number outcome = ⊎-elim (λ t. rw t (omega arith)) (λ t. rw t (omega arith)) (way (eqb outcome 0))
@@ -54,6 +51,9 @@ entry-hits number outcome = rw (eq-eqb number number refl) (⊎-elim (λ t. rw t
 other-hits : (number outcome other : ℕ) → (number ≡ other → ⊥) → hits other (entry number outcome) ≡ 0
 other-hits number outcome other n =
     rw (ne-eqb number other n) (⊎-elim (λ t. rw t refl) (λ t. rw t refl) (way (eqb outcome 0)))
+
+pub one-few : (outcome : ℕ) → refusedOne outcome ≤ 1
+one-few outcome = ⊎-elim (λ t. rw t (omega arith)) (λ t. rw t (omega arith)) (way (eqb outcome 0))
 
 module _ (h : List Entry) (w : List ℕ) (s : Shows h w) (number outcome : ℕ) (named : number < windowNumbers) where
   abbrev e : Entry

@@ -1,4 +1,4 @@
-// The window of late refusals: how many of the last 256 commands were refused, for each of 64 subject numbers. Bytes of any length and
+// The window of late refusals, which counts for each of 64 subject numbers what was refused of the commands of late. Bytes of any length and
 // content are answered.
 
 use history::COUNTS_PLACE;
@@ -57,8 +57,8 @@ fn set_count(w: &mut [u8], number: usize, v: usize)
 }
 
 // An entry leaves the window, given by its byte: if it was refused, the count of its initiator, whose number is one less than the byte, is
-// one lower. Where it was accepted, so that the byte is 0, the count of 63 is stored as it was: the way through the code does not depend on
-// outcomes. A byte above 64 is no entry's.
+// one lower. Where it was accepted, so that the byte is 0, the count of the last number is stored as it was: the way through the code does not
+// depend on the outcome of what leaves. A byte above 64 is no entry's.
 fn lower(w: &mut [u8], leaving: usize)
     requires { ⌜ (length (now w) ≡ windowBytes) × (leaving < 256) ⌝ }
     ensures { λ _. ⌜ now (w .exit) ≡ lowered (now (w .entry)) leaving ⌝ }
@@ -66,7 +66,8 @@ fn lower(w: &mut [u8], leaving: usize)
     if WINDOW_NUMBERS < leaving {
         return;
     }
-    let number = (leaving + 63) % WINDOW_NUMBERS;
+    let number = (leaving + (WINDOW_NUMBERS - 1)) % WINDOW_NUMBERS;
+    // 1 unless the byte is 0
     let refused = (leaving + 255) / 256;
     let v = count_at(w, number);
     set_count(w, number, (v + 65536 - refused) % 65536);
@@ -86,7 +87,7 @@ fn enter(w: &mut [u8], number: usize, refused: usize)
     set_count(w, number, v + refused);
 }
 
-// The window without entries. Bytes of another length than a window's stay as they are; so below.
+// The window without entries. Bytes of another length than a window's stay as they are.
 pub fn empty(w: &mut [u8])
     ensures { λ _. ⌜ Emptied (now (w .entry)) (now (w .exit)) ⌝ }
 {
@@ -98,7 +99,8 @@ pub fn empty(w: &mut [u8])
     }
 }
 
-// One more entry: the initiator of a command, and its outcome, 0 if it was accepted. Refused by 17 for an initiator of 64 or more.
+// One more entry: the initiator of a command, and its outcome, 0 if it was accepted. Refused by 17 for an initiator of 64 or more. Bytes of
+// another length than a window's stay as they are.
 pub fn put(w: &mut [u8], initiator: u64, outcome: u64) -> Numbers
     ensures { λ r. ⌜ Put (now (w .entry)) initiator outcome (now (w .exit)) r ⌝ }
 {
@@ -106,7 +108,8 @@ pub fn put(w: &mut [u8], initiator: u64, outcome: u64) -> Numbers
     if refusal != 0 {
         return Numbers { refusal, value: 0 };
     }
-    if w.len() != WINDOW_BYTES {
+    let length = w.len();
+    if length != WINDOW_BYTES {
         return Numbers { refusal, value: 0 };
     }
     enter(w, initiator as usize, refused_one(outcome));
@@ -118,14 +121,13 @@ pub fn count(w: &[u8], number: u64) -> Numbers
     ensures { λ r. ⌜ Counted (now (w .entry)) number r ⌝ }
 {
     let refusal = refusal_of(number);
-    if refusal != 0 {
-        return Numbers { refusal, value: 0 };
+    if refusal == 0 {
+        if w.len() == WINDOW_BYTES {
+            return Numbers {
+                refusal,
+                value: count_at(w, number as usize) as u64,
+            };
+        }
     }
-    if w.len() != WINDOW_BYTES {
-        return Numbers { refusal, value: 0 };
-    }
-    Numbers {
-        refusal,
-        value: count_at(w, number as usize) as u64,
-    }
+    Numbers { refusal, value: 0 }
 }

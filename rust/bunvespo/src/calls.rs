@@ -43,7 +43,7 @@ pub fn valid(record: &[u8]) -> bool {
     unsafe { raw::bunvespo_valid(record.as_ptr(), record.len()) == 1 }
 }
 
-/// The header of a valid record, or the refusal, 1 to 5, that it gets from every call but [`valid`].
+/// The header of a valid record, or the refusal, 1 to 5, that it gets from every other call on a record but [`valid`].
 ///
 /// ```
 /// use bunvespo::{Refusal, check, new_record};

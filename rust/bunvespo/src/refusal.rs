@@ -22,7 +22,7 @@ use std::fmt;
 #[repr(u8)]
 #[derive(Clone, Copy, Debug, PartialEq, Eq, PartialOrd, Ord, Hash)]
 pub enum Refusal {
-    /// The record has no whole header. Every call but `valid` gives this and the next four.
+    /// The record has no whole header. Every call on a record but `valid` gives this and the next four.
     RecordShort = 1,
     /// The record is of a version that the library does not know.
     Version = 2,
@@ -34,7 +34,7 @@ pub enum Refusal {
     NotValid = 5,
     /// No command has the code. This and the refusals up to 14, but for 7, are of `command` and `run` alone.
     Code = 6,
-    /// A number is out of range, or one that should be 0 is not. Given by every call but `valid`.
+    /// A number is out of range, or one that should be 0 is not. Given by every call on a record but `valid`.
     Bounds = 7,
     /// The command's initiator does not exist.
     InitiatorAbsent = 8,

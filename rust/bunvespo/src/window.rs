@@ -1,4 +1,4 @@
-//! The window of late refusals: how many of the last 256 commands were refused, for each subject number.
+//! The window of late refusals, which counts them for each subject number.
 
 use crate::calls::refusal_of;
 use crate::raw;
@@ -13,8 +13,8 @@ pub const WINDOW_ENTRIES: usize = 256;
 /// The bytes of a window.
 pub const WINDOW_SIZE: usize = 385;
 
-/// How many of the last 256 commands were refused, for each of the subject numbers 0 to 63. Entries are put in one by one; each
-/// count is that of the entries put so far, cut to the last 256 of them. A refused entry is not among them.
+/// Counts of refused commands among the 256 newest, for each of the subject numbers 0 to 63. Entries are put in one by one, accepted
+/// commands as well. An entry that `put` refuses is none.
 ///
 /// Its bytes, whose layout `include/bunvespo.h` describes, can be kept in a file and made a window again. Bytes that were made
 /// in any other way are taken too; nothing is promised of their counts.

@@ -1,6 +1,5 @@
-//! Forged windows: bytes of any length and content. Manual 9.2 leaves the counts of those of a window's length free, and
-//! what an entry does to them. Compared are the refusals, the bytes that have to stay, the counts of other lengths,
-//! which are 0, and the most that a count may be.
+//! Forged windows: bytes of any length and content. Manual 9.2 leaves their counts free, and what an entry makes of
+//! those of a window's length. Compared are the refusals and the bytes that have to stay.
 
 use reference::{Answer, WINDOW_SIZE, Window};
 
@@ -14,9 +13,6 @@ use crate::window::{
 
 /// Every length up to this one occurs.
 pub const LONGEST: usize = 800;
-
-/// The most that a count of a forged window may be.
-const MOST: u64 = 65_535;
 
 /// The content of a forged window of some length.
 type Content = fn(usize, &mut Random) -> Vec<u8>;
@@ -123,14 +119,14 @@ fn read_all(
     Ok(())
 }
 
-/// The count of a number. Of bytes of a window's length it is any up to the most, of others 0.
+/// The count of a number, which is free; with a refusal it is 0.
 fn read(window: &[u8], number: u64, null: bool, counts: &mut Counts) -> Result<(), Difference> {
     let refusal = Window::new().count(number).refusal;
-    let free = refusal == 0 && window.len() == WINDOW_SIZE;
-    let most = if free { MOST } else { 0 };
     let got = library::window_count(window, number, null);
-    // The value that was given, or the nearest that is allowed.
-    let value = got.as_ref().map_or(0, |answer| answer.value.min(most));
+    let value = match &got {
+        Ok(answer) if refusal == 0 => answer.value,
+        _ => 0,
+    };
     let expected = Answer { refusal, value };
     let inputs = || format!("number {number}, window {}", hex(window));
     compare(&expected, got, |a| format!("{a:?}"), "window_count", inputs)?;

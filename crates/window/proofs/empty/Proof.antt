@@ -15,7 +15,7 @@ abbrev μ-loop : tie.MeasureT-loop
 μ-loop w₀ j₀ w j = windowBytes - j
 
 returns : tie.Need-returns Inv-loop μ-loop
-returns c = record { shows = λ e. absurd (c .if1 .taken e); other = λ n. refl }
+returns c = record { shows = λ e. absurd (omega (arith, c .if1 .taken)); other = λ n. refl }
 
 loop-holds : tie.Need-loop-holds Inv-loop μ-loop
 loop-holds c = (refl, omega arith, λ k l. absurd (omega arith))

@@ -13,6 +13,9 @@ use Rattle.window.proofs.lower.Tie as tie
 returns : tie.Need-returns
 returns c = sym (lowered-beyond _ _ (c .if1 .taken))
 
+sub-number : tie.Need-sub-number
+sub-number c = search needs
+
 add-number : tie.Need-add-number
 add-number c = search needs
 
@@ -47,6 +50,7 @@ lower-spec =
     tie.close
     (tie.spec
     returns
+    sub-number
     add-number
     add-refused
     count-at-requires
