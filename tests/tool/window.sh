@@ -197,10 +197,33 @@ accept 1
 # More commands than a list has.
 refuse 1
 accept 30001
+# So many bytes of one value, given in octal.
+times() { head -c "$1" /dev/zero | tr '\0' "\\$2"; }
 # Counts of one to three digits.
-{ head -c 256 /dev/zero; printf '\x00\x07\x00\x00\x01\x00\x00\x40\x00\x07'; head -c 119 /dev/zero; } >written
+{ times 7 001; times 120 003; times 64 004; times 7 005; times 58 000; } >entries
+printf '\x00\x07\x00\x00\x00\x78\x00\x40\x00\x07' >counts
+{ cat entries counts; times 119 000; } >written
 try refused written
 try refused written --json
+# As many bytes, but no window: counts without their entries, entries without their counts, a count that does not fit, an entry of no
+# login, and all bytes of one value. Nothing is run.
+{ times 256 000; cat counts; times 119 000; } >wrong-counts
+{ cat entries; times 129 000; } >wrong-entries
+{ cat entries; printf '\x01\x07'; tail -c +3 counts; times 119 000; } >wrong-high
+{ times 1 101; times 384 000; } >wrong-login
+times 385 377 >wrong-ones
+cp "$a" station
+cp station before
+echo '13 1 2 0 0' >commands
+for wrong in wrong-*; do
+    cp $wrong before-wrong
+    try refused $wrong
+    try refused $wrong --json
+    try run station commands --window $wrong
+    try run --dry station commands --window $wrong
+    cmp $wrong before-wrong
+    cmp station before
+done
 # Runs at the same time, of one record and of others: each command is entered, also while the window is to be made.
 "$program" new shared 2 6 >/dev/null
 for log in {2..7}; do

@@ -122,11 +122,11 @@ module _ (w : List ℕ) (size : length w ≡ windowBytes) (x : Entry) (number : 
 
 -- ---- a count is higher
 
-module _ (w : List ℕ) (size : length w ≡ windowBytes) (number more : ℕ) (named : number < windowNumbers) where
-  pub length-raised : length (raised w number more) ≡ length w
-  unfolding raised
-  length-raised = length-setNumber w (countPlace number) 2 _
+length-raised : (w : List ℕ) (number more : ℕ) → length (raised w number more) ≡ length w
+unfolding raised
+length-raised w number more = length-setNumber w (countPlace number) 2 _
 
+module _ (w : List ℕ) (size : length w ≡ windowBytes) (number more : ℕ) (named : number < windowNumbers) where
   pub raised-byte : (j : ℕ) → OtherByte j → getD (raised w number more) j 0 ≡ getD w j 0
   unfolding raised
   raised-byte j h = set-byte w size number _ named j h
@@ -141,11 +141,11 @@ module _ (w : List ℕ) (size : length w ≡ windowBytes) (number more : ℕ) (n
 
 -- ---- an entry's byte is written, and the next place moves on
 
-module _ (w : List ℕ) (size : length w ≡ windowBytes) (place byte : ℕ) (within : place < windowEntries) where
-  pub length-placed : length (placed w place byte) ≡ length w
-  unfolding placed
-  length-placed = length-set (set w place byte) nextPlace _ ∙ length-set w place byte
+pub length-placed : (w : List ℕ) (place byte : ℕ) → length (placed w place byte) ≡ length w
+unfolding placed
+length-placed w place byte = length-set (set w place byte) nextPlace _ ∙ length-set w place byte
 
+module _ (w : List ℕ) (size : length w ≡ windowBytes) (place byte : ℕ) (within : place < windowEntries) where
   pub placed-next : getD (placed w place byte) nextPlace 0 ≡ (place + 1) % windowEntries
   unfolding placed
   placed-next = getD-set-same (set w place byte) nextPlace _ 0 (let e : length (set w place byte) ≡ length w = length-set w place byte in omega arith)
@@ -169,18 +169,8 @@ byte-few refused number r n =
     let l : refused * (number + 1) ≤ 1 * (number + 1) = mul-le-mul-right (number + 1) r in
     omega arith
 
--- the bytes stay as many
+-- ---- all three changes
+
 pub length-entered : (w : List ℕ) (number refused : ℕ) → length (entered w number refused) ≡ length w
-unfolding entered placed raised
-length-entered w number refused =
-    length-setNumber _ (countPlace number) 2 _ ∙ length-set (set one place byte) nextPlace _ ∙ length-set one place byte
-    ∙ length-lowered w (getD w place 0)
-  where
-    place : ℕ
-    place = getD w nextPlace 0
-
-    byte : ℕ
-    byte = refused * (number + 1)
-
-    one : List ℕ
-    one = lowered w (getD w place 0)
+unfolding entered
+length-entered w number refused = length-raised _ number refused ∙ length-placed _ (getD w nextPlace 0) _ ∙ length-lowered w _

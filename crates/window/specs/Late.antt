@@ -49,10 +49,11 @@ late-few number h =
 abbrev pub leaving : List Entry → Entry
 leaving h = cond (leb windowEntries (length h)) (getD h (length h - windowEntries) noEntry) noEntry
 
-module _ (number : ℕ) (h : List Entry) (e : Entry) where
-  more : length (h ++ (e ∷ [])) ≡ length h + 1
-  more = length-append h (e ∷ [])
+-- a history with one entry more
+pub length-more : (h : List Entry) (e : Entry) → length (h ++ (e ∷ [])) ≡ length h + 1
+length-more h e = length-append h (e ∷ [])
 
+module _ (number : ℕ) (h : List Entry) (e : Entry) where
   -- after the entries that are left out of both
   counted : (k : ℕ) → k ≤ length h → refusedBy number (drop k (h ++ (e ∷ []))) ≡ refusedBy number (drop k h) + hits number e
   counted k l =
@@ -64,7 +65,7 @@ module _ (number : ℕ) (h : List Entry) (e : Entry) where
   unfolding refusedBy
   full l =
       let k : ℕ = length h - windowEntries in
-      let cut : length (h ++ (e ∷ [])) - windowEntries ≡ suc k = omega (arith, more) in
+      let cut : length (h ++ (e ∷ [])) - windowEntries ≡ suc k = omega (arith, length-more h e) in
       let new : refusedOfLate number (h ++ (e ∷ [])) ≡ refusedBy number (drop (suc k) h) + hits number e
       = ap (λ (j : ℕ). refusedBy number (drop j (h ++ (e ∷ [])))) cut ∙ counted (suc k) (omega arith) in
       let old : refusedOfLate number h ≡ hits number (getD h k noEntry) + refusedBy number (drop (suc k) h)
@@ -73,7 +74,7 @@ module _ (number : ℕ) (h : List Entry) (e : Entry) where
 
   few : length h < windowEntries → refusedOfLate number (h ++ (e ∷ [])) ≡ refusedOfLate number h + hits number e
   few l =
-      let cut : length (h ++ (e ∷ [])) - windowEntries ≡ 0 = omega (arith, more) in
+      let cut : length (h ++ (e ∷ [])) - windowEntries ≡ 0 = omega (arith, length-more h e) in
       let none : length h - windowEntries ≡ 0 = omega arith in
       ap (λ (j : ℕ). refusedBy number (drop j (h ++ (e ∷ [])))) cut ∙ counted 0 (omega arith)
       ∙ ap (λ (j : ℕ). refusedBy number (drop j h) + hits number e) (sym none)

@@ -7,7 +7,7 @@ use mathlib.Core.Logic.{⊎-elim}
 use mathlib.Core.Bool.{true, false}
 use mathlib.Core.List.{List, [], _∷_, _++_}
 use lib.Dec.{eqb, leb}
-use lib.ListN.{length, getD, set, length-append, List·getD-append}
+use lib.ListN.{length, getD, set, List·getD-append}
 use lib.Seq.{getD-at, getD-set-same, getD-set-other}
 use borrow.Author.Tests.{eqb-true, eqb-false, eq-eqb, ne-eqb, leb-true, leb-false}
 use Rattle.matrix.specs.Bytes.{numberAt}
@@ -16,8 +16,8 @@ use Rattle.history.specs.Entries.{Entry, windowNumbers, windowEntries, refusedB
 use Rattle.history.specs.Window.{countPlace, nextPlace, windowBytes, entryByte, noEntry, Shows}
 use Rattle.history.specs.Calls.{entry}
 use Rattle.window.specs.Changed.{refusedOne, lowered, placed, raised, entered}
-use Rattle.window.specs.Late.{hits, leaving, late-few, late-more}
-use Rattle.window.specs.Bytes.{length-lowered, lowered-byte, lowered-count, length-raised, raised-byte, raised-same, raised-other, length-placed, placed-next, placed-here, placed-other, placed-count}
+use Rattle.window.specs.Late.{hits, leaving, length-more, late-few, late-more}
+use Rattle.window.specs.Bytes.{length-lowered, lowered-byte, lowered-count, raised-byte, raised-same, raised-other, length-placed, placed-next, placed-here, placed-other, placed-count, length-entered}
 
 -- ---- the empty window
 
@@ -65,9 +65,6 @@ module _ (h : List Entry) (w : List ℕ) (s : Shows h w) (number outcome : ℕ) 
   within : place < windowEntries
   within = omega (arith, s .next)
 
-  more : length (h ++ (e ∷ [])) ≡ length h + 1
-  more = length-append h (e ∷ [])
-
   -- the byte at the next place is that of the entry that leaves
   leaves : getD w place 0 ≡ entryByte (leaving h)
   leaves = ⊎-elim full few (way (leb windowEntries (length h)))
@@ -98,10 +95,7 @@ module _ (h : List Entry) (w : List ℕ) (s : Shows h w) (number outcome : ℕ) 
   size-one = length-lowered w (getD w place 0) ∙ s .size
 
   size-two : length two ≡ windowBytes
-  size-two = length-placed one size-one place _ within ∙ size-one
-
-  size-three : length three ≡ windowBytes
-  size-three = length-raised two size-two number _ named ∙ size-two
+  size-two = length-placed one place _ ∙ size-one
 
   -- an entry's byte other than the new one's
   kept-byte : (j : ℕ) → j < windowEntries → (j ≡ place → ⊥) → getD three j 0 ≡ getD w j 0
@@ -116,7 +110,7 @@ module _ (h : List Entry) (w : List ℕ) (s : Shows h w) (number outcome : ℕ) 
   next : getD three nextPlace 0 ≡ length (h ++ (e ∷ [])) % windowEntries
   next =
       raised-byte two size-two number _ named nextPlace (λ a b. omega arith) ∙ placed-next one size-one place _ within
-      ∙ omega (arith, s .next, more)
+      ∙ omega (arith, s .next, length-more h e)
 
   entries : (m : ℕ) → m < length (h ++ (e ∷ [])) → length (h ++ (e ∷ [])) ≤ m + windowEntries
       → getD three (m % windowEntries) 0 ≡ entryByte (getD (h ++ (e ∷ [])) m noEntry)
@@ -131,12 +125,12 @@ module _ (h : List Entry) (w : List ℕ) (s : Shows h w) (number outcome : ℕ) 
       earlier : eqb m (length h) ≡ false → getD three (m % windowEntries) 0 ≡ entryByte (getD (h ++ (e ∷ [])) m noEntry)
       earlier t =
           let n : m ≡ length h → ⊥ = eqb-false m (length h) t in
-          let b : m < length h = omega (arith, more) in
-          kept-byte (m % windowEntries) (omega arith) (λ q. omega (arith, s .next, more)) ∙ s .entries m b (omega (arith, more))
+          let b : m < length h = omega (arith, length-more h e) in
+          kept-byte (m % windowEntries) (omega arith) (λ q. omega (arith, s .next, length-more h e)) ∙ s .entries m b (omega (arith, length-more h e))
           ∙ sym (ap entryByte (List·getD-append h (e ∷ []) noEntry m b))
 
   unused : (m : ℕ) → length (h ++ (e ∷ [])) ≤ m → m < windowEntries → getD three m 0 ≡ 0
-  unused m l u = kept-byte m u (λ q. omega (arith, s .next, more)) ∙ s .unused m (omega (arith, more)) u
+  unused m l u = kept-byte m u (λ q. omega (arith, s .next, length-more h e)) ∙ s .unused m (omega (arith, length-more h e)) u
 
   -- ---- the counts
 
@@ -174,4 +168,4 @@ module _ (h : List Entry) (w : List ℕ) (s : Shows h w) (number outcome : ℕ) 
 
   pub entered-shows : Shows (h ++ (e ∷ [])) (entered w number (refusedOne outcome))
   unfolding entered
-  entered-shows = record { size = size-three; entries = entries; unused = unused; counts = counts; next = next }
+  entered-shows = record { size = length-entered w number _ ∙ s .size; entries = entries; unused = unused; counts = counts; next = next }

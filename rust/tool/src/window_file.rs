@@ -3,7 +3,7 @@
 use std::ffi::OsStr;
 
 use crate::input::{self, called};
-use crate::library::{WINDOW_NUMBERS, WINDOW_SIZE, Window, valid};
+use crate::library::{WINDOW_ENTRIES, WINDOW_NUMBERS, WINDOW_SIZE, Window, valid};
 use crate::names::counted;
 use crate::no_answer::{Answered, no_answer};
 use crate::replace::{Fresh, Locked, folder_of, is_missing};
@@ -13,20 +13,35 @@ pub fn read(path: &OsStr) -> Answered<Window> {
     window(path, &input::read(path, WINDOW_SIZE)?)
 }
 
-/// The bytes of a file as a window, or the sentence that says why they are none. A record may have as many bytes as a window and is
-/// turned down, so that none is lost by a slip of words. No window that the library made is a valid record: byte 4 of a record of this
-/// length is 124, and that of a window, an entry, is 64 at most.
+/// The bytes of a file as a window, or the sentence that says why they are none. The library answers other bytes too, but their counts
+/// mean nothing. A record may have as many bytes as a window and is told by itself, so that none is lost by a slip of words: none is a
+/// window, since byte 4 of a record of this length is 124 and a window's entry is 64 at most.
 fn window(path: &OsStr, bytes: &[u8]) -> Answered<Window> {
     let (file, length) = (called(path), bytes.len());
-    let has = match <[u8; WINDOW_SIZE]>::try_from(bytes) {
+    let why = match <[u8; WINDOW_SIZE]>::try_from(bytes) {
         Ok(_) if valid(bytes) => return no_answer(format!("{file} is a record and no window")),
-        Ok(bytes) => return Ok(Window::from(bytes)),
-        Err(_) if length > WINDOW_SIZE => format!("{length} bytes or more"),
-        Err(_) => counted(length as u64, "byte"),
+        Ok(bytes) if shows_entries(&bytes) => return Ok(Window::from(bytes)),
+        Ok(_) => String::from("its counts are not those of its entries"),
+        Err(_) => {
+            let has = if length > WINDOW_SIZE {
+                format!("{length} bytes or more")
+            } else {
+                counted(length as u64, "byte")
+            };
+            format!("it has {has}, and a window has {WINDOW_SIZE}")
+        }
     };
-    no_answer(format!(
-        "{file} is no window: it has {has}, and a window has {WINDOW_SIZE}"
-    ))
+    no_answer(format!("{file} is no window: {why}"))
+}
+
+/// Whether each entry is one of a login that has a count, or of an accepted command, and each count that of the entries. So it is in
+/// every window that the library made, and no other bytes are so.
+pub fn shows_entries(bytes: &[u8; WINDOW_SIZE]) -> bool {
+    let window = Window::from(*bytes);
+    let entries = bytes[..WINDOW_ENTRIES].iter().copied().map(u64::from);
+    let of = |number| entries.clone().filter(|entry| *entry == number + 1).count();
+    entries.clone().all(|entry| entry <= WINDOW_NUMBERS)
+        && (0..WINDOW_NUMBERS).all(|number| window.count(number) == Ok(of(number) as u64))
 }
 
 /// The window that a run enters its commands in: the one of a file, or an empty one where the file is to be made.

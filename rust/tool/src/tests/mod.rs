@@ -5,3 +5,4 @@ mod damaged;
 mod pages;
 mod random;
 mod spoken_names;
+mod windows;
