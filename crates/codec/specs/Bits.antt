@@ -74,6 +74,21 @@ bit-other i j hi hi′ {lo} h e ne = ⊎-elim below above (way (ltb i j))
         λ x. subst (λ (z : ℕ). bit z (x * 2 ^ j + lo) ≡ bit (i - suc j) (x / 2)) q (bit-high j (i - suc j) x h) in
         at hi ∙ ap (bit (i - suc j)) e ∙ sym (at hi′)
 
+-- a power of two has one bit
+pub bit-power : (i j : ℕ) → bit i (2 ^ j) ≡ eqb i j
+bit-power i j = ap (bit i) one ∙ ⊎-elim here other (way (eqb i j))
+  where
+    one : 2 ^ j ≡ 1 * 2 ^ j + 0
+    one = omega arith
+
+    here : eqb i j ≡ true → bit i (1 * 2 ^ j + 0) ≡ eqb i j
+    here e = rw e (ap (λ (k : ℕ). bit k (1 * 2 ^ j + 0)) (eqb-true i j e) ∙ bit-here j 1 (pow-pos j))
+
+    other : eqb i j ≡ false → bit i (1 * 2 ^ j + 0) ≡ eqb i j
+    other e =
+        let z : 0 * 2 ^ j + 0 ≡ 0 = omega arith in
+        rw e (bit-other i j 1 0 (pow-pos j) refl e ∙ ap (bit i) z ∙ bit-zero i)
+
 -- the numbers that fromBits makes
 pub fromBits-below : (m : ℕ) (f : ℕ → Bool) → fromBits m f < 2 ^ m
 unfolding fromBits

@@ -62,7 +62,7 @@ within-read b =
 
 module _ (b : List ℕ) (s : Shaped b) (o : Octets b) where
   -- a cell's number is the one of its bits
-  cell-read : (r c : ℕ) → r < shapeOf b .n → c < columns (shapeOf b) → cellOf (shapeOf b) (stateOf b) r c ≡ cellAt b r c
+  pub cell-read : (r c : ℕ) → r < shapeOf b .n → c < columns (shapeOf b) → cellOf (shapeOf b) (stateOf b) r c ≡ cellAt b r c
   cell-read r c row column =
       fromBits-same (bitsOf (shapeOf b)) (λ j. has (stateOf b) (rightOf j) r (nameOf (shapeOf b .n) c)) (λ j. bit j (cellAt b r c)) each
       ∙ fromBits-bit (bitsOf (shapeOf b)) (cellAt b r c) (cell-below b r c o)

@@ -1,37 +1,22 @@
 -- A held question, step by step; and its answer on a whole record, where the tests 1 to 5 come first.
-use Prim.Native.Nat.{ℕ, zero, suc, _<_}
-use native.Mathlib.Omega.{arith}
-use mathlib.Core.Path.{_≡_, refl, sym, _∙_, ap, ap₂, subst}
+use Prim.Native.Nat.{ℕ, _<_}
+use mathlib.Core.Path.{_≡_, refl, sym, _∙_, ap}
 use mathlib.Core.Bool.{Bool, true, false, cond, _&&_}
 use mathlib.Core.List.{List}
 use lib.Dec.{eqb, ltb}
 use borrow.Author.Tests.{ltb-true, eq-eqb, ne-eqb}
-use Rattle.matrix.specs.declared.Name.{Name}
-use Rattle.matrix.specs.declared.Right.{Right}
 use Rattle.matrix.specs.declared.Holding.{Holding}
 use Rattle.matrix.specs.declared.Holding.the-variants.{Yes, No, Refused}
 use Rattle.matrix.specs.declared.Shape.{Shape}
-use Rattle.matrix.specs.Names.{nameOf, named}
-use Rattle.matrix.specs.Rights.{rightOf}
-use Rattle.matrix.specs.State.{held}
 use Rattle.matrix.specs.Tests.{firstFailed}
 use Rattle.matrix.specs.Shape.{shapeOf, bitsOf, columns}
-use Rattle.matrix.specs.Reading.{stateOf}
 use Rattle.matrix.specs.Record.{recordRefusal}
-use Rattle.matrix.specs.Calls.{questionFits, heldRefusal, heldAnswer}
+use Rattle.matrix.specs.Calls.{questionFits, holdsOn, heldRefusal, heldAnswer}
 use Rattle.laws.specs.Tests.{and-left, and-right}
-use Rattle.codec.specs.Columns.{named-nameOf}
-use Rattle.cells.specs.Station.{Station}
-use Rattle.states.specs.Needs.{RightIn, BitIn}
+use Rattle.cells.specs.Station.{Cell, Station}
 use Rattle.holding.specs.Held.{heldOn}
 
--- the right of a code that is one of a cell's bits
-right-in : (f : Shape) (code : ℕ) → code < bitsOf f → RightIn f (rightOf code)
-right-in f zero h = tt
-right-in f (suc zero) h = tt
-right-in f (suc (suc j)) h = omega arith
-
--- t is whether the numbers of the question fit, y and x are the right and the name that it asks for
+-- t is whether the numbers of the question fit
 module _ (b : List ℕ) (f : Shape) (s o right : ℕ) (station : Station b f) where
   fits-same : questionFits (shapeOf b) s o right ≡ questionFits f s o right
   fits-same = ap (λ (e : Shape). questionFits e s o right) (sym (station .shape))
@@ -42,26 +27,23 @@ module _ (b : List ℕ) (f : Shape) (s o right : ℕ) (station : Station b f) wh
   held-unfit e h = let g : questionFits (shapeOf b) s o right ≡ false = fits-same ∙ sym e ∙ h in rw g refl
 
   -- they do, and v is whether the right is held
-  pub held-fit : {t u : Bool} {y : Right} {x : Name} (v : Bool) → t ≡ questionFits f s o right → t ≡ true → y ≡ rightOf right → x ≡ nameOf (f .n) o → u ≡ held (stateOf b) y s x → u ≡ v → cond v Yes No ≡ heldOn b s o right
+  pub held-fit : {t u : Bool} (v : Bool) → t ≡ questionFits f s o right → t ≡ true → u ≡ holdsOn b s o right → u ≡ v → cond v Yes No ≡ heldOn b s o right
   unfolding heldOn
-  held-fit v e h i g d w =
-      let q : questionFits (shapeOf b) s o right ≡ true = fits-same ∙ sym e ∙ h in
-      let r : v ≡ held (stateOf b) (rightOf right) s (nameOf (shapeOf b .n) o) =
-      sym w ∙ d ∙ ap₂ (λ (y : Right) (x : Name). held (stateOf b) y s x) i (g ∙ ap (λ (e : Shape). nameOf (e .n) o) (station .shape)) in
-      rw q (ap (λ (v : Bool). cond v Yes No) r)
+  held-fit v e h d w =
+      let q : questionFits (shapeOf b) s o right ≡ true = fits-same ∙ sym e ∙ h in rw q (ap (λ (v : Bool). cond v Yes No) (sym w ∙ d))
 
-  -- the bit that is asked for is one of the record
-  pub asked-in : {t : Bool} {y : Right} {x : Name} → t ≡ questionFits f s o right → t ≡ true → y ≡ rightOf right → x ≡ nameOf (f .n) o → BitIn b f y s x
-  asked-in {y = y} {x = x} e h i g =
+  -- they are those of a cell of the record and of one of its bits
+  pub cell-asked : {t : Bool} → t ≡ questionFits f s o right → t ≡ true → Cell b f s o × (right < bitsOf f)
+  cell-asked e h =
       let q : questionFits f s o right ≡ true = sym e ∙ h in
-      let names : (ltb s (f .n) && ltb o (columns f)) ≡ true = and-left (ltb s (f .n) && ltb o (columns f)) (ltb right (bitsOf f)) q in
-      let l : right < bitsOf f = ltb-true right (bitsOf f) (and-right (ltb s (f .n) && ltb o (columns f)) (ltb right (bitsOf f)) q) in
-      record {
-        station = station;
-        right = subst (RightIn f) (sym i) (right-in f right l);
-        row = ltb-true s (f .n) (and-left (ltb s (f .n)) (ltb o (columns f)) names);
-        column = ap (λ (x : Name). named (f .n) (f .p) x) g ∙ named-nameOf (f .n) (f .p) o (ltb-true o (columns f) (and-right (ltb s (f .n)) (ltb o (columns f)) names));
-      }
+      let names : (ltb s (f .n) && ltb o (columns f)) ≡ true = and-left (ltb s (f .n) && ltb o (columns f)) (ltb right (bitsOf f)) q in (
+        record {
+          station = station;
+          row = ltb-true s (f .n) (and-left (ltb s (f .n)) (ltb o (columns f)) names);
+          column = ltb-true o (columns f) (and-right (ltb s (f .n)) (ltb o (columns f)) names);
+        },
+        ltb-true right (bitsOf f) (and-right (ltb s (f .n) && ltb o (columns f)) (ltb right (bitsOf f)) q),
+      )
 
 -- ---- the answer on a whole record
 
@@ -80,7 +62,7 @@ unfolding heldOn heldAnswer
 held-answer b s o right h =
     let e : eqb (recordRefusal b) 0 ≡ true = eq-eqb (recordRefusal b) 0 h in
     let r : heldRefusal b s o right ≡ cond (questionFits (shapeOf b) s o right) 0 7 = refusal-is b s o right ∙ rw e refl in
-    rw r (refused-or (questionFits (shapeOf b) s o right) (cond (held (stateOf b) (rightOf right) s (nameOf (shapeOf b .n) o)) Yes No))
+    rw r (refused-or (questionFits (shapeOf b) s o right) (cond (holdsOn b s o right) Yes No))
 
 -- they are not: the question is refused by the first of them that is not passed
 pub held-refused : (b : List ℕ) (s o right : ℕ) → (recordRefusal b ≡ 0 → ⊥) → Refused (recordRefusal b) ≡ heldAnswer b s o right

@@ -1,3 +1,4 @@
 pub mod Held
-pub mod Holds
+pub mod Mask
+pub mod Masked
 pub mod Asked

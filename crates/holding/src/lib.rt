@@ -1,55 +1,33 @@
 // Whether a right is held, on a record that is of the right form.
 
-use matrix::Form;
 use matrix::Holding;
-use matrix::Name;
-use matrix::Right;
 use matrix::Shape;
 ghost use mathlib.Core.Path.{_≡_};
-ghost use Rattle.matrix.specs.Rights.{rightOf};
-ghost use Rattle.matrix.specs.State.{held};
-ghost use Rattle.matrix.specs.Reading.{stateOf};
-ghost use Rattle.matrix.specs.Calls.{questionFits};
+ghost use Prim.Native.Nat.{_<_};
+ghost use Rattle.matrix.specs.Shape.{bitsOf};
+ghost use Rattle.matrix.specs.Calls.{questionFits, holdsOn};
+ghost use Rattle.codec.specs.Bits.{wordBits};
 ghost use Rattle.codec.specs.ShapeRight.{ShapeRight};
-ghost use Rattle.cells.specs.Station.{Station};
-ghost use Rattle.states.specs.Needs.{BitIn};
+ghost use Rattle.cells.specs.Station.{Cell, Station};
 ghost use Rattle.holding.specs.Held.{heldOn};
+ghost use Rattle.holding.specs.Mask.{maskOf};
 
-// Whether row w holds right y over x (Manual 1.3): by its own bit, or a plain basic right by the starred bit.
-pub fn is_held(b: &[u8], f: Shape, y: Right, w: usize, x: Name) -> bool
-    requires { ⌜ BitIn (now b) f y w x ⌝ }
-    ensures { λ t. ⌜ t ≡ held (stateOf (now (b .entry))) y w x ⌝ }
+// The mask of a right's code: the bits by which that right is held (Manual 1.3). A basic right is held by the bit of its starred form too, of
+// which the code is odd. What kind of right it is makes no branch here, only a digit.
+pub fn mask_of(code: usize) -> usize
+    requires { ⌜ code < wordBits ⌝ }
+    ensures { λ m. ⌜ m ≡ maskOf code ⌝ }
 {
-    match y {
-        Right::Own => states::has_bit(b, f, Right::Own, w, x),
-        Right::Control => states::has_bit(b, f, Right::Control, w, x),
-        Right::Basic(k, form) => match form {
-            Form::Plain => {
-                if states::has_bit(b, f, Right::Basic(k, Form::Plain), w, x) {
-                    return true;
-                }
-                states::has_bit(b, f, Right::Basic(k, Form::Starred), w, x)
-            }
-            Form::Starred => states::has_bit(b, f, Right::Basic(k, Form::Starred), w, x),
-        },
-    }
+    let basic = (1 < code) as usize;
+    (1 << code) | (1 << (code | basic))
 }
 
-// The right of a code.
-pub fn right_of(code: usize) -> Right
-    ensures { λ y. ⌜ y ≡ rightOf code ⌝ }
+// Whether s holds the right of a code over the name of column o: one of the mask's bits is set in the cell.
+pub fn is_held(b: &[u8], f: Shape, s: usize, o: usize, right: usize) -> bool
+    requires { ⌜ Cell (now b) f s o × (right < bitsOf f) ⌝ }
+    ensures { λ t. ⌜ t ≡ holdsOn (now (b .entry)) s o right ⌝ }
 {
-    if code == 0 {
-        return Right::Own;
-    }
-    if code == 1 {
-        return Right::Control;
-    }
-    let j = code - 2;
-    if j % 2 == 0 {
-        return Right::Basic(j / 2, Form::Plain);
-    }
-    Right::Basic(j / 2, Form::Starred)
+    cells::cell(b, f, s, o) & mask_of(right) != 0
 }
 
 // Whether the numbers of a question are those of a row, a column and a right of the record.
@@ -74,9 +52,7 @@ pub fn held_on(b: &[u8], f: Shape, s: usize, o: usize, right: usize) -> Holding
     if !question_fits(f, s, o, right) {
         return Holding::Refused(7);
     }
-    let y = right_of(right);
-    let x = states::name_of(f.n, o);
-    if is_held(b, f, y, s, x) {
+    if is_held(b, f, s, o, right) {
         return Holding::Yes;
     }
     Holding::No

@@ -6,8 +6,7 @@ use lib.Bits.{bitOr}
 use Rattle.matrix.specs.Bytes.{bit}
 use Rattle.masks.specs.Marks.{maskBits, Added}
 use Rattle.laws.specs.BitOps.{bit-or}
-use Rattle.masks.specs.Digits.{bit-power}
-use Rattle.codec.specs.Bits.{one-shifted}
+use Rattle.codec.specs.Bits.{one-shifted, bit-power}
 
 pub one-added : (set s : ℕ) → s < maskBits → Added set s (bitOr set (1 * 2 ^ s % 18446744073709551616))
 one-added set s l =

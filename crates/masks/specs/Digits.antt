@@ -1,4 +1,4 @@
--- The bits of a complement, of a half and of a power of two.
+-- The bits of a complement and of a half.
 use Prim.Native.Nat.{ℕ, suc, _+_, _-_, _*_, _/_, _%_, _^_, _≤_, _<_}
 use native.Mathlib.Nat.{mod-lt, pow-succ', add-mul, lt-of-le-of-lt, sub-le, div-eq-of-lt}
 use native.Mathlib.Numerals.{one-add}
@@ -17,21 +17,6 @@ use Rattle.codec.specs.Bits.{bit-zero, bit-here, bit-other}
 pub bit-half : (j v : ℕ) → bit (suc j) v ≡ bit j (v / 2)
 unfolding bit
 bit-half j v = ap (λ (d : ℕ). eqb (d % 2) 1) (ap (λ (e : ℕ). v / 2 ^ e) (sym (one-add j)) ∙ sym (shr-shr v 1 j))
-
--- a power of two has one bit
-pub bit-power : (i j : ℕ) → bit i (2 ^ j) ≡ eqb i j
-bit-power i j = ap (bit i) one ∙ ⊎-elim here other (way (eqb i j))
-  where
-    one : 2 ^ j ≡ 1 * 2 ^ j + 0
-    one = omega arith
-
-    here : eqb i j ≡ true → bit i (1 * 2 ^ j + 0) ≡ eqb i j
-    here e = rw e (ap (λ (k : ℕ). bit k (1 * 2 ^ j + 0)) (eqb-true i j e) ∙ bit-here j 1 (pow-pos j))
-
-    other : eqb i j ≡ false → bit i (1 * 2 ^ j + 0) ≡ eqb i j
-    other e =
-        let z : 0 * 2 ^ j + 0 ≡ 0 = omega arith in
-        rw e (bit-other i j 1 0 (pow-pos j) refl e ∙ ap (bit i) z ∙ bit-zero i)
 
 -- two numbers whose sum is odd: one of them is odd, the other even
 odd-sum : (x y w : ℕ) → x + y ≡ 2 * w + 1 → eqb (x % 2) 1 ≡ not (eqb (y % 2) 1)

@@ -38,14 +38,14 @@ pub told-none : (S : State) (s : ℕ) (x : Name) (y : Right) (out : List ℕ) �
 told-none S s x y out = record { reply = refl; buffer = refl }
 
 module _ (S : State) (trusted : ℕ → Bool) (s : ℕ) (x : Name) (y : Right) where
-  pub way-held : {t : Bool} → t ≡ held S y s x → t ≡ true → wayOf S trusted s x y ≡ held-now
+  pub way-held : held S y s x ≡ true → wayOf S trusted s x y ≡ held-now
   unfolding wayOf
-  way-held e h = let f : held S y s x ≡ true = sym e ∙ h in rw f refl
+  way-held f = rw f refl
 
-  module _ {t : Bool} (unheld : t ≡ held S y s x) (no : t ≡ false) where
+  module _ (unheld : held S y s x ≡ false) where
     pub way-impossible : {u : Bool} → u ≡ possible s x y → u ≡ false → wayOf S trusted s x y ≡ no-way
     unfolding wayOf
-    way-impossible e h = let f : held S y s x ≡ false = sym unheld ∙ no in let g : possible s x y ≡ false = sym e ∙ h in rw (f, g) refl
+    way-impossible e h = let g : possible s x y ≡ false = sym e ∙ h in rw (unheld, g) refl
 
     module _ {u : Bool} {n i : ℕ} (reachable : u ≡ possible s x y) (yes′ : u ≡ true) (top : S .top ≡ n) (star : i ≡ least n (starHolder S trusted x y)) where
       found : i ≡ least (S .top) (starHolder S trusted x y)
@@ -54,28 +54,25 @@ module _ (S : State) (trusted : ℕ → Bool) (s : ℕ) (x : Name) (y : Right) w
       pub way-star : i < n → wayOf S trusted s x y ≡ by-star i
       unfolding wayOf
       way-star l =
-          let f : held S y s x ≡ false = sym unheld ∙ no in
           let g : possible s x y ≡ true = sym reachable ∙ yes′ in
           let h : ltb (least (S .top) (starHolder S trusted x y)) (S .top) ≡ true = sym (ap₂ (λ (a b : ℕ). ltb a b) found (sym top)) ∙ lt-ltb i n l in
-          rw (f, g, h) (ap by-star (sym found))
+          rw (unheld, g, h) (ap by-star (sym found))
 
       pub way-over : {v : Bool} → n ≤ i → v ≡ existsName S x → v ≡ true → wayOf S trusted s x y ≡ wayOver S trusted x
       unfolding wayOf
       way-over l e h =
-          let f : held S y s x ≡ false = sym unheld ∙ no in
           let g : possible s x y ≡ true = sym reachable ∙ yes′ in
           let k : ltb (least (S .top) (starHolder S trusted x y)) (S .top) ≡ false = sym (ap₂ (λ (a b : ℕ). ltb a b) found (sym top)) ∙ le-ltb i n l in
           let q : existsName S x ≡ true = sym e ∙ h in
-          rw (f, g, k, q) refl
+          rw (unheld, g, k, q) refl
 
       pub way-made : {v : Bool} → n ≤ i → v ≡ existsName S x → v ≡ false → wayOf S trusted s x y ≡ wayMade S trusted
       unfolding wayOf
       way-made l e h =
-          let f : held S y s x ≡ false = sym unheld ∙ no in
           let g : possible s x y ≡ true = sym reachable ∙ yes′ in
           let k : ltb (least (S .top) (starHolder S trusted x y)) (S .top) ≡ false = sym (ap₂ (λ (a b : ℕ). ltb a b) found (sym top)) ∙ le-ltb i n l in
           let q : existsName S x ≡ false = sym e ∙ h in
-          rw (f, g, k, q) refl
+          rw (unheld, g, k, q) refl
 
 -- the way over an absent name, from the search for an untrusted subject
 module _ (S : State) (trusted : ℕ → Bool) {n v : ℕ} (top : S .top ≡ n) (found : v ≡ least n (untrustedIn S trusted)) where

@@ -1,7 +1,7 @@
 -- The whole question on a record: from what the code tests and tells to what the call promises.
-use Prim.Native.Nat.{ℕ, _+_, _≤_, _<_}
+use Prim.Native.Nat.{ℕ, zero, suc, _+_, _≤_, _<_}
 use native.Mathlib.Omega.{arith}
-use mathlib.Core.Path.{_≡_, refl, sym, _∙_, ap, subst, subst₂}
+use mathlib.Core.Path.{_≡_, refl, sym, _∙_, ap, ap₂, subst, subst₂}
 use mathlib.Core.Bool.{Bool, true, false, _&&_}
 use mathlib.Core.List.{List}
 use lib.ListN.{length}
@@ -10,17 +10,18 @@ use Rattle.matrix.specs.declared.Right.{Right}
 use Rattle.matrix.specs.declared.Shape.{Shape}
 use Rattle.matrix.specs.Names.{nameOf, named}
 use Rattle.matrix.specs.Rights.{rightOf}
-use Rattle.matrix.specs.State.{State}
-use Rattle.matrix.specs.Shape.{shapeOf, basicsOf}
+use Rattle.matrix.specs.State.{State, held}
+use Rattle.matrix.specs.Shape.{shapeOf, bitsOf, basicsOf}
 use Rattle.matrix.specs.Reading.{stateOf}
 use Rattle.matrix.specs.Record.{recordRefusal}
-use Rattle.matrix.specs.Calls.{questionFits}
+use Rattle.matrix.specs.Calls.{questionFits, holdsOn}
 use Rattle.laws.specs.Tests.{and-left}
+use Rattle.codec.specs.Columns.{named-nameOf}
 use Rattle.codec.specs.RoundTrip.{within-read}
 use Rattle.owners.specs.Read.{valid-record}
-use Rattle.cells.specs.Station.{Station, right-shape}
+use Rattle.cells.specs.Station.{Cell, Station, right-shape}
 use Rattle.states.specs.Needs.{RightIn, BitIn}
-use Rattle.holding.specs.Asked.{asked-in}
+use Rattle.holding.specs.Asked.{cell-asked}
 use Rattle.question.specs.declared.Safety.{Safety}
 use Rattle.question.specs.declared.Safety.the-variants.{Refused}
 use Rattle.question.specs.Trust.{trustedBy}
@@ -30,8 +31,9 @@ use Rattle.ways.specs.Ways.{Way, held-now, by-star, by-creation, from-above, no
 use Rattle.decision.specs.Decides.{Says, decides}
 use Rattle.told.specs.Told.{Told}
 use Rattle.told.specs.Decided.{Askable, told-decided, told-size}
-use Rattle.safety.specs.Asks.{Asks}
-use Rattle.safety.specs.Tellings.{number-in}
+use Rattle.safety.specs.Asks.{Asks, Headed}
+use Rattle.safety.specs.Steps.{told-at, way-held}
+use Rattle.safety.specs.Tellings.{number-in, told-held}
 use Rattle.safety.specs.Turned.{turned-seven, turned-fifteen, answers}
 
 -- the list of a way has at most n + 2 commands
@@ -41,6 +43,12 @@ few-said f S trusted s x y (by-star i) h = h .few
 few-said f S trusted s x y (by-creation v) h = h .few
 few-said f S trusted s x y (from-above v ws) h = h .few
 few-said f S trusted s x y no-way h = omega arith
+
+-- the right of a code that is one of a cell's bits
+right-in : (f : Shape) (code : ℕ) → code < bitsOf f → RightIn f (rightOf code)
+right-in f zero h = tt
+right-in f (suc zero) h = tt
+right-in f (suc (suc j)) h = omega arith
 
 module _ {b : List ℕ} {f : Shape} (valid : recordRefusal b ≡ 0) (station : Station b f) where
   same-named : (x : Name) → named (f .n) (f .p) x ≡ true → named (shapeOf b .n) (shapeOf b .p) x ≡ true
@@ -65,6 +73,10 @@ module _ {b : List ℕ} {f : Shape} (valid : recordRefusal b ≡ 0) (station : S
     unfit h = turned-seven b mask s o right out valid (fits ∙ fits-same mask s o right) h
 
     module _ (fit : t ≡ true) where
+      -- the numbers are those of a cell of the record and of one of its bits
+      pub asked : Cell b f s o × (right < bitsOf f)
+      asked = cell-asked b f s o right station refl (and-left (questionFits f s o right) (trustFits f mask) (sym fits ∙ fit))
+
       pub no-room : length out < listRoom (f .n + 2) → Answers b mask s o right out out (Refused 15)
       no-room l =
           turned-fifteen b mask s o right out valid (fits ∙ fits-same mask s o right) fit
@@ -72,10 +84,23 @@ module _ {b : List ℕ} {f : Shape} (valid : recordRefusal b ≡ 0) (station : S
 
       module _ {x : Name} {y : Right} (object : x ≡ nameOf (f .n) o) (code : y ≡ rightOf right) (room : listRoom (f .n + 2) ≤ length out) where
         pub bit-asked : BitIn b f y s x
-        bit-asked = asked-in b f s o right station refl (and-left (questionFits f s o right) (trustFits f mask) (sym fits ∙ fit)) code object
+        bit-asked =
+            record {
+              station = station;
+              right = subst (RightIn f) (sym code) (right-in f right (asked .1));
+              row = asked .0 .row;
+              column = ap (λ (x : Name). named (f .n) (f .p) x) object ∙ named-nameOf (f .n) (f .p) o (asked .0 .column);
+            }
 
         here : x ≡ nameOf (shapeOf b .n) o
         here = object ∙ ap (λ (e : Shape). nameOf (e .n) o) (station .shape)
+
+        -- whether the right is held, in the names and rights of the question
+        held-is : {u : Bool} (v : Bool) → u ≡ holdsOn b s o right → u ≡ v → held (stateOf b) y s x ≡ v
+        held-is v e h = ap₂ (λ (y : Right) (x : Name). held (stateOf b) y s x) code here ∙ sym e ∙ h
+
+        pub unheld : {u : Bool} → u ≡ holdsOn b s o right → u ≡ false → held (stateOf b) y s x ≡ false
+        unheld = held-is false
 
         askable : Askable b s o right out
         askable =
@@ -93,3 +118,7 @@ module _ {b : List ℕ} {f : Shape} (valid : recordRefusal b ≡ 0) (station : S
             let g : Told (stateOf b) s (nameOf (shapeOf b .n) o) (rightOf right) (wayOf (stateOf b) (trustedBy mask) s (nameOf (shapeOf b .n) o) (rightOf right)) out out′ r =
             subst₂ (λ (x : Name) (y : Right). Told (stateOf b) s x y (wayOf (stateOf b) (trustedBy mask) s x y) out out′ r) here code h in
             answers b mask s o right out valid (fits ∙ fits-same mask s o right) fit (askable .room) (told-decided b mask s o right out askable g) (told-size b mask s o right out askable g)
+
+        -- the right is held: the list is empty
+        pub answered-held : {u : Bool} {out′ : List ℕ} {r : Safety} → u ≡ holdsOn b s o right → u ≡ true → Headed out out′ 0 r → Answers b mask s o right out out′ r
+        answered-held e h g = answered (told-at (way-held (stateOf b) (trustedBy mask) s x y (held-is true e h)) (told-held g))

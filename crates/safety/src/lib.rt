@@ -9,11 +9,11 @@ use matrix::Right;
 use matrix::Shape;
 use question::Safety;
 ghost use mathlib.Core.Path.{_≡_};
-ghost use mathlib.Core.Bool.{true, not, _&&_, _||_};
+ghost use mathlib.Core.Bool.{true, false, not, _&&_, _||_};
 ghost use Prim.Native.Nat.{_≤_, _<_};
 ghost use lib.ListN.{length};
 ghost use Rattle.matrix.specs.Names.{sameName};
-ghost use Rattle.matrix.specs.State.{exists};
+ghost use Rattle.matrix.specs.State.{exists, held};
 ghost use Rattle.matrix.specs.Shape.{mostSubjects};
 ghost use Rattle.matrix.specs.Reading.{stateOf};
 ghost use Rattle.matrix.specs.Calls.{questionFits};
@@ -147,7 +147,7 @@ fn made(b: &[u8], f: Shape, trust: u64, s: usize, x: Name, y: Right, out: &mut [
     by_creation(b, f, v, s, x, y, out)
 }
 
-// The answer to a question on a valid record, with guesses of who owns each subject.
+// The answer to a question on a valid record for a right that is not held, with guesses of who owns each subject.
 fn decide(
     b: &[u8],
     f: Shape,
@@ -158,13 +158,10 @@ fn decide(
     owners: &[u8; MOST_SUBJECTS],
     out: &mut [u8],
 ) -> Safety
-    requires { ⌜ Asks (now b) f s x y (wayOf (stateOf (now b)) (trustedBy trust) s x y) (now out) × Guessed (now b) f (now owners) ⌝ }
+    requires { ⌜ Asks (now b) f s x y (wayOf (stateOf (now b)) (trustedBy trust) s x y) (now out) × Guessed (now b) f (now owners) × (held (stateOf (now b)) y s x ≡ false) ⌝ }
     ensures { λ r. ⌜ Told (stateOf (now (b .entry))) s x y (wayOf (stateOf (now (b .entry))) (trustedBy trust) s x y) (now (out .entry)) (now (out .exit)) r ⌝ }
 {
     let n = f.n;
-    if holding::is_held(b, f, y, s, x) {
-        return leaks(out, 0);
-    }
     if !climbing::is_possible(s, x, y) {
         return Safety::Safe;
     }
@@ -205,7 +202,10 @@ pub fn ask(b: &[u8], trust: u64, s: usize, o: usize, right: usize, out: &mut [u8
     if out.len() < LIST_HEAD + RECORD_BYTES * (f.n + 2) {
         return Safety::Refused(15);
     }
+    if holding::is_held(b, f, s, o, right) {
+        return leaks(out, 0);
+    }
     let x = states::name_of(f.n, o);
-    let y = holding::right_of(right);
+    let y = states::right_of(right);
     decide(b, f, trust, s, x, y, &owners, out)
 }

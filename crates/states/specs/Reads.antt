@@ -1,11 +1,11 @@
 -- The state of a record's bytes, read from the cells.
-use Prim.Native.Nat.{ℕ, _<_}
+use Prim.Native.Nat.{ℕ, suc, _-_, _/_, _%_, _<_}
 use native.Mathlib.Omega.{arith}
 use mathlib.Core.Path.{_≡_, sym, _∙_, ap, subst}
-use mathlib.Core.Bool.{Bool, true, false, not, _&&_, and-comm}
+use mathlib.Core.Bool.{Bool, true, false, cond, not, _&&_, and-comm}
 use mathlib.Core.List.{List}
 use lib.Dec.{eqb}
-use borrow.Author.Tests.{lt-ltb, ltb-true, ne-eqb}
+use borrow.Author.Tests.{lt-ltb, ltb-true, eq-eqb, ne-eqb}
 use Rattle.matrix.specs.declared.Name.{Name}
 use Rattle.matrix.specs.declared.Name.the-variants.{Subject, Plain}
 use Rattle.matrix.specs.declared.Form.{Form}
@@ -50,6 +50,18 @@ basic-code {k = k} g e h = sym (ap codeOf e ∙ ap (λ (f : Form). codeOf (Basic
 
 pub basic-in : {y : Right} {k : ℕ} {e : Form} (f : Shape) → y ≡ Basic k e → RightIn f y → k < basicsOf f
 basic-in f e h = subst (RightIn f) e h
+
+-- the right of a code other than 0 and 1, by what is left of it
+rightOf-basic : (code : ℕ) (f : Form) → (code ≡ 0 → ⊥) → (code ≡ 1 → ⊥) → cond (eqb ((code - 2) % 2) 0) Form.Plain Form.Starred ≡ f → Basic ((code - 2) / 2) f ≡ rightOf code
+rightOf-basic code f h g e =
+    let q : suc (suc (code - 2)) ≡ code = omega arith in
+    ap (λ (f : Form). Basic ((code - 2) / 2) f) (sym e) ∙ ap rightOf q
+
+pub rightOf-plain : (code : ℕ) → (code ≡ 0 → ⊥) → (code ≡ 1 → ⊥) → (code - 2) % 2 ≡ 0 → Basic ((code - 2) / 2) Form.Plain ≡ rightOf code
+rightOf-plain code h g e = rightOf-basic code Form.Plain h g (ap (λ (t : Bool). cond t Form.Plain Form.Starred) (eq-eqb ((code - 2) % 2) 0 e))
+
+pub rightOf-starred : (code : ℕ) → (code ≡ 0 → ⊥) → (code ≡ 1 → ⊥) → ((code - 2) % 2 ≡ 0 → ⊥) → Basic ((code - 2) / 2) Form.Starred ≡ rightOf code
+rightOf-starred code h g e = rightOf-basic code Form.Starred h g (ap (λ (t : Bool). cond t Form.Plain Form.Starred) (ne-eqb ((code - 2) % 2) 0 e))
 
 module _ (b : List ℕ) (f : Shape) (h : Station b f) where
   -- a bit of the state is the bit of the right's code in the cell

@@ -9,7 +9,7 @@ use matrix::Walked;
 ghost use mathlib.Core.Path.{_≡_};
 ghost use Prim.Native.Nat.{_<_};
 ghost use Rattle.matrix.specs.Names.{columnOf, nameOf};
-ghost use Rattle.matrix.specs.Rights.{codeOf};
+ghost use Rattle.matrix.specs.Rights.{codeOf, rightOf};
 ghost use Rattle.matrix.specs.State.{has, exists, existsName};
 ghost use Rattle.matrix.specs.Owners.{ownerOf, walk};
 ghost use Rattle.matrix.specs.Valid.{Valid};
@@ -52,6 +52,23 @@ pub fn code_of(y: Right) -> usize
             Form::Starred => 3 + 2 * k,
         },
     }
+}
+
+// The right of a code.
+pub fn right_of(code: usize) -> Right
+    ensures { λ y. ⌜ y ≡ rightOf code ⌝ }
+{
+    if code == 0 {
+        return Right::Own;
+    }
+    if code == 1 {
+        return Right::Control;
+    }
+    let j = code - 2;
+    if j % 2 == 0 {
+        return Right::Basic(j / 2, Form::Plain);
+    }
+    Right::Basic(j / 2, Form::Starred)
 }
 
 // Whether row w has right y in the column of x.

@@ -4,8 +4,10 @@
 //!
 //!     compare [--inputs N] [--seed S] [--program PATH]
 //!
-//! N is the number of inputs on records. The inputs of windows come after them and are not among the N.
+//! N is the number of inputs on records drawn at random. The inputs of every cell with every right and those of windows
+//! come after them and are not among the N.
 
+mod cells;
 mod check;
 mod count;
 mod damage;
@@ -105,25 +107,37 @@ fn run_windows(options: &Options, counts: &mut Counts) -> Result<(), String> {
     Ok(())
 }
 
-/// The calls on records and those on windows, with the inputs and the seconds of each.
+/// Every cell of a login over a log, with every right. It is the same in every run.
+fn run_cells(options: &Options, counts: &mut Counts) -> Result<(), String> {
+    cells::all(counts).map_err(|difference| told(options, "cells", 0, difference))
+}
+
+/// The parts of the calls, in their order.
+type Part = fn(&Options, &mut Counts) -> Result<(), String>;
+const PARTS: [(&str, Part); 3] = [
+    ("", run_rounds),
+    (" of every cell with every right", run_cells),
+    (" of windows", run_windows),
+];
+
+/// The calls, with the inputs and the seconds of each part.
 fn run_calls(options: &Options) -> Result<Counts, String> {
     let mut counts = Counts::new();
-    let started = Instant::now();
-    run_rounds(options, &mut counts)?;
-    let (inputs, seconds) = (counts.inputs(), started.elapsed().as_secs_f64());
-    let started = Instant::now();
-    run_windows(options, &mut counts)?;
-    let of_windows = counts.inputs() - inputs;
+    let mut lines = Vec::new();
+    for (what, run) in PARTS {
+        let (before, started) = (counts.inputs(), Instant::now());
+        run(options, &mut counts)?;
+        let (inputs, seconds) = (counts.inputs() - before, started.elapsed().as_secs_f64());
+        lines.push(format!("{inputs} inputs{what} in {seconds:.1} s"));
+    }
     print!("{counts}");
-    println!("{inputs} inputs in {seconds:.1} s");
-    println!(
-        "{of_windows} inputs of windows in {:.1} s",
-        started.elapsed().as_secs_f64()
-    );
+    for line in lines {
+        println!("{line}");
+    }
     Ok(counts)
 }
 
-/// All three parts: the calls on records, those on windows, and the program.
+/// The calls on records and on windows, and the program.
 fn compare(options: &Options) -> Result<(), String> {
     println!("seed {}", options.seed);
     let counts = run_calls(options)?;

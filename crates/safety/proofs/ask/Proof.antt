@@ -1,6 +1,7 @@
 -- `safety::ask` meets its contract.
 use native.Mathlib.Omega.{arith}
-use mathlib.Core.Path.{_≡_, sym, _∙_}
+use mathlib.Core.Path.{_≡_, refl, sym, _∙_}
+use mathlib.Core.Bool.{true}
 use borrow.Author.Tests.{not-true, not-false}
 use Rattle.matrix.specs.Record.{recordRefusal}
 use Rattle.matrix.specs.Shaped.{Octets}
@@ -9,7 +10,7 @@ use Rattle.cells.specs.Station.{Station, right-shape}
 use Rattle.opening.specs.Opened.{station-of, long-enough}
 use Rattle.question.specs.Trust.{trustedBy}
 use Rattle.safety.specs.Turned.{turned-record}
-use Rattle.safety.specs.Whole.{asks-of, unfit, no-room, bit-asked, answered}
+use Rattle.safety.specs.Whole.{asks-of, unfit, no-room, asked, bit-asked, unheld, answered, answered-held}
 use borrow.Author.Needs.{needs}
 use Rattle.safety.proofs.ask.Statement.{statement}
 use Rattle.safety.proofs.ask.Tie as tie
@@ -57,6 +58,33 @@ returns-3 c =
     let a = f .before .before .before .before .before .before .args in
     no-room (right (f .before)) (opened f) (a .trust) (a .s) (a .o) (a .right) (a .out .now) (c .before .before .before .within-bounds .ensures) (not-false _ (c .before .before .if2 .left)) (c .if3 .taken)
 
+-- the numbers fit
+fits : (c : tie.Else3) → c .before .before .before .within-bounds .result ≡ true
+fits c = not-false _ (c .before .before .if2 .left)
+
+is-held-requires : tie.Need-is-held-requires
+is-held-requires c κs =
+    let w = c .before .before .before in
+    let f = w .before in
+    let a = f .before .before .before .before .before .before .args in
+    asked (right (f .before)) (opened f) (a .trust) (a .s) (a .o) (a .right) (a .out .now) (w .within-bounds .ensures) (fits c)
+
+leaks-requires : tie.Need-leaks-requires
+leaks-requires c κs = search needs
+
+same-length : tie.Need-same-length
+same-length c = search needs
+
+returns-4 : tie.Need-returns-4
+returns-4 c =
+    let l = c .before .before in
+    let h = l .before .before .before in
+    let r = h .before in
+    let w = r .before .before .before in
+    let f = w .before in
+    let a = f .before .before .before .before .before .before .args in
+    answered-held (right (f .before)) (opened f) (a .trust) (a .s) (a .o) (a .right) (a .out .now) (w .within-bounds .ensures) (fits r) refl refl (r .if3 .left) (h .is-held .ensures) (l .before .before .if4 .taken) (l .leaks .ensures)
+
 name-of-requires : tie.Need-name-of-requires
 name-of-requires c κs = search needs
 
@@ -65,27 +93,34 @@ right-of-requires c κs = search needs
 
 decide-requires : tie.Need-decide-requires
 decide-requires c κs =
-    let r = c .before .before in
-    let f = r .before .before .before .before .before .before in
+    let y = c .before .before in
+    let x = y .before in
+    let h = x .before .before in
+    let r = h .before in
+    let w = r .before .before .before in
+    let f = w .before in
     let e = f .before in
     let a = e .before .before .before .before .before .args in
-    let room = r .before .before .if3 .left in (
-      asks-of (right e) (opened f) (trustedBy (a .trust))
-          (bit-asked (right e) (opened f) (a .trust) (a .s) (a .o) (a .right) (a .out .now) (r .before .before .before .before .before .within-bounds .ensures) (not-false _ (r .before .before .before .before .if2 .left)) (r .before .name-of .ensures) (r .right-of .ensures) room)
-          room,
+    let room = r .if3 .left in
+    let q = bit-asked (right e) (opened f) (a .trust) (a .s) (a .o) (a .right) (a .out .now) (w .within-bounds .ensures) (fits r) (x .name-of .ensures) (y .right-of .ensures) room in (
+      asks-of (right e) (opened f) (trustedBy (a .trust)) q room,
       record { station = opened f; valid = valid-record _ (right e); size = e .before .refusal-with .ensures .1 },
+      unheld (right e) (opened f) (a .trust) (a .s) (a .o) (a .right) (a .out .now) (w .within-bounds .ensures) (fits r) (x .name-of .ensures) (y .right-of .ensures) room (h .is-held .ensures) (x .before .if4 .left),
     )
 
-same-length : tie.Need-same-length
-same-length c = search needs
+same-length-2 : tie.Need-same-length-2
+same-length-2 c = search needs
 
-returns-4 : tie.Need-returns-4
-returns-4 c =
-    let r = c .before .before .before .before .before in
-    let f = r .before .before .before .before .before .before in
-    let e = f .before in
-    let a = e .before .before .before .before .before .args in
-    answered (right e) (opened f) (a .trust) (a .s) (a .o) (a .right) (a .out .now) (r .before .before .before .before .before .within-bounds .ensures) (not-false _ (r .before .before .before .before .if2 .left)) (r .before .name-of .ensures) (r .right-of .ensures) (r .before .before .if3 .left) (c .before .before .decide .ensures)
+returns-5 : tie.Need-returns-5
+returns-5 c =
+    let d = c .before .before in
+    let y = d .before .before .before in
+    let x = y .before in
+    let r = x .before .before .before in
+    let w = r .before .before .before in
+    let f = w .before in
+    let a = f .before .before .before .before .before .before .args in
+    answered (right (f .before)) (opened f) (a .trust) (a .s) (a .o) (a .right) (a .out .now) (w .within-bounds .ensures) (fits r) (x .name-of .ensures) (y .right-of .ensures) (r .if3 .left) (d .decide .ensures)
 
 pub ask-spec : {M : Type 1} → statement M
 ask-spec =
@@ -100,8 +135,12 @@ ask-spec =
     mul-if3
     add-if3-2
     returns-3
+    is-held-requires
+    leaks-requires
+    same-length
+    returns-4
     name-of-requires
     right-of-requires
     decide-requires
-    same-length
-    returns-4)
+    same-length-2
+    returns-5)

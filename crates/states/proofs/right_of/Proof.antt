@@ -1,8 +1,8 @@
--- `holding::right_of` meets its contract.
-use Rattle.holding.specs.Holds.{rightOf-plain, rightOf-starred}
+-- `states::right_of` meets its contract.
+use Rattle.states.specs.Reads.{rightOf-plain, rightOf-starred}
 use borrow.Author.Needs.{needs}
-use Rattle.holding.proofs.right_of.Statement.{statement}
-use Rattle.holding.proofs.right_of.Tie as tie
+use Rattle.states.proofs.right_of.Statement.{statement}
+use Rattle.states.proofs.right_of.Tie as tie
 
 returns : tie.Need-returns
 returns c = search needs
