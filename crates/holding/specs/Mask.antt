@@ -1,8 +1,20 @@
--- The mask of a right (Manual 1.3): the bits of a cell by which the right is held, as a number made from the right's code by arithmetic.
-use Prim.Native.Nat.{ℕ, _^_}
-use lib.Bits.{bitOr}
-use lib.Dec.{ltb}
+-- The mask of a right (Manual 1.3): the bits of a cell by which the right is held, as a number made from the right's code by arithmetic, the same
+-- for every kind of right. What is claimed of it stands below; `Masked.antt` proves it.
+use Prim.Native.Nat.{ℕ, _*_, _^_, _<_}
+use mathlib.Core.Path.{_≡_}
+use mathlib.Core.Bool.{Bool, false, not, _||_}
+use mathlib.Core.List.{List, [], _∷_}
+use lib.Bits.{bitAnd, bitOr}
+use lib.Dec.{eqb, ltb}
+use Rattle.matrix.specs.declared.Right.{Right}
+use Rattle.matrix.specs.declared.Shape.{Shape}
+use Rattle.matrix.specs.Names.{nameOf}
 use Rattle.matrix.specs.Numbers.{truth}
+use Rattle.matrix.specs.Rights.{codeOf, rightOf, heldBy}
+use Rattle.matrix.specs.State.{State, held}
+use Rattle.matrix.specs.Bytes.{fromBits}
+use Rattle.matrix.specs.Shape.{bitsOf}
+use Rattle.matrix.specs.Reading.{cellOf}
 
 -- 1 for the code of a basic right, 0 for those of own and control
 abbrev pub basicDigit : ℕ → ℕ
@@ -15,3 +27,21 @@ starredCode c = bitOr c (basicDigit c)
 -- the bit of the right's code, and that of its starred form
 unfoldable pub maskOf : ℕ → ℕ
 maskOf c = bitOr (2 ^ c) (2 ^ starredCode c)
+
+-- j is the code of one of these rights
+abbrev pub codeAmong : ℕ → List Right → Bool
+codeAmong j [] = false
+codeAmong j (y ∷ ys) = eqb j (codeOf y) || codeAmong j ys
+
+-- two numbers share a bit
+abbrev pub shares : ℕ → ℕ → Bool
+shares u v = not (eqb (bitAnd u v) 0)
+
+-- Over every width of a cell, w bytes: for each of its codes the mask is the number of the cell's bits that has exactly the bits by which the
+-- code's right is held.
+abbrev pub MaskIs : Type 0
+MaskIs = (w c : ℕ) → c < 8 * w → maskOf c ≡ fromBits (8 * w) (λ j. codeAmong j (heldBy (rightOf c)))
+
+-- Over every shape, and so every width: a right is held exactly where the cell and the right's mask share a bit.
+abbrev pub HeldShares : Type 0
+HeldShares = (f : Shape) (S : State) (w c right : ℕ) → right < bitsOf f → held S (rightOf right) w (nameOf (f .n) c) ≡ shares (cellOf f S w c) (maskOf right)

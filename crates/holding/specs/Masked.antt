@@ -1,11 +1,10 @@
--- Two theorems of the mask, over the width of a cell: it has exactly the bits by which the right is held, and a right is held exactly where
--- the cell and the mask share a bit.
+-- What is claimed of the mask of a right, proved: which bits it has, and what a bit says that a cell shares with it.
 use Prim.Native.Nat.{ℕ, zero, suc, _+_, _*_, _/_, _%_, _^_, _<_, max}
 use native.Mathlib.Nat.{lt-of-le-of-lt}
 use native.Mathlib.Omega.{arith}
-use mathlib.Core.Path.{_≡_, refl, sym, _∙_, ap, ap₂, subst}
+use mathlib.Core.Path.{_≡_, refl, sym, _∙_, ap, ap₂}
 use mathlib.Core.Logic.{⊎-elim}
-use mathlib.Core.Bool.{Bool, true, false, cond, not, _||_, or-false}
+use mathlib.Core.Bool.{Bool, true, false, not, _||_, or-false}
 use mathlib.Core.List.{List, [], _∷_}
 use lib.Bits.{bitAnd, bitOr, or-step, or-zero-r, or-lt, and-le-l}
 use lib.Dec.{eqb, ltb}
@@ -17,9 +16,10 @@ use Rattle.matrix.specs.declared.Right.{Right}
 use Rattle.matrix.specs.declared.Right.the-variants.{Own, Control, Basic}
 use Rattle.matrix.specs.declared.Shape.{Shape}
 use Rattle.matrix.specs.Names.{nameOf}
+use Rattle.matrix.specs.Numbers.{truth}
 use Rattle.matrix.specs.Rights.{codeOf, rightOf, heldBy}
 use Rattle.matrix.specs.State.{State, has, hasOne, held}
-use Rattle.matrix.specs.Bytes.{bit, fromBits}
+use Rattle.matrix.specs.Bytes.{bit}
 use Rattle.matrix.specs.Shape.{shapeOf, bitsOf}
 use Rattle.matrix.specs.Reading.{cellAt, stateOf, cellOf}
 use Rattle.matrix.specs.Calls.{holdsOn}
@@ -31,23 +31,17 @@ use Rattle.codec.specs.Bits.{bit-zero, bit-power, bit-beyond, any-bit, fromBits
 use Rattle.codec.specs.Codes.{rightOf-codeOf}
 use Rattle.codec.specs.RoundTrip.{cell-read}
 use Rattle.cells.specs.Station.{Cell}
-use Rattle.holding.specs.Mask.{starredCode, maskOf}
-
--- j is the code of one of these rights
-abbrev pub codeAmong : ℕ → List Right → Bool
-codeAmong j [] = false
-codeAmong j (y ∷ ys) = eqb j (codeOf y) || codeAmong j ys
-
--- two numbers share a bit
-abbrev pub shares : ℕ → ℕ → Bool
-shares u v = not (eqb (bitAnd u v) 0)
+use Rattle.holding.specs.Mask.{basicDigit, starredCode, maskOf, codeAmong, shares, MaskIs, HeldShares}
 
 -- ---- which bits the mask has
 
 -- the starred form has the odd one of the two codes
 starred-odd : (c : ℕ) → 1 < c → starredCode c ≡ c / 2 * 2 + 1
-starred-odd c l = rw (lt-ltb 1 c l) (or-step c 1 ∙ ap (λ (m : ℕ). m * 2 + max (c % 2) 1) (or-zero-r (c / 2)) ∙ odd (c % 2) (omega arith))
+starred-odd c l = ap (bitOr c) basic ∙ or-step c 1 ∙ ap (λ (m : ℕ). m * 2 + max (c % 2) 1) (or-zero-r (c / 2)) ∙ odd (c % 2) (omega arith)
   where
+    basic : basicDigit c ≡ 1
+    basic = ap truth (lt-ltb 1 c l)
+
     odd : (d : ℕ) → d < 2 → c / 2 * 2 + max d 1 ≡ c / 2 * 2 + 1
     odd zero h = refl
     odd (suc zero) h = refl
@@ -102,8 +96,7 @@ mask-below : (w c : ℕ) → c < 8 * w → maskOf c < 2 ^ (8 * w)
 unfolding maskOf
 mask-below w c h = or-lt (8 * w) (2 ^ c) (2 ^ starredCode c) (pow-lt h) (pow-lt (starred-below w c h))
 
--- For each code of a cell of w bytes the mask is the number of the cell's bits that has exactly the bits by which the code's right is held.
-pub mask-is : (w c : ℕ) → c < 8 * w → maskOf c ≡ fromBits (8 * w) (λ j. codeAmong j (heldBy (rightOf c)))
+pub mask-is : MaskIs
 mask-is w c h =
     sym (fromBits-bit (8 * w) (maskOf c) (mask-below w c h))
     ∙ fromBits-same (8 * w) (λ j. bit j (maskOf c)) (λ j. codeAmong j (heldBy (rightOf c))) (λ j l. mask-bits c j)
@@ -150,9 +143,7 @@ module _ (S : State) (w : ℕ) (x : Name) where
       later : SetCode ys → SetCode (y ∷ ys)
       later r = (r .0, or-right (eqb (r .0) (codeOf y)) (r .1), r .2)
 
--- Over every shape, and so every width of a cell: a right is held exactly where the cell and the right's mask share a bit.
-pub held-shares : (f : Shape) (S : State) (w c right : ℕ) → right < bitsOf f
-    → held S (rightOf right) w (nameOf (f .n) c) ≡ shares (cellOf f S w c) (maskOf right)
+pub held-shares : HeldShares
 held-shares f S w c right h = same-test (held S (rightOf right) w x) (shares cell (maskOf right)) shared set
   where
     x : Name

@@ -3,7 +3,7 @@ use Prim.Native.Nat.{ℕ, suc, _+_, _-_, _*_, _/_, _%_, _^_, _≤_, _<_}
 use native.Mathlib.Nat.{mod-lt, pow-succ', add-mul, lt-of-le-of-lt, sub-le, div-eq-of-lt}
 use native.Mathlib.Numerals.{one-add}
 use native.Mathlib.Omega.{arith}
-use mathlib.Core.Path.{_≡_, refl, sym, _∙_, ap, ap₂, subst}
+use mathlib.Core.Path.{_≡_, sym, _∙_, ap, ap₂, subst}
 use mathlib.Core.Logic.{⊎-elim}
 use mathlib.Core.Bool.{true, false, not}
 use lib.Dec.{eqb, ltb}
@@ -11,7 +11,7 @@ use lib.Pow.{pow-pos, shr-shr, shr-lt, split, ones-lt, le-ones, ones-split}
 use borrow.Author.Tests.{eqb-true, eqb-false, eq-eqb, ne-eqb, ltb-true, ltb-false}
 use Rattle.matrix.specs.Bytes.{bit}
 use Rattle.laws.specs.Tests.{way}
-use Rattle.codec.specs.Bits.{bit-zero, bit-here, bit-other}
+use Rattle.codec.specs.Bits.{bit-here}
 
 -- the bits of a half are the bits above the lowest
 pub bit-half : (j v : ℕ) → bit (suc j) v ≡ bit j (v / 2)

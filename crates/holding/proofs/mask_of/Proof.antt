@@ -1,5 +1,5 @@
 -- `holding::mask_of` meets its contract: neither shift reaches the bits of a word.
-use Prim.Native.Nat.{ℕ, _*_, _%_, _^_, _<_}
+use Prim.Native.Nat.{ℕ, _^_, _<_}
 use mathlib.Core.Path.{_≡_, refl, sym, _∙_, ap, ap₂, subst}
 use mathlib.Core.Bool.{Bool, true, false}
 use lib.Bits.{bitOr}
@@ -7,7 +7,7 @@ use lib.Dec.{ltb}
 use mir.Val.{boolByte}
 use Rattle.matrix.specs.Numbers.{truth}
 use Rattle.codec.specs.Bits.{wordBits, one-shifted}
-use Rattle.holding.specs.Mask.{starredCode, maskOf}
+use Rattle.holding.specs.Mask.{maskOf}
 use Rattle.holding.specs.Masked.{starred-below}
 use borrow.Author.Needs.{needs}
 use Rattle.holding.proofs.mask_of.Statement.{statement}
