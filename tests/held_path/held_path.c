@@ -55,23 +55,23 @@ static bunvespo_answer held(const struct question *q, uint64_t right)
 static bunvespo_answer safety(const struct question *q, uint64_t right)
 {
     static uint8_t list[BUNVESPO_BUFFER_SIZE(3)];
-    return bunvespo_safety(q->record, q->length, 7, q->s, q->o, right, list, sizeof list);
+    const uint64_t everybody = 7;
+    return bunvespo_safety(q->record, q->length, everybody, q->s, q->o, right, list, sizeof list);
 }
 
-/* A test of bits with a branch for each kind of right, to see that this program tells one path from four. */
+/* An answer with a branch for each kind of right, to see that this program tells four paths apart. */
 static bunvespo_answer with_branches(const struct question *q, uint64_t right)
 {
-    volatile uint64_t bit = q->s;
     bunvespo_answer answer = {0, 1};
+    (void)q;
     if (right == 0)
-        bit = 1;
+        __asm__ volatile("nop");
     else if (right == 1)
-        bit = 2;
+        __asm__ volatile("nop; nop");
     else if (right % 2 == 0)
-        bit = 3;
+        __asm__ volatile("nop; nop; nop");
     else
-        bit = 4;
-    answer.value = bit != 0;
+        __asm__ volatile("nop; nop; nop; nop");
     return answer;
 }
 
@@ -91,70 +91,117 @@ static int same(const struct path *a, const struct path *b)
     return a->steps == b->steps && memcmp(a->at, b->at, a->steps * sizeof a->at[0]) == 0;
 }
 
-/* The number of different paths of the rights whose answer has this value. */
-static int paths(call asked, const struct question *q, uint64_t value)
+/* The different paths of the rights with one answer. */
+struct paths {
+    int number;
+    struct path different[RIGHTS];
+};
+
+static void add(struct paths *seen, const struct path *path)
 {
-    static struct path seen[RIGHTS];
-    int number = 0;
+    for (int earlier = 0; earlier < seen->number; earlier++)
+        if (same(&seen->different[earlier], path))
+            return;
+    memcpy(&seen->different[seen->number], path, sizeof *path);
+    seen->number++;
+}
+
+/* The paths of the rights whose answer has the value 0, and of those whose answer has 1. */
+static struct paths seen[2];
+
+static void follow(call asked, const struct question *q)
+{
+    static struct path path;
+    seen[0].number = 0;
+    seen[1].number = 0;
     for (uint64_t right = 0; right < RIGHTS; right++) {
-        struct path *path = &seen[number];
-        int known = 0;
-        bunvespo_answer answer = traced(asked, q, right, path);
-        if (answer.refusal != 0 || path->steps > MOST_STEPS) {
-            fprintf(stderr, "held_path: right %d: refusal %d, %zu instructions\n", (int)right, (int)answer.refusal, path->steps);
+        bunvespo_answer answer = traced(asked, q, right, &path);
+        if (answer.refusal != 0 || answer.value > 1 || path.steps > MOST_STEPS) {
+            fprintf(stderr, "held_path: right %d: refusal %d, value %d, %zu instructions\n", (int)right, (int)answer.refusal, (int)answer.value,
+                    path.steps);
             exit(1);
         }
-        if (answer.value != value)
-            continue;
-        for (int earlier = 0; earlier < number; earlier++)
-            known |= same(&seen[earlier], path);
-        number += !known;
+        add(&seen[answer.value], &path);
     }
-    return number;
 }
 
-/* Three logins: U owns the second, and U or the second owns the third. The second has this cell over the third. */
-static void make_record(uint8_t record[25], unsigned cell)
+#define LOGINS 3
+#define LOGIN 1
+#define OTHER 2
+#define LOG 3
+#define RECORD_BYTES (7 + 2 * LOGINS * (LOGINS + 1))
+
+static void set_cell(uint8_t *record, int row, int column, unsigned cell)
 {
-    static const uint8_t first[25] = {1, 0, 0, 0, 20, 3, 0, 0, 2, 0, 1, 0, 0, 0, 0, 0, 2, 0, 0, 0, 0, 0, 0, 0, 2};
-    memcpy(record, first, sizeof first);
-    record[12] = (uint8_t)(cell % 2 == 0);
-    record[17] = (uint8_t)(cell / 256);
-    record[18] = (uint8_t)(cell % 256);
+    uint8_t *at = record + 7 + 2 * (row * (LOGINS + 1) + column);
+    at[0] = (uint8_t)(cell / 256);
+    at[1] = (uint8_t)(cell % 256);
 }
 
-static int expect(const char *what, unsigned cell, int number, int most)
+/* Three logins and a log, all owned by U, but the other login by this one where its cell has own. This login has this cell over the column. */
+static void make_record(uint8_t *record, int column, unsigned cell)
 {
-    if (number <= most)
+    memset(record, 0, RECORD_BYTES);
+    record[0] = 1;
+    record[4] = RECORD_BYTES - 5;
+    record[5] = LOGINS;
+    record[6] = 1;
+    for (int login = 0; login < LOGINS; login++)
+        set_cell(record, login, login, 1u << BUNVESPO_CONTROL);
+    for (int owned = 1; owned <= LOG; owned++)
+        set_cell(record, 0, owned, 1u << BUNVESPO_OWN);
+    if (column == OTHER)
+        set_cell(record, 0, column, cell % 2 == 0);
+    set_cell(record, LOGIN, column, cell);
+}
+
+static int differs(const char *what, int column, unsigned cell, int number, int expected)
+{
+    if (number == expected)
         return 0;
-    fprintf(stderr, "held_path: %s over a cell of %04X: %d paths\n", what, cell, number);
+    fprintf(stderr, "held_path: %s over column %d by the cell %04X: %d paths, not %d\n", what, column, cell, number, expected);
     return 1;
+}
+
+/* Whether a cell gives other paths than one for the rights that are held, if there are such, and one for those that are not. */
+static int is_wrong(int column, unsigned cell)
+{
+    uint8_t record[RECORD_BYTES];
+    struct question q = {record, sizeof record, LOGIN, (uint64_t)column};
+    int wrong = 0;
+    make_record(record, column, cell);
+    follow(held, &q);
+    wrong |= differs("rights that are held", column, cell, seen[1].number, cell != 0);
+    wrong |= differs("rights that are not held", column, cell, seen[0].number, cell != 0xFFFF);
+    follow(safety, &q);
+    wrong |= differs("safety questions for rights that are held", column, cell, seen[1].number, cell != 0);
+    return wrong;
 }
 
 int main(void)
 {
-    static const unsigned others[2] = {0x0000, 0xFFFF};
     struct sigaction action;
-    uint8_t record[25];
-    struct question q = {record, sizeof record, 1, 2};
     int wrong = 0;
     memset(&action, 0, sizeof action);
     action.sa_sigaction = after_instruction;
     action.sa_flags = SA_SIGINFO;
     sigaction(SIGTRAP, &action, NULL);
-    if (paths(with_branches, &q, 1) != 4) {
+    follow(with_branches, NULL);
+    if (seen[1].number != 4) {
         fprintf(stderr, "held_path: four paths are not told apart on this machine\n");
         return 1;
     }
-    for (int number = 0; number < RIGHTS + 2; number++) {
-        unsigned cell = number < RIGHTS ? 1u << number : others[number - RIGHTS];
-        make_record(record, cell);
-        wrong |= expect("rights that are held", cell, paths(held, &q, 1), 1);
-        wrong |= expect("rights that are not held", cell, paths(held, &q, 0), 1);
-        wrong |= expect("safety questions for rights that are held", cell, paths(safety, &q, 1), 1);
+    for (int column = OTHER; column <= LOG; column++) {
+        /* nobody controls a log */
+        const unsigned all = column == OTHER ? 0xFFFF : 0xFFFD;
+        wrong |= is_wrong(column, 0);
+        wrong |= is_wrong(column, all);
+        for (int right = 0; right < RIGHTS; right++)
+            if (all >> right & 1)
+                wrong |= is_wrong(column, 1u << right);
     }
     if (wrong)
         return 1;
-    puts("held_path: 18 cells with 16 rights each: one path for all that are held, one for all that are not");
+    puts("held_path: 35 cells with 16 rights each: one path for all that are held, one for all that are not");
     return 0;
 }

@@ -90,7 +90,7 @@ fn further() {
     // subject 1 has r and r* of basic right 1 over log 3: without the bit of r it holds r by r*, until r* is deleted too
     row(0, 31, 22, 0x30, 8, 2, 1, 3, 1, 4);
     row(0, 31, 22, 0x20, 9, 2, 1, 3, 1, 4);
-    // by r it does not hold r*, and own is not held by control; the highest basic right likewise, in the cell's other byte
+    // by r it does not hold r*, and by control of itself not own; in the cell's other byte the highest basic right: by r* it holds r, by r not r*
     row(12, 31, 22, 0x10, 3, 0, 1, 3, 0, 5);
     row(12, 31, 0, 1, 3, 1, 1, 1, 0, 0);
     row(12, 31, 21, 0x80, 3, 0, 1, 3, 0, 14);

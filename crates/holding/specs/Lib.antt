@@ -1,4 +1,4 @@
 pub mod Held
 pub mod Mask
-pub mod Masked
+pub mod MaskHolds
 pub mod Asked

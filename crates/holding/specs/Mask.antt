@@ -1,5 +1,5 @@
--- The mask of a right (Manual 1.3): the bits of a cell by which the right is held, as a number made from the right's code by arithmetic, the same
--- for every kind of right. What is claimed of it stands below; `Masked.antt` proves it.
+-- The mask of a right (Manual 1.3): those bits of a cell that make the right held, as one number. It is computed from the
+-- code alone, with no case for a kind of right. What is claimed of it stands below; `MaskHolds.antt` proves it.
 use Prim.Native.Nat.{ℕ, _*_, _^_, _<_}
 use mathlib.Core.Path.{_≡_}
 use mathlib.Core.Bool.{Bool, false, not, _||_}
@@ -37,11 +37,11 @@ codeAmong j (y ∷ ys) = eqb j (codeOf y) || codeAmong j ys
 abbrev pub shares : ℕ → ℕ → Bool
 shares u v = not (eqb (bitAnd u v) 0)
 
--- Over every width of a cell, w bytes: for each of its codes the mask is the number of the cell's bits that has exactly the bits by which the
--- code's right is held.
+-- Over every width of a cell, w bytes: the mask of each of its codes is the number of as many bits in which bit j is set exactly where j is the code
+-- of a right that makes the code's right held.
 abbrev pub MaskIs : Type 0
 MaskIs = (w c : ℕ) → c < 8 * w → maskOf c ≡ fromBits (8 * w) (λ j. codeAmong j (heldBy (rightOf c)))
 
 -- Over every shape, and so every width: a right is held exactly where the cell and the right's mask share a bit.
 abbrev pub HeldShares : Type 0
-HeldShares = (f : Shape) (S : State) (w c right : ℕ) → right < bitsOf f → held S (rightOf right) w (nameOf (f .n) c) ≡ shares (cellOf f S w c) (maskOf right)
+HeldShares = (f : Shape) (S : State) (row column right : ℕ) → right < bitsOf f → held S (rightOf right) row (nameOf (f .n) column) ≡ shares (cellOf f S row column) (maskOf right)

@@ -13,8 +13,8 @@ ghost use Rattle.holding.specs.Held.{heldOn};
 ghost use Rattle.holding.specs.Mask.{maskOf};
 
 // The mask of a right's code: the bits by which that right is held (Manual 1.3). A basic right is held by the bit of its starred form too, of
-// which the code is odd. What kind of right it is makes no branch here, only a digit.
-pub fn mask_of(code: usize) -> usize
+// which the code is odd. The kind of the right makes no branch here: it is a digit, 1 or 0.
+fn mask_of(code: usize) -> usize
     requires { ⌜ code < wordBits ⌝ }
     ensures { λ m. ⌜ m ≡ maskOf code ⌝ }
 {

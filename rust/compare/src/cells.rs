@@ -29,7 +29,8 @@ fn three_logins_and_a_log() -> Vec<u8> {
     record
 }
 
-/// The record with one cell of the login: U owns the column, and another login only where this one does not.
+/// The record with this cell of the login over the column. U owns the log in any case, and the other login where this
+/// one does not.
 fn with_cell(cell: u16, column: u64) -> Vec<u8> {
     let mut record = three_logins_and_a_log();
     let owned = cell & 1 << OWN != 0;

@@ -107,33 +107,35 @@ fn run_windows(options: &Options, counts: &mut Counts) -> Result<(), String> {
     Ok(())
 }
 
-/// Every cell of a login over a log, with every right. It is the same in every run.
+/// Every cell of a login over a login and over a log, with every right. It is the same in every run.
 fn run_cells(options: &Options, counts: &mut Counts) -> Result<(), String> {
     cells::all(counts).map_err(|difference| told(options, "cells", 0, difference))
 }
 
-/// The parts of the calls, in their order.
-type Part = fn(&Options, &mut Counts) -> Result<(), String>;
-const PARTS: [(&str, Part); 3] = [
-    ("", run_rounds),
-    (" of every cell with every right", run_cells),
-    (" of windows", run_windows),
-];
+/// One part of the calls, and the line that tells its inputs and its seconds.
+fn part(
+    what: &str,
+    counts: &mut Counts,
+    run: impl FnOnce(&mut Counts) -> Result<(), String>,
+) -> Result<String, String> {
+    let (before, started) = (counts.inputs(), Instant::now());
+    run(counts)?;
+    let (inputs, seconds) = (counts.inputs() - before, started.elapsed().as_secs_f64());
+    Ok(format!("{inputs} inputs{what} in {seconds:.1} s"))
+}
 
-/// The calls, with the inputs and the seconds of each part.
+/// The calls, with the inputs and the seconds of each part. Those of every cell are counted apart: what has to occur at
+/// least once has to do so among the others.
 fn run_calls(options: &Options) -> Result<Counts, String> {
-    let mut counts = Counts::new();
-    let mut lines = Vec::new();
-    for (what, run) in PARTS {
-        let (before, started) = (counts.inputs(), Instant::now());
-        run(options, &mut counts)?;
-        let (inputs, seconds) = (counts.inputs() - before, started.elapsed().as_secs_f64());
-        lines.push(format!("{inputs} inputs{what} in {seconds:.1} s"));
-    }
+    let (mut counts, mut of_cells) = (Counts::new(), Counts::new());
+    let rounds = part("", &mut counts, |c| run_rounds(options, c))?;
+    let cells = part(" of every cell with every right", &mut of_cells, |c| {
+        run_cells(options, c)
+    })?;
+    let windows = part(" of windows", &mut counts, |c| run_windows(options, c))?;
+    let [not_held, held] = of_cells.held;
     print!("{counts}");
-    for line in lines {
-        println!("{line}");
-    }
+    println!("{rounds}\n{cells}: held {held}, not held {not_held}\n{windows}");
     Ok(counts)
 }
 

@@ -2,7 +2,7 @@
 use native.Mathlib.Omega.{arith}
 use Rattle.codec.specs.ShapeRight.{bits-most}
 use Rattle.cells.specs.Station.{right-shape}
-use Rattle.holding.specs.Masked.{shares-held}
+use Rattle.holding.specs.MaskHolds.{held-on-record}
 use borrow.Author.Needs.{needs}
 use Rattle.holding.proofs.is_held.Statement.{statement}
 use Rattle.holding.proofs.is_held.Tie as tie
@@ -17,7 +17,7 @@ mask-of-requires c κs =
 returns : tie.Need-returns
 returns c =
     let h = c .before .before .before .pre in
-    shares-held (h .0) (h .1) (c .before .cell .ensures) (c .mask-of .ensures)
+    held-on-record (h .0) (h .1) (c .before .cell .ensures) (c .mask-of .ensures)
 
 pub is-held-spec : {M : Type 1} → statement M
 is-held-spec = tie.close (tie.spec cell-requires mask-of-requires returns)

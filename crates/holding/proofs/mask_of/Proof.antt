@@ -8,7 +8,7 @@ use mir.Val.{boolByte}
 use Rattle.matrix.specs.Numbers.{truth}
 use Rattle.codec.specs.Bits.{wordBits, one-shifted}
 use Rattle.holding.specs.Mask.{maskOf}
-use Rattle.holding.specs.Masked.{starred-below}
+use Rattle.holding.specs.MaskHolds.{starred-below}
 use borrow.Author.Needs.{needs}
 use Rattle.holding.proofs.mask_of.Statement.{statement}
 use Rattle.holding.proofs.mask_of.Tie as tie

@@ -169,8 +169,8 @@ held-shares f S w c right h = same-test (held S (rightOf right) w x) (shares cel
         code-set S w x (heldBy (rightOf right)) (r .0) (sym (mask-bits right (r .0)) ∙ r .3) (sym (bit-of (r .0) (r .1)) ∙ r .2)
 
 -- the same on a record, where v is the cell that is read and m the mask
-pub shares-held : {b : List ℕ} {f : Shape} {s o right v m : ℕ} → Cell b f s o → right < bitsOf f → v ≡ cellAt b s o → m ≡ maskOf right → shares v m ≡ holdsOn b s o right
-shares-held {b} {f} {s} {o} {right} h l e g =
+pub held-on-record : {b : List ℕ} {f : Shape} {s o right v m : ℕ} → Cell b f s o → right < bitsOf f → v ≡ cellAt b s o → m ≡ maskOf right → shares v m ≡ holdsOn b s o right
+held-on-record {b} {f} {s} {o} {right} h l e g =
     let shape = h .station .shape in
     ap₂ (λ (v m : ℕ). shares v m) (e ∙ sym (cell-read b (h .station .shaped) (h .station .octets) s o (rw (← shape) (h .row)) (rw (← shape) (h .column)))) g
     ∙ sym (held-shares (shapeOf b) (stateOf b) s o right (rw (← shape) l))
