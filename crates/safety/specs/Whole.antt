@@ -58,7 +58,7 @@ module _ {b : List ℕ} {f : Shape} (valid : recordRefusal b ≡ 0) (station : S
   same-number y h = rw (← station .shape) (number-in y (right-shape station) h)
 
   -- a question of the record's names and rights asks what its way needs
-  pub asks-of : (trusted : ℕ → Bool) {s : ℕ} {x : Name} {y : Right} {out : List ℕ} → BitIn b f y s x → listRoom (f .n + 2) ≤ length out → Asks b f s x y (wayOf (stateOf b) trusted s x y) out
+  asks-of : (trusted : ℕ → Bool) {s : ℕ} {x : Name} {y : Right} {out : List ℕ} → BitIn b f y s x → listRoom (f .n + 2) ≤ length out → Asks b f s x y (wayOf (stateOf b) trusted s x y) out
   asks-of trusted {s} {x} {y} q room =
       let w = wayOf (stateOf b) trusted s x y in
       let l : s < shapeOf b .n = rw (← station .shape) (q .row) in
@@ -72,53 +72,66 @@ module _ {b : List ℕ} {f : Shape} (valid : recordRefusal b ≡ 0) (station : S
     pub unfit : t ≡ false → Answers b mask s o right out out (Refused 7)
     unfit h = turned-seven b mask s o right out valid (fits ∙ fits-same mask s o right) h
 
-    module _ (fit : t ≡ true) where
-      -- the numbers are those of a cell of the record and of one of its bits
-      pub asked : Cell b f s o × (right < bitsOf f)
-      asked = cell-asked b f s o right station refl (and-left (questionFits f s o right) (trustFits f mask) (sym fits ∙ fit))
+    pub no-room : t ≡ true → length out < listRoom (f .n + 2) → Answers b mask s o right out out (Refused 15)
+    no-room fit l =
+        turned-fifteen b mask s o right out valid (fits ∙ fits-same mask s o right) fit
+        (subst (λ (e : Shape). length out < listRoom (e .n + 2)) (station .shape) l)
 
-      pub no-room : length out < listRoom (f .n + 2) → Answers b mask s o right out out (Refused 15)
-      no-room l =
-          turned-fifteen b mask s o right out valid (fits ∙ fits-same mask s o right) fit
-          (subst (λ (e : Shape). length out < listRoom (e .n + 2)) (station .shape) l)
+-- a question that is not turned down: a valid record, numbers within its bounds, and room for the list
+pub record Fitting (b : List ℕ) (f : Shape) (mask s o right : ℕ) (out : List ℕ) : Type 0 where
+  pub valid : recordRefusal b ≡ 0
+  pub station : Station b f
+  pub fit : (questionFits f s o right && trustFits f mask) ≡ true
+  pub room : listRoom (f .n + 2) ≤ length out
 
-      module _ {x : Name} {y : Right} (object : x ≡ nameOf (f .n) o) (code : y ≡ rightOf right) (room : listRoom (f .n + 2) ≤ length out) where
-        pub bit-asked : BitIn b f y s x
-        bit-asked =
-            record {
-              station = station;
-              right = subst (RightIn f) (sym code) (right-in f right (asked .1));
-              row = asked .0 .row;
-              column = ap (λ (x : Name). named (f .n) (f .p) x) object ∙ named-nameOf (f .n) (f .p) o (asked .0 .column);
-            }
+module _ {b : List ℕ} {f : Shape} {mask s o right : ℕ} {out : List ℕ} (q : Fitting b f mask s o right out) where
+  station : Station b f
+  station = q .station
 
-        here : x ≡ nameOf (shapeOf b .n) o
-        here = object ∙ ap (λ (e : Shape). nameOf (e .n) o) (station .shape)
+  -- its numbers are those of a cell of the record and of one of its bits
+  pub asked : Cell b f s o × (right < bitsOf f)
+  asked = cell-asked b f s o right station refl (and-left (questionFits f s o right) (trustFits f mask) (q .fit))
 
-        -- whether the right is held, in the names and rights of the question
-        held-is : {u : Bool} (v : Bool) → u ≡ holdsOn b s o right → u ≡ v → held (stateOf b) y s x ≡ v
-        held-is v e h = ap₂ (λ (y : Right) (x : Name). held (stateOf b) y s x) code here ∙ sym e ∙ h
+  -- x and y are the name and the right that it asks for
+  module _ {x : Name} {y : Right} (object : x ≡ nameOf (f .n) o) (code : y ≡ rightOf right) where
+    bit-asked : BitIn b f y s x
+    bit-asked =
+        record {
+          station = station;
+          right = subst (RightIn f) (sym code) (right-in f right (asked .1));
+          row = asked .0 .row;
+          column = ap (λ (x : Name). named (f .n) (f .p) x) object ∙ named-nameOf (f .n) (f .p) o (asked .0 .column);
+        }
 
-        pub unheld : {u : Bool} → u ≡ holdsOn b s o right → u ≡ false → held (stateOf b) y s x ≡ false
-        unheld = held-is false
+    pub asks : Asks b f s x y (wayOf (stateOf b) (trustedBy mask) s x y) out
+    asks = asks-of (q .valid) station (trustedBy mask) bit-asked (q .room)
 
-        askable : Askable b s o right out
-        askable =
-            let q = bit-asked in
-            record {
-              valid = valid;
-              subject = rw (← station .shape) (q .row);
-              object = subst (λ (z : Name). named (shapeOf b .n) (shapeOf b .p) z ≡ true) here (same-named x (q .column));
-              basic = subst (λ (z : Right). basicNumber z < basicsOf (shapeOf b)) code (same-number y (q .right));
-              room = subst (λ (e : Shape). listRoom (e .n + 2) ≤ length out) (station .shape) room;
-            }
+    here : x ≡ nameOf (shapeOf b .n) o
+    here = object ∙ ap (λ (e : Shape). nameOf (e .n) o) (station .shape)
 
-        pub answered : {out′ : List ℕ} {r : Safety} → Told (stateOf b) s x y (wayOf (stateOf b) (trustedBy mask) s x y) out out′ r → Answers b mask s o right out out′ r
-        answered {out′} {r} h =
-            let g : Told (stateOf b) s (nameOf (shapeOf b .n) o) (rightOf right) (wayOf (stateOf b) (trustedBy mask) s (nameOf (shapeOf b .n) o) (rightOf right)) out out′ r =
-            subst₂ (λ (x : Name) (y : Right). Told (stateOf b) s x y (wayOf (stateOf b) (trustedBy mask) s x y) out out′ r) here code h in
-            answers b mask s o right out valid (fits ∙ fits-same mask s o right) fit (askable .room) (told-decided b mask s o right out askable g) (told-size b mask s o right out askable g)
+    -- whether the right is held
+    held-is : {u : Bool} (v : Bool) → u ≡ holdsOn b s o right → u ≡ v → held (stateOf b) y s x ≡ v
+    held-is v e h = ap₂ (λ (y : Right) (x : Name). held (stateOf b) y s x) code here ∙ sym e ∙ h
 
-        -- the right is held: the list is empty
-        pub answered-held : {u : Bool} {out′ : List ℕ} {r : Safety} → u ≡ holdsOn b s o right → u ≡ true → Headed out out′ 0 r → Answers b mask s o right out out′ r
-        answered-held e h g = answered (told-at (way-held (stateOf b) (trustedBy mask) s x y (held-is true e h)) (told-held g))
+    pub unheld : {u : Bool} → u ≡ holdsOn b s o right → u ≡ false → held (stateOf b) y s x ≡ false
+    unheld = held-is false
+
+    askable : Askable b s o right out
+    askable =
+        record {
+          valid = q .valid;
+          subject = rw (← station .shape) (bit-asked .row);
+          object = subst (λ (z : Name). named (shapeOf b .n) (shapeOf b .p) z ≡ true) here (same-named (q .valid) station x (bit-asked .column));
+          basic = subst (λ (z : Right). basicNumber z < basicsOf (shapeOf b)) code (same-number (q .valid) station y (bit-asked .right));
+          room = subst (λ (e : Shape). listRoom (e .n + 2) ≤ length out) (station .shape) (q .room);
+        }
+
+    pub answered : {out′ : List ℕ} {r : Safety} → Told (stateOf b) s x y (wayOf (stateOf b) (trustedBy mask) s x y) out out′ r → Answers b mask s o right out out′ r
+    answered {out′} {r} h =
+        let g : Told (stateOf b) s (nameOf (shapeOf b .n) o) (rightOf right) (wayOf (stateOf b) (trustedBy mask) s (nameOf (shapeOf b .n) o) (rightOf right)) out out′ r =
+        subst₂ (λ (x : Name) (y : Right). Told (stateOf b) s x y (wayOf (stateOf b) (trustedBy mask) s x y) out out′ r) here code h in
+        answers b mask s o right out (q .valid) (fits-same (q .valid) station mask s o right) (q .fit) (askable .room) (told-decided b mask s o right out askable g) (told-size b mask s o right out askable g)
+
+    -- the right is held: the list is empty
+    pub answered-held : {u : Bool} {out′ : List ℕ} {r : Safety} → u ≡ holdsOn b s o right → u ≡ true → Headed out out′ 0 r → Answers b mask s o right out out′ r
+    answered-held e h g = answered (told-at (way-held (stateOf b) (trustedBy mask) s x y (held-is true e h)) (told-held g))

@@ -1,16 +1,14 @@
 -- `safety::ask` meets its contract.
 use native.Mathlib.Omega.{arith}
 use mathlib.Core.Path.{_≡_, refl, sym, _∙_}
-use mathlib.Core.Bool.{true}
 use borrow.Author.Tests.{not-true, not-false}
 use Rattle.matrix.specs.Record.{recordRefusal}
 use Rattle.matrix.specs.Shaped.{Octets}
 use Rattle.owners.specs.Read.{valid-record}
 use Rattle.cells.specs.Station.{Station, right-shape}
 use Rattle.opening.specs.Opened.{station-of, long-enough}
-use Rattle.question.specs.Trust.{trustedBy}
 use Rattle.safety.specs.Turned.{turned-record}
-use Rattle.safety.specs.Whole.{asks-of, unfit, no-room, asked, bit-asked, unheld, answered, answered-held}
+use Rattle.safety.specs.Whole.{unfit, no-room, Fitting, asked, asks, unheld, answered, answered-held}
 use borrow.Author.Needs.{needs}
 use Rattle.safety.proofs.ask.Statement.{statement}
 use Rattle.safety.proofs.ask.Tie as tie
@@ -58,16 +56,18 @@ returns-3 c =
     let a = f .before .before .before .before .before .before .args in
     no-room (right (f .before)) (opened f) (a .trust) (a .s) (a .o) (a .right) (a .out .now) (c .before .before .before .within-bounds .ensures) (not-false _ (c .before .before .if2 .left)) (c .if3 .taken)
 
--- the numbers fit
-fits : (c : tie.Else3) → c .before .before .before .within-bounds .result ≡ true
-fits c = not-false _ (c .before .before .if2 .left)
+-- the question is not turned down
+abbrev start : tie.Else3 → tie.Start
+start c = c .before .before .before .before .before .before .before .before .before .before
+
+fitting : (c : tie.Else3)
+    → Fitting (start c .args .b .now) (c .before .before .before .before .shape .result) (start c .args .trust) (start c .args .s) (start c .args .o) (start c .args .right) (start c .args .out .now)
+fitting c =
+    let w = c .before .before .before in
+    record { valid = right (w .before .before); station = opened (w .before); fit = sym (w .within-bounds .ensures) ∙ not-false _ (c .before .before .if2 .left); room = c .if3 .left }
 
 is-held-requires : tie.Need-is-held-requires
-is-held-requires c κs =
-    let w = c .before .before .before in
-    let f = w .before in
-    let a = f .before .before .before .before .before .before .args in
-    asked (right (f .before)) (opened f) (a .trust) (a .s) (a .o) (a .right) (a .out .now) (w .within-bounds .ensures) (fits c)
+is-held-requires c κs = asked (fitting c)
 
 leaks-requires : tie.Need-leaks-requires
 leaks-requires c κs = search needs
@@ -79,11 +79,7 @@ returns-4 : tie.Need-returns-4
 returns-4 c =
     let l = c .before .before in
     let h = l .before .before .before in
-    let r = h .before in
-    let w = r .before .before .before in
-    let f = w .before in
-    let a = f .before .before .before .before .before .before .args in
-    answered-held (right (f .before)) (opened f) (a .trust) (a .s) (a .o) (a .right) (a .out .now) (w .within-bounds .ensures) (fits r) refl refl (r .if3 .left) (h .is-held .ensures) (l .before .before .if4 .taken) (l .leaks .ensures)
+    answered-held (fitting (h .before)) refl refl (h .is-held .ensures) (l .before .before .if4 .taken) (l .leaks .ensures)
 
 name-of-requires : tie.Need-name-of-requires
 name-of-requires c κs = search needs
@@ -96,16 +92,11 @@ decide-requires c κs =
     let y = c .before .before in
     let x = y .before in
     let h = x .before .before in
-    let r = h .before in
-    let w = r .before .before .before in
-    let f = w .before in
-    let e = f .before in
-    let a = e .before .before .before .before .before .args in
-    let room = r .if3 .left in
-    let q = bit-asked (right e) (opened f) (a .trust) (a .s) (a .o) (a .right) (a .out .now) (w .within-bounds .ensures) (fits r) (x .name-of .ensures) (y .right-of .ensures) room in (
-      asks-of (right e) (opened f) (trustedBy (a .trust)) q room,
-      record { station = opened f; valid = valid-record _ (right e); size = e .before .refusal-with .ensures .1 },
-      unheld (right e) (opened f) (a .trust) (a .s) (a .o) (a .right) (a .out .now) (w .within-bounds .ensures) (fits r) (x .name-of .ensures) (y .right-of .ensures) room (h .is-held .ensures) (x .before .if4 .left),
+    let q = fitting (h .before) in
+    let filled = h .before .before .before .before .before .before .before in (
+      asks q (x .name-of .ensures) (y .right-of .ensures),
+      record { station = q .station; valid = valid-record _ (q .valid); size = filled .refusal-with .ensures .1 },
+      unheld q (x .name-of .ensures) (y .right-of .ensures) (h .is-held .ensures) (x .before .if4 .left),
     )
 
 same-length-2 : tie.Need-same-length-2
@@ -116,11 +107,7 @@ returns-5 c =
     let d = c .before .before in
     let y = d .before .before .before in
     let x = y .before in
-    let r = x .before .before .before in
-    let w = r .before .before .before in
-    let f = w .before in
-    let a = f .before .before .before .before .before .before .args in
-    answered (right (f .before)) (opened f) (a .trust) (a .s) (a .o) (a .right) (a .out .now) (w .within-bounds .ensures) (fits r) (x .name-of .ensures) (y .right-of .ensures) (r .if3 .left) (d .decide .ensures)
+    answered (fitting (x .before .before .before)) (x .name-of .ensures) (y .right-of .ensures) (d .decide .ensures)
 
 pub ask-spec : {M : Type 1} → statement M
 ask-spec =
