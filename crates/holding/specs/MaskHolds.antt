@@ -63,6 +63,7 @@ one-code j c d y e h = rw (e, h) (twice (eqb j c))
 both-codes : (j c d : ℕ) (y z : Right) → codeOf y ≡ c → codeOf z ≡ d → (eqb j c || eqb j d) ≡ codeAmong j (y ∷ z ∷ [])
 both-codes j c d y z e h = rw (e, h) (ap (λ (t : Bool). eqb j c || t) (sym (or-false (eqb j d))))
 
+-- so they are those of the rights that make the code's right held
 mask-bits : (c j : ℕ) → bit j (maskOf c) ≡ codeAmong j (heldBy (rightOf c))
 mask-bits zero j = two-bits 0 j ∙ one-code j 0 (starredCode 0) Own refl refl
 mask-bits (suc zero) j = two-bits 1 j ∙ one-code j 1 (starredCode 1) Control refl refl
