@@ -5,6 +5,7 @@ use mathlib.Core.Path.{_≡_, refl}
 use mathlib.Core.List.{List}
 use lib.ListN.{length, getD, take}
 use Rattle.matrix.specs.Bytes.{numberAt}
+use Rattle.matrix.specs.Shape.{limits}
 use Rattle.question.specs.declared.Safety.{Safety}
 use Rattle.question.specs.declared.Safety.the-variants.{Refused}
 use Rattle.question.specs.Asked.{Answers}
@@ -24,7 +25,7 @@ pub record AnswersInput (input out out′ : List ℕ) (r : Safety) : Type 0 wher
   pub long : mostInput < length input → (r ≡ Refused 4) × (out′ ≡ out)
   pub short : length input < questionBytes → (r ≡ Refused 1) × (out′ ≡ out)
   pub asked : questionBytes ≤ length input → length input ≤ mostInput
-      → Answers (take (tailAt input) input) (numberAt input (tailAt input) 8) (getD input (tailAt input + 8) 0) (getD input (tailAt input + 9) 0) (getD input (tailAt input + 10) 0) out out′ r
+      → Answers limits (take (tailAt input) input) (numberAt input (tailAt input) 8) (getD input (tailAt input + 8) 0) (getD input (tailAt input + 9) 0) (getD input (tailAt input + 10) 0) out out′ r
 
 module _ (input out : List ℕ) where
   pub too-long : mostInput < length input → AnswersInput input out out (Refused 4)
@@ -34,6 +35,6 @@ module _ (input out : List ℕ) where
   too-short h = record { long = λ l. absurd (omega arith); short = λ l. (refl, refl); asked = λ l u. absurd (omega arith) }
 
   pub asked-so : {out′ : List ℕ} {r : Safety} {mask s o right : ℕ} → questionBytes ≤ length input → length input ≤ mostInput → mask ≡ numberAt input (tailAt input) 8 → s ≡ getD input (tailAt input + 8) 0 → o ≡ getD input (tailAt input + 9) 0 → right ≡ getD input (tailAt input + 10) 0
-      → Answers (take (tailAt input) input) mask s o right out out′ r → AnswersInput input out out′ r
+      → Answers limits (take (tailAt input) input) mask s o right out out′ r → AnswersInput input out out′ r
   asked-so {out′} {r} l u e f g h a =
       record { long = λ z. absurd (omega arith); short = λ z. absurd (omega arith); asked = λ y z. rw (← e, ← f, ← g, ← h) a }

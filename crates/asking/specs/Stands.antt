@@ -8,6 +8,7 @@ use mathlib.Core.List.{List}
 use lib.Dec.{leb, eqb}
 use lib.ListN.{length, take, length-take}
 use borrow.Author.Tests.{leb-true, leb-false, eqb-true, eqb-false}
+use Rattle.matrix.specs.Shape.{limits}
 use Rattle.matrix.specs.CommandList.{wellFormed, commandsIn}
 use Rattle.question.specs.declared.Safety.{Safety}
 use Rattle.question.specs.declared.Safety.the-variants.{Safe, Leaks, Refused}
@@ -38,9 +39,9 @@ module _ {b : List ℕ} {mask s o right : ℕ} {out out′ : List ℕ} where
   decided-stands commands (inl d) = absurd (safe-no (d .0))
   decided-stands commands (inr d) = let same : commands ≡ d .0 = cc in rw same (written-stands (d .0) (d .2))
 
-  answers-stands : (commands : ℕ) → Answers b mask s o right out out′ (Leaks commands) → Stands out′ commands
+  answers-stands : (commands : ℕ) → Answers limits b mask s o right out out′ (Leaks commands) → Stands out′ commands
   answers-stands commands a =
-      ⊎-elim (λ t. decided-stands commands (a .decided (eqb-true _ 0 t))) (λ t. absurd (refused-no (a .refused (eqb-false _ 0 t) .0))) (way (eqb (safetyRefusal b mask s o right (length out)) 0))
+      ⊎-elim (λ t. decided-stands commands (a .decided (eqb-true _ 0 t))) (λ t. absurd (refused-no (a .refused (eqb-false _ 0 t) .0))) (way (eqb (safetyRefusal limits b mask s o right (length out)) 0))
 
 pub list-stands : (input : List ℕ) {out out′ : List ℕ} {r : Safety} (commands : ℕ) → AnswersInput input out out′ r → r ≡ Leaks commands → Stands out′ commands
 list-stands input {out} {out′} commands a e = go (way (leb questionBytes (length input))) (way (leb (length input) mostInput))

@@ -8,7 +8,7 @@ use mathlib.Core.List.{List}
 use lib.Dec.{eqb}
 use lib.ListN.{length, getD, take}
 use borrow.Author.Tests.{eqb-true, eqb-false}
-use Rattle.matrix.specs.Shape.{shapeOf}
+use Rattle.matrix.specs.Shape.{limits, shapeOf}
 use Rattle.matrix.specs.Shaped.{Octets}
 use Rattle.matrix.specs.CommandList.{commandsOf}
 use Rattle.laws.specs.Tests.{way}
@@ -22,7 +22,7 @@ use Rattle.bunvespo.specs.Numbers.{AnswersNumbers}
 pub numbers-of : {A B : Type 0} (f : A → B) {r a q : A} → r ≡ a → r ≡ q → f q ≡ f a
 numbers-of f e h = ap f (sym h ∙ e)
 
-module _ {b : List ℕ} {mask s o right : ℕ} {out out′ : List ℕ} {r : Safety} (h : Answers b mask s o right out out′ r) where
+module _ {b : List ℕ} {mask s o right : ℕ} {out out′ : List ℕ} {r : Safety} (h : Answers limits b mask s o right out out′ r) where
   pub answers-numbers : {q : Safety} → r ≡ q → AnswersNumbers b mask s o right out out′ (safetyNumbers q)
   answers-numbers e = record { answer = r; answers = h; is = ap safetyNumbers (sym e) }
 
@@ -39,7 +39,7 @@ module _ {b : List ℕ} {mask s o right : ℕ} {out out′ : List ℕ} {r : Safe
   -- the commands of a leak are at most n + 2, and n is a byte
   pub few-commands : Octets b → (commands : ℕ) → r ≡ Leaks commands → commands ≤ 257
   unfolding shapeOf
-  few-commands octets commands e = go (way (eqb (safetyRefusal b mask s o right (length out)) 0))
+  few-commands octets commands e = go (way (eqb (safetyRefusal limits b mask s o right (length out)) 0))
     where
       said : Decided b mask s o right out out′ r → commands ≤ 257
       said (inl d) = absurd (true≢false (sym (ap isLeak e) ∙ ap isLeak (d .0)))
@@ -49,6 +49,6 @@ module _ {b : List ℕ} {mask s o right : ℕ} {out out′ : List ℕ} {r : Safe
           let few : length (commandsOf (take (listRoom (d .0)) out′)) ≤ getD b 5 0 + 2 = d .2 .leaks .few in
           omega (arith, octets .octet 5)
 
-      go : (eqb (safetyRefusal b mask s o right (length out)) 0 ≡ true) ⊎ (eqb (safetyRefusal b mask s o right (length out)) 0 ≡ false) → commands ≤ 257
+      go : (eqb (safetyRefusal limits b mask s o right (length out)) 0 ≡ true) ⊎ (eqb (safetyRefusal limits b mask s o right (length out)) 0 ≡ false) → commands ≤ 257
       go (inl q) = said (h .decided (eqb-true _ 0 q))
       go (inr q) = absurd (true≢false (sym (ap isLeak e) ∙ ap isLeak (h .refused (eqb-false _ 0 q) .0)))

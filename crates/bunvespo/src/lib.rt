@@ -5,6 +5,7 @@ use matrix::Holding;
 use matrix::Numbers;
 use question::Safety;
 ghost use mathlib.Core.Path.{_≡_};
+ghost use Rattle.matrix.specs.Shape.{limits};
 ghost use Rattle.matrix.specs.Calls.{validAnswer, heldAnswer, commandAnswer, commandBytes, runAnswer, runBytes};
 ghost use Rattle.station.specs.Given.{fieldsOf};
 ghost use Rattle.matrix.specs.Numbers.{truth, heldNumbers, commandNumbers, runNumbers};
@@ -14,7 +15,7 @@ ghost use Rattle.bunvespo.specs.Numbers.{AnswersNumbers};
 // Whether a record is valid: 1 or 0.
 #[no_mangle]
 pub extern "C" fn bunvespo_valid(b: &[u8]) -> u64
-    ensures { λ r. ⌜ r ≡ truth (validAnswer (now (b .entry))) ⌝ }
+    ensures { λ r. ⌜ r ≡ truth (validAnswer limits (now (b .entry))) ⌝ }
 {
     if station::valid(b) { 1 } else { 0 }
 }
@@ -22,7 +23,7 @@ pub extern "C" fn bunvespo_valid(b: &[u8]) -> u64
 // Whether a right is held: the value is 1 or 0.
 #[no_mangle]
 pub extern "C" fn bunvespo_held(b: &[u8], s: u64, o: u64, right: u64) -> Numbers
-    ensures { λ r. ⌜ r ≡ heldNumbers (heldAnswer (now (b .entry)) s o right) ⌝ }
+    ensures { λ r. ⌜ r ≡ heldNumbers (heldAnswer limits (now (b .entry)) s o right) ⌝ }
 {
     let answer = station::held(b, s, o, right);
     match answer {
@@ -51,8 +52,8 @@ pub extern "C" fn bunvespo_command(
     o: u64,
     k: u64,
 ) -> Numbers
-    ensures numbers { λ r. ⌜ r ≡ commandNumbers (commandAnswer (now (b .entry)) (fieldsOf code i s o k)) ⌝ }
-    ensures bytes { λ r. ⌜ now (b .exit) ≡ commandBytes (now (b .entry)) (fieldsOf code i s o k) ⌝ }
+    ensures numbers { λ r. ⌜ r ≡ commandNumbers (commandAnswer limits (now (b .entry)) (fieldsOf code i s o k)) ⌝ }
+    ensures bytes { λ r. ⌜ now (b .exit) ≡ commandBytes limits (now (b .entry)) (fieldsOf code i s o k) ⌝ }
 {
     let answer = station::command(b, code, i, s, o, k);
     match answer {
@@ -70,8 +71,8 @@ pub extern "C" fn bunvespo_command(
 // A list of commands: the value is the number accepted.
 #[no_mangle]
 pub extern "C" fn bunvespo_run(b: &mut [u8], l: &[u8]) -> Numbers
-    ensures numbers { λ r. ⌜ r ≡ runNumbers (runAnswer (now (b .entry)) (now (l .entry))) ⌝ }
-    ensures bytes { λ r. ⌜ now (b .exit) ≡ runBytes (now (b .entry)) (now (l .entry)) ⌝ }
+    ensures numbers { λ r. ⌜ r ≡ runNumbers (runAnswer limits (now (b .entry)) (now (l .entry))) ⌝ }
+    ensures bytes { λ r. ⌜ now (b .exit) ≡ runBytes limits (now (b .entry)) (now (l .entry)) ⌝ }
 {
     let outcome = station::run(b, l);
     Numbers {

@@ -18,7 +18,7 @@ use Rattle.matrix.specs.Numbers.{numbers, heldNumbers, commandNumbers}
 use Rattle.matrix.specs.Rights.{rightOf, heldBy}
 use Rattle.matrix.specs.State.{State, has, hasOne}
 use Rattle.matrix.specs.Step.{answer}
-use Rattle.matrix.specs.Shape.{shapeOf}
+use Rattle.matrix.specs.Shape.{limits, shapeOf}
 use Rattle.matrix.specs.Reading.{stateOf}
 use Rattle.matrix.specs.Record.{recordRefusal}
 use Rattle.matrix.specs.Calls.{validAnswer, questionFits, heldRefusal, holdsOn, heldAnswer, heldResult, refusalOn, linksOn, commandAnswer, commandResult, commandBytes}
@@ -57,26 +57,26 @@ said true = refl
 said false = refl
 
 module _ (b : List ℕ) (s o right : ℕ) where
-  held-number : heldNumbers (heldAnswer b s o right) .refusal ≡ heldRefusal b s o right
+  held-number : heldNumbers (heldAnswer limits b s o right) .refusal ≡ heldRefusal limits b s o right
   unfolding heldResult
   held-number = ap (λ (r : Numbers). r .refusal) (held-numbers b s o right refl)
 
   -- an answer by the refusal 0 is no refusal
-  held-some : heldAnswer b s o right ≢ Holding.Refused 0
+  held-some : heldAnswer limits b s o right ≢ Holding.Refused 0
   unfolding heldAnswer
   held-some h =
-      let number : heldRefusal b s o right ≡ 0 = sym held-number ∙ ap (λ (r : Holding). heldNumbers r .refusal) h in
+      let number : heldRefusal limits b s o right ≡ 0 = sym held-number ∙ ap (λ (r : Holding). heldNumbers r .refusal) h in
       clash (ap holdingRefused h) (rw number (said (holdsOn b s o right)))
 
-  held-absent : NoneHolds (heldConditions b s o right) → AbsentName b s o → heldAnswer b s o right ≡ Holding.No
+  held-absent : NoneHolds (heldConditions b s o right) → AbsentName b s o → heldAnswer limits b s o right ≡ Holding.No
   unfolding heldAnswer
   held-absent none gone =
-      let number : heldRefusal b s o right ≡ 0 = held-numbered b s o right .answered .1 none in
-      let valid : recordRefusal b ≡ 0 = record-numbered b .answered .1 (none-before (recordConditions b) (condition 7 (questionFits (shapeOf b) s o right ≡ false) ∷ []) none) in
+      let number : heldRefusal limits b s o right ≡ 0 = held-numbered b s o right .answered .1 none in
+      let valid : recordRefusal limits b ≡ 0 = record-numbered b .answered .1 (none-before (recordConditions b) (condition 7 (questionFits (shapeOf b) s o right ≡ false) ∷ []) none) in
       let not : holdsOn b s o right ≡ false = fails (holdsOn b s o right) (λ h. bit valid (one-bit (stateOf b) (heldBy (rightOf right)) s (nameOf (shapeOf b .n) o) h) gone) in
       rw (number, not) refl
     where
-      bit : recordRefusal b ≡ 0 → (z : Right) × (has (stateOf b) z s (nameOf (shapeOf b .n) o) ≡ true) → AbsentName b s o → ⊥
+      bit : recordRefusal limits b ≡ 0 → (z : Right) × (has (stateOf b) z s (nameOf (shapeOf b .n) o) ≡ true) → AbsentName b s o → ⊥
       bit valid z =
           let v = valid-record b valid in
           ⊎-elim (λ e. clash (v .row (z .0) s (nameOf (shapeOf b .n) o) (z .1)) e) (λ e. clash (v .column (z .0) s (nameOf (shapeOf b .n) o) (z .1)) e)
@@ -95,23 +95,23 @@ answer-some number links followed h =
 
 module _ (b : List ℕ) (c : Fields) where
   -- the number is the record's refusal, or else the command's
-  pub command-number : commandNumbers (commandAnswer b c) .refusal ≡ cond (eqb (recordRefusal b) 0) (refusalOn (shapeOf b) (stateOf b) c) (recordRefusal b)
+  pub command-number : commandNumbers (commandAnswer limits b c) .refusal ≡ cond (eqb (recordRefusal limits b) 0) (refusalOn (shapeOf b) (stateOf b) c) (recordRefusal limits b)
   unfolding commandResult
-  command-number = ap (λ (r : Numbers). r .refusal) (command-numbers b c refl) ∙ picked (eqb (recordRefusal b) 0)
+  command-number = ap (λ (r : Numbers). r .refusal) (command-numbers b c refl) ∙ picked (eqb (recordRefusal limits b) 0)
     where
-      picked : (t : Bool) → cond t (numbers (refusalOn (shapeOf b) (stateOf b) c) (linksOn (shapeOf b) (stateOf b) c)) (numbers (recordRefusal b) 0) .refusal ≡ cond t (refusalOn (shapeOf b) (stateOf b) c) (recordRefusal b)
+      picked : (t : Bool) → cond t (numbers (refusalOn (shapeOf b) (stateOf b) c) (linksOn (shapeOf b) (stateOf b) c)) (numbers (recordRefusal limits b) 0) .refusal ≡ cond t (refusalOn (shapeOf b) (stateOf b) c) (recordRefusal limits b)
       picked true = refl
       picked false = refl
 
-  command-some : (links : ℕ) → commandAnswer b c ≢ Answer.Refused 0 links
+  command-some : (links : ℕ) → commandAnswer limits b c ≢ Answer.Refused 0 links
   unfolding commandAnswer
   command-some links =
       ⊎-elim (λ e. rw e (answer-some (refusalOn (shapeOf b) (stateOf b) c) (linksOn (shapeOf b) (stateOf b) c) links))
-      (λ e. rw e (λ h. eqb-false (recordRefusal b) 0 e (ap (λ (r : Answer). commandNumbers r .refusal) h))) (way (eqb (recordRefusal b) 0))
+      (λ e. rw e (λ h. eqb-false (recordRefusal limits b) 0 e (ap (λ (r : Answer). commandNumbers r .refusal) h))) (way (eqb (recordRefusal limits b) 0))
 
-  command-kept : commandNumbers (commandAnswer b c) .refusal ≢ 0 → commandBytes b c ≡ b
+  command-kept : commandNumbers (commandAnswer limits b c) .refusal ≢ 0 → commandBytes limits b c ≡ b
   unfolding commandBytes
-  command-kept h = either (eqb (recordRefusal b) 0) (eqb (refusalOn (shapeOf b) (stateOf b) c) 0) _ (λ e f. h (command-number ∙ rw e (eqb-true _ 0 f)))
+  command-kept h = either (eqb (recordRefusal limits b) 0) (eqb (refusalOn (shapeOf b) (stateOf b) c) 0) _ (λ e f. h (command-number ∙ rw e (eqb-true _ 0 f)))
     where
       either : (t u : Bool) (x : List ℕ) → (t ≡ true → u ≡ true → ⊥) → cond (t && u) x b ≡ b
       either true true x n = absurd (n refl refl)
@@ -130,7 +130,7 @@ safetyRefused Safety.Safe = false
 safetyRefused (Safety.Leaks commands) = false
 safetyRefused (Safety.Refused k) = true
 
-module _ (b : List ℕ) (mask s o right : ℕ) (out out′ : List ℕ) (r : Safety) (h : Answers b mask s o right out out′ r) where
+module _ (b : List ℕ) (mask s o right : ℕ) (out out′ : List ℕ) (r : Safety) (h : Answers limits b mask s o right out out′ r) where
   -- a question that is decided is not refused
   decided-so : Decided b mask s o right out out′ r → safetyRefused r ≡ false
   decided-so (inl d) = ap safetyRefused (d .0)
@@ -138,7 +138,7 @@ module _ (b : List ℕ) (mask s o right : ℕ) (out out′ : List ℕ) (r : Safe
 
   safety-some : r ≢ Safety.Refused 0
   safety-some e =
-      let zero : safetyRefusal b mask s o right (length out) ≡ 0 = sym (h .number) ∙ ap (λ (r : Safety). safetyNumbers r .refusal) e in
+      let zero : safetyRefusal limits b mask s o right (length out) ≡ 0 = sym (h .number) ∙ ap (λ (r : Safety). safetyNumbers r .refusal) e in
       clash (ap safetyRefused e) (decided-so (h .decided zero))
 
   safety-right : SafetyRight b mask s o right out out′ r
@@ -153,9 +153,9 @@ module _ (b : List ℕ) (mask s o right : ℕ) (out out′ : List ℕ) (r : Safe
 
 -- ---- the demand
 
-valid-right : (b : List ℕ) → (validAnswer b ≡ true) ↔ NoneHolds (recordConditions b)
+valid-right : (b : List ℕ) → (validAnswer limits b ≡ true) ↔ NoneHolds (recordConditions b)
 unfolding validAnswer
-valid-right b = (λ e. record-numbered b .answered .0 (eqb-true (recordRefusal b) 0 e), λ h. eq-eqb (recordRefusal b) 0 (record-numbered b .answered .1 h))
+valid-right b = (λ e. record-numbered b .answered .0 (eqb-true (recordRefusal limits b) 0 e), λ h. eq-eqb (recordRefusal limits b) 0 (record-numbered b .answered .1 h))
 
 pub demand-1 : Demand1
 demand-1 = record { valid = valid-right; held = held-right; command = command-right; run = run-right; safety = safety-right }

@@ -16,7 +16,7 @@ use Rattle.matrix.specs.Owners.{walk, linksOf}
 use Rattle.matrix.specs.Commands.{decode}
 use Rattle.matrix.specs.Touched.{touched}
 use Rattle.matrix.specs.Step.{refusal, links, next}
-use Rattle.matrix.specs.Shape.{shapeOf, basicsOf, columns, cellPlace}
+use Rattle.matrix.specs.Shape.{limits, shapeOf, basicsOf, columns, cellPlace}
 use Rattle.matrix.specs.Shaped.{Octets}
 use Rattle.matrix.specs.Reading.{stateOf, content, contentOf, bytesOf}
 use Rattle.matrix.specs.Calls.{validAnswer, rawOf, namesFit, commandAnswer, commandBytes, ranOn, runBytes}
@@ -35,30 +35,30 @@ Unnamed b c r d =
 -- What an accepted command leaves: a record that passes 1 to 5 again, of the same shape, read as the next state; the bytes before the first
 -- cell, and those of every cell that the rule does not name, are as they were.
 pub record NextRight (b : List ℕ) (c : Fields) : Type 0 where
-  pub valid : validAnswer (commandBytes b c) ≡ true
-  pub octets : Octets (commandBytes b c)
-  pub shape : shapeOf (commandBytes b c) ≡ shapeOf b
-  pub state : stateOf (commandBytes b c) ≡ next (basicsOf (shapeOf b)) (namesFit (shapeOf b) c) (stateOf b) (rawOf (shapeOf b) c)
-  pub header : take (shapeOf b .first) (commandBytes b c) ≡ take (shapeOf b .first) b
-  pub cells : (r d : ℕ) → r < shapeOf b .n → d < columns (shapeOf b) → Unnamed b c r d → cellBytes (commandBytes b c) r d ≡ cellBytes b r d
+  pub valid : validAnswer limits (commandBytes limits b c) ≡ true
+  pub octets : Octets (commandBytes limits b c)
+  pub shape : shapeOf (commandBytes limits b c) ≡ shapeOf b
+  pub state : stateOf (commandBytes limits b c) ≡ next (basicsOf (shapeOf b)) (namesFit (shapeOf b) c) (stateOf b) (rawOf (shapeOf b) c)
+  pub header : take (shapeOf b .first) (commandBytes limits b c) ≡ take (shapeOf b .first) b
+  pub cells : (r d : ℕ) → r < shapeOf b .n → d < columns (shapeOf b) → Unnamed b c r d → cellBytes (commandBytes limits b c) r d ≡ cellBytes b r d
 
 -- the command c is allowed on the record, which is valid: the sheet (Sheet.antt) has it accepted, with so many links
 pub record Allowed (b : List ℕ) (c : Fields) (followed : ℕ) : Type 0 where
-  pub valid : validAnswer b ≡ true
+  pub valid : validAnswer limits b ≡ true
   pub accepted : refusal (basicsOf (shapeOf b)) (namesFit (shapeOf b) c) (stateOf b) (rawOf (shapeOf b) c) ≡ 0
   pub walked : links (basicsOf (shapeOf b)) (namesFit (shapeOf b) c) (stateOf b) (rawOf (shapeOf b) c) ≡ followed
 
 -- the refusal and the links of a command's answer
 abbrev pub refusalFor : List ℕ → Fields → ℕ
-refusalFor b c = commandNumbers (commandAnswer b c) .refusal
+refusalFor b c = commandNumbers (commandAnswer limits b c) .refusal
 
 abbrev pub linksFor : List ℕ → Fields → ℕ
-linksFor b c = commandNumbers (commandAnswer b c) .value
+linksFor b c = commandNumbers (commandAnswer limits b c) .value
 
 -- The links are those of the walk from s where code 3 over a subject is accepted or refused by 13, and 0 with every other answer, over a plain
 -- object always; never more than n - 1.
 pub record LinksRight (b : List ℕ) (c : Fields) : Type 0 where
-  pub walked : validAnswer b ≡ true → c .code ≡ 3 → c .o < shapeOf b .n → (refusalFor b c ≡ 0) ⊎ (refusalFor b c ≡ 13)
+  pub walked : validAnswer limits b ≡ true → c .code ≡ 3 → c .o < shapeOf b .n → (refusalFor b c ≡ 0) ⊎ (refusalFor b c ≡ 13)
       → linksFor b c ≡ linksOf (walk (stateOf b) (c .s) (Subject (c .o)))
   pub silent : (c .code ≢ 3) ⊎ ((refusalFor b c ≢ 0) × (refusalFor b c ≢ 13)) → linksFor b c ≡ 0
   pub object : shapeOf b .n ≤ c .o → linksFor b c ≡ 0
@@ -66,16 +66,16 @@ pub record LinksRight (b : List ℕ) (c : Fields) : Type 0 where
 
 -- what a list run leaves: a record that passes 1 to 5, of the same shape, read as the state that its accepted commands make
 pub record RunLeaves (b l : List ℕ) : Type 0 where
-  pub valid : validAnswer (runBytes b l) ≡ true
-  pub octets : Octets (runBytes b l)
-  pub read : contentOf (runBytes b l) ≡ content (shapeOf b) (ranOn b l .state)
+  pub valid : validAnswer limits (runBytes limits b l) ≡ true
+  pub octets : Octets (runBytes limits b l)
+  pub read : contentOf (runBytes limits b l) ≡ content (shapeOf b) (ranOn b l .state)
 
 pub record Demand2 : Type 0 where
   -- a command is accepted exactly where it is allowed, and then the record holds the next state
-  pub accepted : (b : List ℕ) (c : Fields) (followed : ℕ) → (commandAnswer b c ≡ Accepted followed) ↔ Allowed b c followed
-  pub next : (b : List ℕ) (c : Fields) (followed : ℕ) → Octets b → commandAnswer b c ≡ Accepted followed → NextRight b c
+  pub accepted : (b : List ℕ) (c : Fields) (followed : ℕ) → (commandAnswer limits b c ≡ Accepted followed) ↔ Allowed b c followed
+  pub next : (b : List ℕ) (c : Fields) (followed : ℕ) → Octets b → commandAnswer limits b c ≡ Accepted followed → NextRight b c
   pub links : (b : List ℕ) (c : Fields) → LinksRight b c
   -- a record that 1 to 5 let pass: writing what is read gives the same bytes, and two that are read the same are the same bytes
-  pub written : (b : List ℕ) → Octets b → validAnswer b ≡ true → bytesOf (contentOf b) ≡ b
-  pub same : (b c : List ℕ) → Octets b → Octets c → validAnswer b ≡ true → validAnswer c ≡ true → contentOf b ≡ contentOf c → b ≡ c
+  pub written : (b : List ℕ) → Octets b → validAnswer limits b ≡ true → bytesOf (contentOf b) ≡ b
+  pub same : (b c : List ℕ) → Octets b → Octets c → validAnswer limits b ≡ true → validAnswer limits c ≡ true → contentOf b ≡ contentOf c → b ≡ c
   pub run : (b l : List ℕ) → Octets b → NoneHolds (runConditions b l) → RunLeaves b l

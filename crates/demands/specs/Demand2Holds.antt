@@ -28,7 +28,7 @@ use Rattle.matrix.specs.Commands.{Raw, ruleOf, decode}
 use Rattle.matrix.specs.Bytes.{bytesOfNumber, joined}
 use Rattle.matrix.specs.Step.{walkLinks, refusal, links, next}
 use Rattle.matrix.specs.declared.Shape.{Shape}
-use Rattle.matrix.specs.Shape.{shapeOf, basicsOf, bitsOf, columns, cellPlace}
+use Rattle.matrix.specs.Shape.{limits, shapeOf, basicsOf, bitsOf, columns, cellPlace}
 use Rattle.matrix.specs.Shaped.{Octets}
 use Rattle.matrix.specs.Reading.{Content, stateOf, content, contentOf, header, rowOf, cellAt, cellOf, bytesOf}
 use Rattle.matrix.specs.Record.{recordRefusal}
@@ -53,18 +53,18 @@ use Rattle.demands.specs.Demand2.{cellBytes, Unnamed, NextRight, Allowed
 
 -- ---- records and what they hold
 
-passes : (b : List ℕ) → validAnswer b ≡ true → recordRefusal b ≡ 0
+passes : (b : List ℕ) → validAnswer limits b ≡ true → recordRefusal limits b ≡ 0
 unfolding validAnswer
-passes b h = eqb-true (recordRefusal b) 0 h
+passes b h = eqb-true (recordRefusal limits b) 0 h
 
-valid-so : (b : List ℕ) → recordRefusal b ≡ 0 → validAnswer b ≡ true
+valid-so : (b : List ℕ) → recordRefusal limits b ≡ 0 → validAnswer limits b ≡ true
 unfolding validAnswer
-valid-so b h = eq-eqb (recordRefusal b) 0 h
+valid-so b h = eq-eqb (recordRefusal limits b) 0 h
 
-written-same : (b : List ℕ) → Octets b → validAnswer b ≡ true → bytesOf (contentOf b) ≡ b
+written-same : (b : List ℕ) → Octets b → validAnswer limits b ≡ true → bytesOf (contentOf b) ≡ b
 written-same b octets valid = read-write b (record-shaped b (passes b valid)) octets
 
-read-same : (b c : List ℕ) → Octets b → Octets c → validAnswer b ≡ true → validAnswer c ≡ true → contentOf b ≡ contentOf c → b ≡ c
+read-same : (b c : List ℕ) → Octets b → Octets c → validAnswer limits b ≡ true → validAnswer limits c ≡ true → contentOf b ≡ contentOf c → b ≡ c
 read-same b c o p v w e = sym (written-same b o v) ∙ ap bytesOf e ∙ written-same c p w
 
 -- the bytes of a cell that a record holds, and those before the first cell
@@ -95,28 +95,28 @@ module _ (b : List ℕ) (c : Fields) where
   S = stateOf b
 
   -- the value of the answer
-  value-is : linksFor b c ≡ cond (eqb (recordRefusal b) 0) (linksOn f S c) 0
+  value-is : linksFor b c ≡ cond (eqb (recordRefusal limits b) 0) (linksOn f S c) 0
   unfolding commandResult
-  value-is = ap (λ (r : Numbers). r .value) (command-numbers b c refl) ∙ picked (eqb (recordRefusal b) 0)
+  value-is = ap (λ (r : Numbers). r .value) (command-numbers b c refl) ∙ picked (eqb (recordRefusal limits b) 0)
     where
-      picked : (t : Bool) → cond t (numbers (refusalOn f S c) (linksOn f S c)) (numbers (recordRefusal b) 0) .value ≡ cond t (linksOn f S c) 0
+      picked : (t : Bool) → cond t (numbers (refusalOn f S c) (linksOn f S c)) (numbers (recordRefusal limits b) 0) .value ≡ cond t (linksOn f S c) 0
       picked true = refl
       picked false = refl
 
-  module _ (followed : ℕ) (e : commandAnswer b c ≡ Accepted followed) where
-    none : cond (eqb (recordRefusal b) 0) (refusalOn f S c) (recordRefusal b) ≡ 0
+  module _ (followed : ℕ) (e : commandAnswer limits b c ≡ Accepted followed) where
+    none : cond (eqb (recordRefusal limits b) 0) (refusalOn f S c) (recordRefusal limits b) ≡ 0
     none = sym (command-number b c) ∙ ap (λ (r : Answer). commandNumbers r .refusal) e
 
-    record-passes : recordRefusal b ≡ 0
+    record-passes : recordRefusal limits b ≡ 0
     record-passes =
-        ⊎-elim (λ t. eqb-true (recordRefusal b) 0 t) (λ t. let z : recordRefusal b ≡ 0 = rw t at none in z) (way (eqb (recordRefusal b) 0))
+        ⊎-elim (λ t. eqb-true (recordRefusal limits b) 0 t) (λ t. let z : recordRefusal limits b ≡ 0 = rw t at none in z) (way (eqb (recordRefusal limits b) 0))
 
     taken : refusalOn f S c ≡ 0
     taken = rw record-passes at none
 
     followed-is : linksOn f S c ≡ followed
     followed-is =
-        let v : cond (eqb (recordRefusal b) 0) (linksOn f S c) 0 ≡ followed = sym value-is ∙ ap (λ (r : Answer). commandNumbers r .value) e in
+        let v : cond (eqb (recordRefusal limits b) 0) (linksOn f S c) 0 ≡ followed = sym value-is ∙ ap (λ (r : Answer). commandNumbers r .value) e in
         rw record-passes at v
 
     m : Content
@@ -126,7 +126,7 @@ module _ (b : List ℕ) (c : Fields) where
     unfolding m
     sound = sound-next (contentOf b) (sound-record b record-passes) c
 
-    bytes-are : commandBytes b c ≡ bytesOf m
+    bytes-are : commandBytes limits b c ≡ bytesOf m
     unfolding commandBytes m
     bytes-are = rw (record-passes, taken) refl
 
@@ -134,7 +134,7 @@ module _ (b : List ℕ) (c : Fields) where
     unfolding m nextOn
     next-right octets =
         record {
-          valid = ap validAnswer bytes-are ∙ valid-so (bytesOf m) (bytes-pass m sound);
+          valid = ap (validAnswer limits) bytes-are ∙ valid-so (bytesOf m) (bytes-pass m sound);
           octets = subst Octets (sym bytes-are) (bytes-octets m sound);
           shape = ap shapeOf bytes-are ∙ held-shape m sound;
           state = ap stateOf bytes-are ∙ ap (λ (r : Content). r .state) (content-read m sound);
@@ -155,7 +155,7 @@ module _ (b : List ℕ) (c : Fields) where
             fromBits-same (bitsOf f) (λ j. has (nextOn f S c) (rightOf j) r (nameOf (f .n) d)) (λ j. has S (rightOf j) r (nameOf (f .n) d))
             (λ j l. untouched-next (basicsOf f) (namesFit f c) S (rawOf f c) (rightOf j) r (nameOf (f .n) d) (unnamed (rightOf j)))
 
-  accepted-so : recordRefusal b ≡ 0 → refusalOn f S c ≡ 0 → commandAnswer b c ≡ Accepted (linksOn f S c)
+  accepted-so : recordRefusal limits b ≡ 0 → refusalOn f S c ≡ 0 → commandAnswer limits b c ≡ Accepted (linksOn f S c)
   unfolding commandAnswer
   accepted-so valid allowed = rw (valid, allowed) refl
 
@@ -165,7 +165,7 @@ cond-few : (t : Bool) (m n : ℕ) → (t ≡ true → m ≤ n) → cond t m 0 �
 cond-few true m n h = h refl
 cond-few false m n h = omega arith
 
-walk-few : (b : List ℕ) → recordRefusal b ≡ 0 → (c : Command) (a : Act) → walkLinks (stateOf b) c a ≤ shapeOf b .n - 1
+walk-few : (b : List ℕ) → recordRefusal limits b ≡ 0 → (c : Command) (a : Act) → walkLinks (stateOf b) c a ≤ shapeOf b .n - 1
 walk-few b h c (Transfer Own) =
     cond-few (isSubject (c .o)) _ (shapeOf b .n - 1)
     (λ _. let l : linksOf (walk (stateOf b) (c .s) (c .o)) < shapeOf b .n = record-links b h (c .s) (c .o) in omega arith)
@@ -182,8 +182,8 @@ links-few : (b : List ℕ) (c : Fields) → linksFor b c ≤ shapeOf b .n - 1
 unfolding linksOn links
 links-few b c =
     subst (λ (k : ℕ). k ≤ shapeOf b .n - 1) (sym (value-is b c))
-    (cond-few (eqb (recordRefusal b) 0) _ (shapeOf b .n - 1)
-    (λ t. cond-few (eqb number 0 || eqb number 13) _ (shapeOf b .n - 1) (λ u. walk-few b (eqb-true (recordRefusal b) 0 t) (decode (rawOf (shapeOf b) c)) (decode (rawOf (shapeOf b) c) .act))))
+    (cond-few (eqb (recordRefusal limits b) 0) _ (shapeOf b .n - 1)
+    (λ t. cond-few (eqb number 0 || eqb number 13) _ (shapeOf b .n - 1) (λ u. walk-few b (eqb-true (recordRefusal limits b) 0 t) (decode (rawOf (shapeOf b) c)) (decode (rawOf (shapeOf b) c) .act))))
   where
     number : ℕ
     number = refusal (basicsOf (shapeOf b)) (namesFit (shapeOf b) c) (stateOf b) (rawOf (shapeOf b) c)
@@ -197,11 +197,11 @@ module _ (b : List ℕ) (c : Fields) where
   raw = rawOf (shapeOf b) c
 
   -- where the record passes, the number is the command's
-  number-is : recordRefusal b ≡ 0 → refusalFor b c ≡ refusal (basicsOf (shapeOf b)) (namesFit (shapeOf b) c) (stateOf b) raw
+  number-is : recordRefusal limits b ≡ 0 → refusalFor b c ≡ refusal (basicsOf (shapeOf b)) (namesFit (shapeOf b) c) (stateOf b) raw
   unfolding refusalOn
   number-is h = command-number b c ∙ rw h refl
 
-  walked : validAnswer b ≡ true → c .code ≡ 3 → c .o < shapeOf b .n → (refusalFor b c ≡ 0) ⊎ (refusalFor b c ≡ 13)
+  walked : validAnswer limits b ≡ true → c .code ≡ 3 → c .o < shapeOf b .n → (refusalFor b c ≡ 0) ⊎ (refusalFor b c ≡ 13)
       → linksFor b c ≡ linksOf (walk (stateOf b) (c .s) (Subject (c .o)))
   unfolding linksOn links
   walked valid three subject number =
@@ -215,9 +215,9 @@ module _ (b : List ℕ) (c : Fields) where
       linked-over x = cond (isSubject x) (linksOf (walk (stateOf b) (c .s) x)) 0
 
   -- no links where the command's are none on every record that passes
-  none-linked : (recordRefusal b ≡ 0 → links (basicsOf (shapeOf b)) (namesFit (shapeOf b) c) (stateOf b) raw ≡ 0) → linksFor b c ≡ 0
+  none-linked : (recordRefusal limits b ≡ 0 → links (basicsOf (shapeOf b)) (namesFit (shapeOf b) c) (stateOf b) raw ≡ 0) → linksFor b c ≡ 0
   unfolding linksOn
-  none-linked none = value-is b c ∙ ⊎-elim (λ t. rw t (none (eqb-true (recordRefusal b) 0 t))) (λ t. rw t refl) (way (eqb (recordRefusal b) 0))
+  none-linked none = value-is b c ∙ ⊎-elim (λ t. rw t (none (eqb-true (recordRefusal limits b) 0 t))) (λ t. rw t refl) (way (eqb (recordRefusal limits b) 0))
 
   silent : (c .code ≢ 3) ⊎ ((refusalFor b c ≢ 0) × (refusalFor b c ≢ 13)) → linksFor b c ≡ 0
   silent (inl other) = none-linked (λ z. links-only-three (basicsOf (shapeOf b)) (namesFit (shapeOf b) c) (stateOf b) raw other)
@@ -233,7 +233,7 @@ module _ (b : List ℕ) (c : Fields) where
 run-read : (b l : List ℕ) → Octets b → NoneHolds (runConditions b l) → RunLeaves b l
 unfolding runBytes
 run-read b l octets h =
-    let passed : runRefusal b l ≡ 0 = run-numbered b l .answered .1 h in
+    let passed : runRefusal limits b l ≡ 0 = run-numbered b l .answered .1 h in
     let before = sound-record b (run-valid b l passed) in
     let m : Content = content (shapeOf b) (ranOn b l .state) in
     let sound : Sound m = sound-run b l before in
@@ -245,7 +245,7 @@ run-read b l octets h =
 
 -- ---- the demand
 
-allowed : (b : List ℕ) (c : Fields) (followed : ℕ) → (commandAnswer b c ≡ Accepted followed) ↔ Allowed b c followed
+allowed : (b : List ℕ) (c : Fields) (followed : ℕ) → (commandAnswer limits b c ≡ Accepted followed) ↔ Allowed b c followed
 unfolding refusalOn linksOn
 allowed b c followed = (
   λ e. record { valid = valid-so b (record-passes b c followed e); accepted = taken b c followed e; walked = followed-is b c followed e },

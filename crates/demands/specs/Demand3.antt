@@ -5,7 +5,7 @@ use mathlib.Core.Logic.{_≢_, _↔_}
 use mathlib.Core.List.{List}
 use lib.ListN.{length, take, drop}
 use Rattle.matrix.specs.declared.Holding.{Holding}
-use Rattle.matrix.specs.Shape.{shapeOf}
+use Rattle.matrix.specs.Shape.{limits, shapeOf}
 use Rattle.matrix.specs.CommandList.{commandsOf}
 use Rattle.matrix.specs.Calls.{heldAnswer, runAnswer, runBytes}
 use Rattle.question.specs.declared.Safety.{Safety}
@@ -22,10 +22,10 @@ listIn commands out = take (listRoom commands) out
 -- What holds of the answer "leaks" by N commands: the list that was written, handed to the run on that record, is accepted whole; untrusted
 -- subjects alone begin its commands; there are at most n + 2; after it the held question answers yes; and later bytes are as they were.
 pub record LeaksRight (b : List ℕ) (mask s o right : ℕ) (out out′ : List ℕ) (commands : ℕ) : Type 0 where
-  pub run : runAnswer b (listIn commands out′) ≡ record { accepted = commands; refusal = 0 }
+  pub run : runAnswer limits b (listIn commands out′) ≡ record { accepted = commands; refusal = 0 }
   pub begun : Untrusted (trustedBy mask) (commandsOf (listIn commands out′))
   pub few : commands ≤ shapeOf b .n + 2
-  pub held : heldAnswer (runBytes b (listIn commands out′)) s o right ≡ Holding.Yes
+  pub held : heldAnswer limits (runBytes limits b (listIn commands out′)) s o right ≡ Holding.Yes
   pub later : drop (listRoom commands) out′ ≡ drop (listRoom commands) out
 
 -- the answer is "leaks", by a list that does
@@ -40,5 +40,5 @@ pub record Decides (b : List ℕ) (mask s o right : ℕ) (out out′ : List ℕ)
   pub leaks : r ≢ Safety.Safe → Leaks b mask s o right out out′ r
 
 pub record Demand3 : Type 0 where
-  pub decides : (b : List ℕ) (mask s o right : ℕ) (out out′ : List ℕ) (r : Safety) → Answers b mask s o right out out′ r
+  pub decides : (b : List ℕ) (mask s o right : ℕ) (out out′ : List ℕ) (r : Safety) → Answers limits b mask s o right out out′ r
       → NoneHolds (safetyConditions b mask s o right (length out)) → Decides b mask s o right out out′ r

@@ -10,7 +10,7 @@ use Rattle.matrix.specs.Names.{nameOf}
 use Rattle.matrix.specs.Rights.{rightOf}
 use Rattle.matrix.specs.State.{held}
 use Rattle.matrix.specs.Tests.{firstFailed}
-use Rattle.matrix.specs.Shape.{shapeOf}
+use Rattle.matrix.specs.Shape.{limits, shapeOf}
 use Rattle.matrix.specs.Reading.{Content, content, contentOf, bytesOf}
 use Rattle.matrix.specs.Record.{recordRefusal}
 use Rattle.matrix.specs.CommandList.{wellFormed}
@@ -33,16 +33,16 @@ isSafe (Safety.Refused k) = false
 
 -- a record that holds a valid state, asked whether a right is held that its state has
 held-yes : (m : Content) (s o right : ℕ) → Sound m → questionFits (m .shape) s o right ≡ true
-    → held (m .state) (rightOf right) s (nameOf (m .shape .n) o) ≡ true → heldAnswer (bytesOf m) s o right ≡ Holding.Yes
+    → held (m .state) (rightOf right) s (nameOf (m .shape .n) o) ≡ true → heldAnswer limits (bytesOf m) s o right ≡ Holding.Yes
 unfolding heldAnswer heldRefusal firstFailed
 held-yes m s o right sound fits has =
-    let pass : recordRefusal (bytesOf m) ≡ 0 = bytes-pass m sound in
+    let pass : recordRefusal limits (bytesOf m) ≡ 0 = bytes-pass m sound in
     let read : contentOf (bytesOf m) ≡ m = content-read m sound in
     let fit : questionFits (shapeOf (bytesOf m)) s o right ≡ true = ap (λ (c : Content). questionFits (c .shape) s o right) read ∙ fits in
     let yes = ap (λ (c : Content). held (c .state) (rightOf right) s (nameOf (c .shape .n) o)) read ∙ has in
     rw (pass, fit, yes) refl
 
-module _ (b : List ℕ) (mask s o right : ℕ) (out out′ : List ℕ) (r : Safety) (answers : Answers b mask s o right out out′ r) (none : NoneHolds (safetyConditions b mask s o right (length out))) where
+module _ (b : List ℕ) (mask s o right : ℕ) (out out′ : List ℕ) (r : Safety) (answers : Answers limits b mask s o right out out′ r) (none : NoneHolds (safetyConditions b mask s o right (length out))) where
   abbrev later : List Condition
   later =
       condition 7 ((questionFits (shapeOf b) s o right && trustFits (shapeOf b) mask) ≡ false) ∷
@@ -64,15 +64,15 @@ module _ (b : List ℕ) (mask s o right : ℕ) (out out′ : List ℕ) (r : Safe
     l : List ℕ
     l = listIn commands out′
 
-    run-passes : runRefusal b l ≡ 0
+    run-passes : runRefusal limits b l ≡ 0
     unfolding l
     run-passes = run-numbered b l .answered .1 (none-both (recordConditions b) (condition 16 (wellFormed l ≡ false) ∷ []) of-record (λ e. clash (w .formed) e, tt))
 
-    run-whole : runAnswer b l ≡ record { accepted = commands; refusal = 0 }
+    run-whole : runAnswer limits b l ≡ record { accepted = commands; refusal = 0 }
     unfolding l runAnswer
     run-whole = rw run-passes (λ i. record { accepted = (w .leaks .whole ∙ w .number) i; refusal = w .leaks .accepted i })
 
-    run-leaves : runBytes b l ≡ bytesOf (content (shapeOf b) (ranOn b l .state))
+    run-leaves : runBytes limits b l ≡ bytesOf (content (shapeOf b) (ranOn b l .state))
     unfolding runBytes
     run-leaves = rw run-passes refl
 
@@ -83,7 +83,7 @@ module _ (b : List ℕ) (mask s o right : ℕ) (out out′ : List ℕ) (r : Safe
           run = run-whole;
           begun = w .leaks .begun;
           few = subst (λ (k : ℕ). k ≤ shapeOf b .n + 2) (w .number) (w .leaks .few);
-          held = ap (λ (x : List ℕ). heldAnswer x s o right) run-leaves ∙ held-yes (content (shapeOf b) (ranOn b l .state)) s o right (sound-run b l before) fits (w .leaks .reached);
+          held = ap (λ (x : List ℕ). heldAnswer limits x s o right) run-leaves ∙ held-yes (content (shapeOf b) (ranOn b l .state)) s o right (sound-run b l before) fits (w .leaks .reached);
           later = w .later;
         }
 

@@ -8,6 +8,7 @@ use Rattle.matrix.specs.declared.Fields.{Fields}
 use Rattle.matrix.specs.declared.Outcome.{Outcome}
 use Rattle.matrix.specs.Numbers.{commandNumbers}
 use Rattle.matrix.specs.Bytes.{setNumber}
+use Rattle.matrix.specs.Shape.{limits}
 use Rattle.matrix.specs.CommandList.{recordBytes, commandPlace}
 use Rattle.matrix.specs.Calls.{commandAnswer, commandBytes}
 
@@ -21,11 +22,11 @@ ended accepted refusal bytes = record { outcome = record { accepted = accepted; 
 
 -- the number that the command call refuses with, 0 where it accepts
 abbrev pub refusalNumber : List ℕ → Fields → ℕ
-refusalNumber b c = commandNumbers (commandAnswer b c) .refusal
+refusalNumber b c = commandNumbers (commandAnswer limits b c) .refusal
 
 unfoldable pub inTurn : ℕ → List ℕ → List Fields → Ended
 inTurn accepted b [] = ended accepted 0 b
-inTurn accepted b (c ∷ cs) = cond (eqb (refusalNumber b c) 0) (inTurn (accepted + 1) (commandBytes b c) cs) (ended accepted (refusalNumber b c) b)
+inTurn accepted b (c ∷ cs) = cond (eqb (refusalNumber b c) 0) (inTurn (accepted + 1) (commandBytes limits b c) cs) (ended accepted (refusalNumber b c) b)
 
 -- the list of the first m commands of l: its L says so many, and it ends after them
 abbrev pub firstCommands : ℕ → List ℕ → List ℕ

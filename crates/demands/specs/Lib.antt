@@ -19,3 +19,5 @@ pub mod Demand2
 pub mod Demand2Holds
 pub mod Demand3
 pub mod Demand3Holds
+pub mod Limits
+pub mod LimitsHold

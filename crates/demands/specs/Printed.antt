@@ -1,6 +1,7 @@
 -- The conditions of the refusals as the manual prints them (Manual 7), each with its number, and the conditions of each call in their order.
 use Prim.Native.Nat.{ℕ, _+_, _<_}
 use mathlib.Core.Path.{_≡_}
+use mathlib.Core.Logic.{_⊎_}
 use mathlib.Core.Bool.{Bool, true, false, cond, not, _&&_, _||_}
 use mathlib.Core.List.{List, [], _∷_, _++_}
 use lib.Dec.{eqb, ltb}
@@ -16,19 +17,23 @@ use Rattle.matrix.specs.Valid.{Valid}
 use Rattle.matrix.specs.Commands.{known}
 use Rattle.matrix.specs.Tests.{otherController}
 use Rattle.matrix.specs.declared.Shape.{Shape}
-use Rattle.matrix.specs.Shape.{shapeOf, headerBytes, knownVersion, inRange, sized, basicsOf}
+use Rattle.matrix.specs.Shape.{shapeOf, headerBytes, knownVersion, sized, basicsOf}
 use Rattle.matrix.specs.Reading.{stateOf}
 use Rattle.matrix.specs.CommandList.{wellFormed}
 use Rattle.matrix.specs.Calls.{questionFits, namesFit}
 use Rattle.question.specs.Asked.{trustFits, listRoom}
 use Rattle.demands.specs.First.{Condition, condition}
 
+-- 3: n is 0 or above the most subject names, or p is above the most plain names
+abbrev pub OutOfRange : Shape → Type 0
+OutOfRange f = (f .n ≡ 0) ⊎ (64 < f .n) ⊎ (192 < f .p)
+
 -- 1 to 5: the record is too short; its version is unknown; n or p is out of range; L or the length is wrong; the matrix is not valid
 abbrev pub recordConditions : List ℕ → List Condition
 recordConditions b =
     condition 1 (length b < headerBytes) ∷
     condition 2 (knownVersion (shapeOf b .version) ≡ false) ∷
-    condition 3 (inRange (shapeOf b) ≡ false) ∷
+    condition 3 (OutOfRange (shapeOf b)) ∷
     condition 4 (sized b ≡ false) ∷
     condition 5 (Valid (stateOf b) → ⊥) ∷ []
 

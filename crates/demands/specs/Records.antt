@@ -9,7 +9,7 @@ use Rattle.matrix.specs.declared.Fields.{Fields}
 use Rattle.matrix.specs.declared.Answer.{Answer}
 use Rattle.matrix.specs.Step.{answer}
 use Rattle.matrix.specs.Valid.{Valid}
-use Rattle.matrix.specs.Shape.{shapeOf, widthOf}
+use Rattle.matrix.specs.Shape.{limits, shapeOf, widthOf}
 use Rattle.matrix.specs.Shaped.{Within, Octets}
 use Rattle.matrix.specs.Reading.{Content, stateOf, content, contentOf, bytesOf}
 use Rattle.matrix.specs.Record.{recordRefusal}
@@ -28,7 +28,7 @@ pub record Sound (m : Content) : Type 0 where
   pub valid : Valid (m .state)
   pub within : Within (m .shape) (m .state)
 
-pub sound-record : (b : List ℕ) → recordRefusal b ≡ 0 → Sound (contentOf b)
+pub sound-record : (b : List ℕ) → recordRefusal limits b ≡ 0 → Sound (contentOf b)
 sound-record b h = record { shape = shape-right b (record-shaped b h); valid = valid-record b h; within = within-read b }
 
 module _ (m : Content) (sound : Sound m) where
@@ -37,7 +37,7 @@ module _ (m : Content) (sound : Sound m) where
   content-read = λ i. content (shape-write (m .shape) (m .state) (sound .shape) i) (write-read (m .shape) (m .state) (sound .shape) (sound .within) i)
 
   -- and is not turned down
-  pub bytes-pass : recordRefusal (bytesOf m) ≡ 0
+  pub bytes-pass : recordRefusal limits (bytesOf m) ≡ 0
   bytes-pass =
       record-valid (bytesOf m) (shaped-write (m .shape) (m .state) (sound .shape))
       (subst Valid (sym (ap (λ (c : Content). c .state) content-read)) (sound .valid))
@@ -47,13 +47,13 @@ module _ (m : Content) (sound : Sound m) where
 
   module _ (c : Fields) where
     -- a command on it
-    pub written-answer : commandAnswer (bytesOf m) c ≡ answer (refusalOn (m .shape) (m .state) c) (linksOn (m .shape) (m .state) c)
+    pub written-answer : commandAnswer limits (bytesOf m) c ≡ answer (refusalOn (m .shape) (m .state) c) (linksOn (m .shape) (m .state) c)
     unfolding commandAnswer
     written-answer =
         ap (λ (k : ℕ). cond (eqb k 0) (answer (refusalOn (shapeOf (bytesOf m)) (stateOf (bytesOf m)) c) (linksOn (shapeOf (bytesOf m)) (stateOf (bytesOf m)) c)) (Answer.Refused k 0)) bytes-pass
         ∙ ap (λ (r : Content). answer (refusalOn (r .shape) (r .state) c) (linksOn (r .shape) (r .state) c)) content-read
 
-    pub written-bytes : commandBytes (bytesOf m) c ≡ cond (eqb (refusalOn (m .shape) (m .state) c) 0) (bytesOf (content (m .shape) (nextOn (m .shape) (m .state) c))) (bytesOf m)
+    pub written-bytes : commandBytes limits (bytesOf m) c ≡ cond (eqb (refusalOn (m .shape) (m .state) c) 0) (bytesOf (content (m .shape) (nextOn (m .shape) (m .state) c))) (bytesOf m)
     unfolding commandBytes
     written-bytes =
         ap (λ (k : ℕ). cond (eqb k 0 && eqb (refusalOn (shapeOf (bytesOf m)) (stateOf (bytesOf m)) c) 0) (bytesOf (content (shapeOf (bytesOf m)) (nextOn (shapeOf (bytesOf m)) (stateOf (bytesOf m)) c))) (bytesOf m)) bytes-pass

@@ -1,8 +1,8 @@
 -- The numbers that the definitions of the calls give are those of the printed conditions, the first that holds.
-use Prim.Native.Nat.{ℕ, _+_, _<_}
+use Prim.Native.Nat.{ℕ, _+_, _<_, _≤_}
 use native.Mathlib.Omega.{arith}
 use mathlib.Core.Path.{_≡_, refl, sym, _∙_, ap, subst}
-use mathlib.Core.Logic.{_≢_, ⊎-elim}
+use mathlib.Core.Logic.{_≢_, inl, inr, ⊎-elim}
 use mathlib.Core.Bool.{Bool, true, false, cond, not, _&&_}
 use mathlib.Core.List.{List, [], _∷_, _++_}
 use lib.Dec.{eqb, leb}
@@ -16,12 +16,13 @@ use Rattle.matrix.specs.Commands.{known, ruleOf, fieldsFit, decode}
 use Rattle.matrix.specs.Tests.{Test, test, firstFailed, commandTests}
 use Rattle.matrix.specs.Step.{refusalOf, refusal}
 use Rattle.matrix.specs.declared.Shape.{Shape}
-use Rattle.matrix.specs.Shape.{shapeOf, headerBytes, basicsOf}
+use Rattle.matrix.specs.Shape.{limits, mostSubjects, mostPlain, shapeOf, headerBytes, inRange, basicsOf}
 use Rattle.matrix.specs.Reading.{stateOf}
 use Rattle.matrix.specs.Record.{validMatrix, recordRefusal}
 use Rattle.matrix.specs.CommandList.{wellFormed}
 use Rattle.matrix.specs.Calls.{questionFits, heldRefusal, namesFit, rawOf, refusalOn, runRefusal}
 use Rattle.laws.specs.Tests.{way, clash}
+use Rattle.laws.specs.Range.{Ranged, ranged}
 use Rattle.codec.specs.Columns.{columnOf-nameOf}
 use Rattle.codec.specs.RoundTrip.{within-read}
 use Rattle.owners.specs.Test.{valid-of-test, test-of-valid}
@@ -29,7 +30,7 @@ use Rattle.owners.specs.Read.{recordTests}
 use Rattle.question.specs.Asked.{trustFits, listRoom, safetyRefusal}
 use Rattle.demands.specs.First.{Condition, condition, Numbered}
 use Rattle.demands.specs.FirstLaws.{Against, AllAgainst, numbered, numbered-then}
-use Rattle.demands.specs.Printed.{recordConditions, fieldsRight, commandConditions, heldConditions, runConditions, safetyConditions}
+use Rattle.demands.specs.Printed.{OutOfRange, recordConditions, fieldsRight, commandConditions, heldConditions, runConditions, safetyConditions}
 use Rattle.demands.specs.Codes.{Agrees, agrees}
 
 -- a test, and the condition that it fails
@@ -43,15 +44,44 @@ opposite m t false some e = record { number = refl; some = some; failed = λ h. 
 
 -- ---- 1 to 5
 
-pub record-numbered : (b : List ℕ) → Numbered (recordConditions b) (recordRefusal b)
+-- n and p are tested against the limits: where the test fails one of the three printed cases holds, and where it passes none
+out-of-range : (f : Shape) → inRange limits f ≡ false → OutOfRange f
+out-of-range f h =
+    ⊎-elim (λ l. ⊎-elim (λ u. inr (inr (above l u))) (λ u. inr (inl (over (leb-false (f .n) mostSubjects u)))) (way (leb (f .n) mostSubjects)))
+    (λ l. inl (none (leb-false 1 (f .n) l))) (way (leb 1 (f .n)))
+  where
+    none : f .n < 1 → f .n ≡ 0
+    none l = omega arith
+
+    over : mostSubjects < f .n → 64 < f .n
+    over l = omega arith
+
+    above : leb 1 (f .n) ≡ true → leb (f .n) mostSubjects ≡ true → 192 < f .p
+    above l u =
+        let e : leb (f .p) mostPlain ≡ false = rw (l, u) at h in
+        let g : mostPlain < f .p = leb-false (f .p) mostPlain e in
+        omega arith
+
+within-range : (f : Shape) → inRange limits f ≡ true → OutOfRange f → ⊥
+within-range f h out = let r : Ranged limits f = ranged limits f h in inside (r .low) (r .high) (r .plain) out
+  where
+    inside : 1 ≤ f .n → f .n ≤ mostSubjects → f .p ≤ mostPlain → OutOfRange f → ⊥
+    inside l u v (inl z) = omega arith
+    inside l u v (inr (inl z)) = omega arith
+    inside l u v (inr (inr z)) = omega arith
+
+pub record-numbered : (b : List ℕ) → Numbered (recordConditions b) (recordRefusal limits b)
 unfolding recordRefusal
 record-numbered b =
     numbered (recordTests b) (recordConditions b)
-    (short, λ a. (fails-test 2 _ (omega arith), λ c. (fails-test 3 _ (omega arith), λ d. (fails-test 4 _ (omega arith), λ e. (matrix, λ f. tt)))))
+    (short, λ a. (fails-test 2 _ (omega arith), λ c. (range, λ d. (fails-test 4 _ (omega arith), λ e. (matrix, λ f. tt)))))
   where
     short : Against (test 1 (leb headerBytes (length b))) (condition 1 (length b < headerBytes))
     short =
         record { number = refl; some = omega arith; failed = λ e. leb-false headerBytes (length b) e; passed = λ e h. let l = leb-true headerBytes (length b) e in omega arith }
+
+    range : Against (test 3 (inRange limits (shapeOf b))) (condition 3 (OutOfRange (shapeOf b)))
+    range = record { number = refl; some = omega arith; failed = out-of-range (shapeOf b); passed = λ e. within-range (shapeOf b) e }
 
     matrix : Against (test 5 (validMatrix (shapeOf b) (stateOf b))) (condition 5 (Valid (stateOf b) → ⊥))
     matrix =
@@ -123,18 +153,18 @@ module _ (f : Shape) (S : State) (c : Fields) where
 
 module _ (b : List ℕ) where
   -- 1 to 5, then what else a call tests
-  pub then-numbered : (ds : List Condition) (m : ℕ) → Numbered ds m → Numbered (recordConditions b ++ ds) (cond (eqb (recordRefusal b) 0) m (recordRefusal b))
+  pub then-numbered : (ds : List Condition) (m : ℕ) → Numbered ds m → Numbered (recordConditions b ++ ds) (cond (eqb (recordRefusal limits b) 0) m (recordRefusal limits b))
   then-numbered ds m n = numbered-then (recordConditions b) ds (record-numbered b) (λ e. n)
 
-  pub held-numbered : (s o right : ℕ) → Numbered (heldConditions b s o right) (heldRefusal b s o right)
+  pub held-numbered : (s o right : ℕ) → Numbered (heldConditions b s o right) (heldRefusal limits b s o right)
   unfolding heldRefusal firstFailed
   held-numbered s o right = then-numbered _ _ (numbered (test 7 (questionFits (shapeOf b) s o right) ∷ []) _ (fails-test 7 _ (omega arith), λ e. tt))
 
-  pub run-numbered : (l : List ℕ) → Numbered (runConditions b l) (runRefusal b l)
+  pub run-numbered : (l : List ℕ) → Numbered (runConditions b l) (runRefusal limits b l)
   unfolding runRefusal firstFailed
   run-numbered l = then-numbered _ _ (numbered (test 16 (wellFormed l) ∷ []) _ (fails-test 16 _ (omega arith), λ e. tt))
 
-  pub safety-numbered : (mask s o right room : ℕ) → Numbered (safetyConditions b mask s o right room) (safetyRefusal b mask s o right room)
+  pub safety-numbered : (mask s o right room : ℕ) → Numbered (safetyConditions b mask s o right room) (safetyRefusal limits b mask s o right room)
   unfolding safetyRefusal firstFailed
   safety-numbered mask s o right room =
       then-numbered _ _

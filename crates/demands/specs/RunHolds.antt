@@ -14,7 +14,7 @@ use Rattle.matrix.specs.declared.Outcome.{Outcome}
 use Rattle.matrix.specs.Numbers.{runNumbers}
 use Rattle.matrix.specs.State.{State}
 use Rattle.matrix.specs.declared.Shape.{Shape}
-use Rattle.matrix.specs.Shape.{shapeOf}
+use Rattle.matrix.specs.Shape.{limits, shapeOf}
 use Rattle.matrix.specs.Shaped.{Octets}
 use Rattle.matrix.specs.Reading.{stateOf}
 use Rattle.matrix.specs.CommandList.{commandPlace, commandsIn, wellFormed, fieldsAt, commandsOf}
@@ -55,19 +55,19 @@ module _ (b l : List ℕ) where
   turned : (number : ℕ) → number ≢ 0 → First (runConditions b l) number → TurnedDown b l number
   unfolding runAnswer runBytes
   turned number some h =
-      let e : runRefusal b l ≡ number = run-numbered b l .refused number some .1 h in
+      let e : runRefusal limits b l ≡ number = run-numbered b l .refused number some .1 h in
       let n : eqb number 0 ≡ false = ne-eqb number 0 some in
       rw (e, n) (refl, refl)
 
-  by-command : NoneHolds (runConditions b l) → Among (runNumbers (runAnswer b l) .refusal) (0 ∷ ofCommand)
+  by-command : NoneHolds (runConditions b l) → Among (runNumbers (runAnswer limits b l) .refusal) (0 ∷ ofCommand)
   unfolding runAnswer
-  by-command none = let e : runRefusal b l ≡ 0 = run-numbered b l .answered .1 none in rw e (ran-among 0 (shapeOf b) (stateOf b) (commandsOf l))
+  by-command none = let e : runRefusal limits b l ≡ 0 = run-numbered b l .answered .1 none in rw e (ran-among 0 (shapeOf b) (stateOf b) (commandsOf l))
 
-  only : Among (runNumbers (runAnswer b l) .refusal) (0 ∷ ofRun)
+  only : Among (runNumbers (runAnswer limits b l) .refusal) (0 ∷ ofRun)
   unfolding runAnswer
   only =
       ⊎-elim (λ e. rw e (wider (ranOn b l .refusal) (ran-among 0 (shapeOf b) (stateOf b) (commandsOf l))))
-      (λ e. rw e (widest (runRefusal b l) (numbered-among (runConditions b l) (run-numbered b l)))) (way (eqb (runRefusal b l) 0))
+      (λ e. rw e (widest (runRefusal limits b l) (numbered-among (runConditions b l) (run-numbered b l)))) (way (eqb (runRefusal limits b l) 0))
     where
       wider : (m : ℕ) → Among m (0 ∷ ofCommand) → Among m (0 ∷ ofRun)
       wider m (inl e) = inl e
@@ -78,7 +78,7 @@ module _ (b l : List ℕ) where
       widest m (inr h) = inr (among-outside m ofRecord ofCommand (16 ∷ []) h)
 
   module _ (octets : Octets b) (none : NoneHolds (runConditions b l)) where
-    passes : runRefusal b l ≡ 0
+    passes : runRefusal limits b l ≡ 0
     passes = run-numbered b l .answered .1 none
 
     right : wellFormed l ≡ true
@@ -87,10 +87,10 @@ module _ (b l : List ℕ) where
     abbrev T : Ended
     T = inTurn 0 b (commandsOf l)
 
-    answer-is : runAnswer b l ≡ T .outcome
+    answer-is : runAnswer limits b l ≡ T .outcome
     answer-is = run-turns b l octets passes
 
-    bytes-are : runBytes b l ≡ T .bytes
+    bytes-are : runBytes limits b l ≡ T .bytes
     bytes-are = bytes-turns b l octets passes
 
     module _ (s : Stopped 0 b (commandsOf l) T) where
@@ -111,7 +111,7 @@ module _ (b l : List ℕ) where
       abbrev cut : List ℕ
       cut = firstCommands m l
 
-      cut-passes : runRefusal b cut ≡ 0
+      cut-passes : runRefusal limits b cut ≡ 0
       cut-passes =
           run-numbered b cut .answered .1
           (none-both (recordConditions b) (condition 16 (wellFormed cut ≡ false) ∷ []) (none-before (recordConditions b) ofList none) (λ e. clash (cut-formed l right m few) e, tt))
@@ -138,7 +138,7 @@ module _ (b l : List ℕ) where
           here : Fields
           here = fieldsAt l 0
 
-    ended-so : runNumbers (runAnswer b l) .refusal ≢ 0 → StoppedAfter b l (runAnswer b l .accepted)
+    ended-so : runNumbers (runAnswer limits b l) .refusal ≢ 0 → StoppedAfter b l (runAnswer limits b l .accepted)
     ended-so some =
         let s = stopped 0 b (commandsOf l) (λ e. some (ap (λ (o : Outcome). o .refusal) answer-is ∙ e)) in
         subst (StoppedAfter b l) (sym (ap (λ (o : Outcome). o .accepted) answer-is ∙ number-of s)) (after s)

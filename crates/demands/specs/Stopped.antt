@@ -9,6 +9,7 @@ use mathlib.Core.List.{List, [], _∷_}
 use lib.Dec.{eqb}
 use lib.ListN.{length, getD, take}
 use Rattle.matrix.specs.declared.Fields.{Fields}
+use Rattle.matrix.specs.Shape.{limits}
 use Rattle.matrix.specs.CommandList.{commandPlace, fieldsAt, commandsFrom}
 use Rattle.matrix.specs.Calls.{commandBytes}
 use Rattle.laws.specs.Tests.{way}
@@ -29,7 +30,7 @@ at-once j b c cs =
     record { done = 0; within = omega arith; accepted = sym (add-zero j); before = ap (λ (m : ℕ). ended m 0 b) (sym (add-zero j)); refused = λ d. refl }
 
 -- it is accepted, and a later one is refused
-later : (j : ℕ) (b : List ℕ) (c : Fields) (cs : List Fields) (e : Ended) → eqb (refusalNumber b c) 0 ≡ true → Stopped (j + 1) (commandBytes b c) cs e → Stopped j b (c ∷ cs) e
+later : (j : ℕ) (b : List ℕ) (c : Fields) (cs : List Fields) (e : Ended) → eqb (refusalNumber b c) 0 ≡ true → Stopped (j + 1) (commandBytes limits b c) cs e → Stopped j b (c ∷ cs) e
 unfolding inTurn
 later j b c cs e t s =
     record {
@@ -37,7 +38,7 @@ later j b c cs e t s =
       within = let w = s .within in omega arith;
       accepted = s .accepted ∙ omega arith;
       before =
-          ap (λ (t : Bool). cond t (inTurn (j + 1) (commandBytes b c) (take (s .done) cs)) (ended j (refusalNumber b c) b)) t
+          ap (λ (t : Bool). cond t (inTurn (j + 1) (commandBytes limits b c) (take (s .done) cs)) (ended j (refusalNumber b c) b)) t
           ∙ s .before ∙ ap (λ (m : ℕ). ended m 0 (e .bytes)) (omega arith);
       refused = s .refused;
     }
@@ -46,7 +47,7 @@ pub stopped : (j : ℕ) (b : List ℕ) (cs : List Fields) → inTurn j b cs .out
 unfolding inTurn
 stopped j b [] h = absurd (h refl)
 stopped j b (c ∷ cs) h =
-    ⊎-elim (λ t. let g : inTurn (j + 1) (commandBytes b c) cs .outcome .refusal ≢ 0 = rw t at h in rw t (later j b c cs (inTurn (j + 1) (commandBytes b c) cs) t (stopped (j + 1) (commandBytes b c) cs g)))
+    ⊎-elim (λ t. let g : inTurn (j + 1) (commandBytes limits b c) cs .outcome .refusal ≢ 0 = rw t at h in rw t (later j b c cs (inTurn (j + 1) (commandBytes limits b c) cs) t (stopped (j + 1) (commandBytes limits b c) cs g)))
     (λ t. rw t (at-once j b c cs)) (way (eqb (refusalNumber b c) 0))
 
 -- the command of a list at a place

@@ -10,7 +10,7 @@ use Rattle.matrix.specs.declared.Answer.{Answer}
 use Rattle.matrix.specs.Numbers.{commandNumbers}
 use Rattle.matrix.specs.State.{State}
 use Rattle.matrix.specs.declared.Shape.{Shape}
-use Rattle.matrix.specs.Shape.{shapeOf}
+use Rattle.matrix.specs.Shape.{limits, shapeOf}
 use Rattle.matrix.specs.Shaped.{Octets}
 use Rattle.matrix.specs.Reading.{Content, stateOf, content, bytesOf}
 use Rattle.matrix.specs.Record.{recordRefusal}
@@ -51,34 +51,34 @@ turns f S sound j (c ∷ cs) = ⊎-elim (accepted (turns f (nextOn f S c) (sound
 
     -- by the number that the definition gives
     chosen : Bool → Ended
-    chosen t = cond t (inTurn (j + 1) (commandBytes b c) cs) (ended j (refusalOn f S c) b)
+    chosen t = cond t (inTurn (j + 1) (commandBytes limits b c) cs) (ended j (refusalOn f S c) b)
 
-    by-number : cond (eqb (refusalNumber b c) 0) (inTurn (j + 1) (commandBytes b c) cs) (ended j (refusalNumber b c) b) ≡ chosen (eqb (refusalOn f S c) 0)
-    by-number = ap (λ (k : ℕ). cond (eqb k 0) (inTurn (j + 1) (commandBytes b c) cs) (ended j k b)) number
+    by-number : cond (eqb (refusalNumber b c) 0) (inTurn (j + 1) (commandBytes limits b c) cs) (ended j (refusalNumber b c) b) ≡ chosen (eqb (refusalOn f S c) 0)
+    by-number = ap (λ (k : ℕ). cond (eqb k 0) (inTurn (j + 1) (commandBytes limits b c) cs) (ended j k b)) number
 
     stopped : Ran
     stopped = record { accepted = j; refusal = refusalOn f S c; state = S }
 
     accepted : inTurn (j + 1) (bytesOf (content f (nextOn f S c))) cs ≡ ran f (runFrom (j + 1) f (nextOn f S c) cs) → eqb (refusalOn f S c) 0 ≡ true
-        → cond (eqb (refusalNumber b c) 0) (inTurn (j + 1) (commandBytes b c) cs) (ended j (refusalNumber b c) b) ≡ ran f (cond (eqb (refusalOn f S c) 0) (runFrom (j + 1) f (nextOn f S c) cs) stopped)
+        → cond (eqb (refusalNumber b c) 0) (inTurn (j + 1) (commandBytes limits b c) cs) (ended j (refusalNumber b c) b) ≡ ran f (cond (eqb (refusalOn f S c) 0) (runFrom (j + 1) f (nextOn f S c) cs) stopped)
     accepted rest e =
-        let next : commandBytes b c ≡ bytesOf (content f (nextOn f S c)) =
+        let next : commandBytes limits b c ≡ bytesOf (content f (nextOn f S c)) =
         written-bytes (content f S) sound c ∙ ap (λ (t : Bool). cond t (bytesOf (content f (nextOn f S c))) b) e in
         by-number ∙ ap chosen e ∙ ap (λ (x : List ℕ). inTurn (j + 1) x cs) next
         ∙ rest
         ∙ sym (ap (λ (t : Bool). ran f (cond t (runFrom (j + 1) f (nextOn f S c) cs) stopped)) e)
 
     refused : eqb (refusalOn f S c) 0 ≡ false
-        → cond (eqb (refusalNumber b c) 0) (inTurn (j + 1) (commandBytes b c) cs) (ended j (refusalNumber b c) b) ≡ ran f (cond (eqb (refusalOn f S c) 0) (runFrom (j + 1) f (nextOn f S c) cs) stopped)
+        → cond (eqb (refusalNumber b c) 0) (inTurn (j + 1) (commandBytes limits b c) cs) (ended j (refusalNumber b c) b) ≡ ran f (cond (eqb (refusalOn f S c) 0) (runFrom (j + 1) f (nextOn f S c) cs) stopped)
     refused e = by-number ∙ ap chosen e ∙ sym (ap (λ (t : Bool). ran f (cond t (runFrom (j + 1) f (nextOn f S c) cs) stopped)) e)
 
 -- a run that is not turned down before its first command has a record that is not
-pub run-valid : (b l : List ℕ) → runRefusal b l ≡ 0 → recordRefusal b ≡ 0
+pub run-valid : (b l : List ℕ) → runRefusal limits b l ≡ 0 → recordRefusal limits b ≡ 0
 run-valid b l passes =
     record-numbered b .answered .1 (none-before (recordConditions b) (condition 16 (wellFormed l ≡ false) ∷ []) (run-numbered b l .answered .0 passes))
 
-module _ (b l : List ℕ) (octets : Octets b) (passes : runRefusal b l ≡ 0) where
-  valid : recordRefusal b ≡ 0
+module _ (b l : List ℕ) (octets : Octets b) (passes : runRefusal limits b l ≡ 0) where
+  valid : recordRefusal limits b ≡ 0
   valid = run-valid b l passes
 
   -- the run from the record's own state
@@ -87,10 +87,10 @@ module _ (b l : List ℕ) (octets : Octets b) (passes : runRefusal b l ≡ 0) wh
       ap (λ (x : List ℕ). inTurn 0 x (commandsOf l)) (sym (read-write b (record-shaped b valid) octets))
       ∙ turns (shapeOf b) (stateOf b) (sound-record b valid) 0 (commandsOf l)
 
-  pub run-turns : runAnswer b l ≡ inTurn 0 b (commandsOf l) .outcome
+  pub run-turns : runAnswer limits b l ≡ inTurn 0 b (commandsOf l) .outcome
   unfolding runAnswer
   run-turns = rw passes (sym (ap (λ (e : Ended). e .outcome) whole))
 
-  pub bytes-turns : runBytes b l ≡ inTurn 0 b (commandsOf l) .bytes
+  pub bytes-turns : runBytes limits b l ≡ inTurn 0 b (commandsOf l) .bytes
   unfolding runBytes
   bytes-turns = rw passes (sym (ap (λ (e : Ended). e .bytes) whole))

@@ -9,7 +9,7 @@ use Rattle.matrix.specs.Owners.{walkFrom}
 use Rattle.matrix.specs.Tests.{firstFailed}
 use Rattle.matrix.specs.Step.{refusalOf, refusal, links, next}
 use Rattle.matrix.specs.Bytes.{numberAt, bytesOfNumber, bit, fromBits, joined}
-use Rattle.matrix.specs.Shape.{shapeOf}
+use Rattle.matrix.specs.Shape.{limits, shapeOf}
 use Rattle.matrix.specs.Reading.{cellAt, bitAt, stateOf, bytesOf}
 use Rattle.matrix.specs.Record.{climb, validMatrix, recordRefusal}
 use Rattle.matrix.specs.Calls.{validAnswer, refusalOn, linksOn, nextOn, commandAnswer, commandBytes}
@@ -18,23 +18,23 @@ use Rattle.frame.specs.StationBytes.{A, A-ends-00, A-handed, B, transfer
 -- The rows, under one proof.
 pub record Stations : Type 0 where
   -- A is valid.
-  pub a-valid : validAnswer A ≡ true
+  pub a-valid : validAnswer limits A ≡ true
   -- So is A with last byte 00, in which log 3 is absent.
-  pub a-ends-00-valid : validAnswer A-ends-00 ≡ true
+  pub a-ends-00-valid : validAnswer limits A-ends-00 ≡ true
   pub log-there : existsName (stateOf A) (Plain 3) ≡ true
   pub log-absent : existsName (stateOf A-ends-00) (Plain 3) ≡ false
   -- On A code 3 (0, 2, 1) is refused by 13, with 1 link, and no byte changes.
-  pub walk-meets : commandAnswer A (transferOwn 0 2 1) ≡ Refused 13 1
-  pub walk-meets-bytes : commandBytes A (transferOwn 0 2 1) ≡ A
+  pub walk-meets : commandAnswer limits A (transferOwn 0 2 1) ≡ Refused 13 1
+  pub walk-meets-bytes : commandBytes limits A (transferOwn 0 2 1) ≡ A
   -- On A code 3 (1, 1, 2) is accepted with 1 link; here s = i, so that no byte changes (Manual 5.4).
-  pub to-itself : commandAnswer A (transferOwn 1 1 2) ≡ Accepted 1
-  pub to-itself-bytes : commandBytes A (transferOwn 1 1 2) ≡ A
+  pub to-itself : commandAnswer limits A (transferOwn 1 1 2) ≡ Accepted 1
+  pub to-itself-bytes : commandBytes limits A (transferOwn 1 1 2) ≡ A
   -- On A code 3 (2, 1, 3) is accepted with 0 links, and log 3 is 1's then; where log 3 is absent it is refused by 10.
-  pub log-handed : commandAnswer A (transferOwn 2 1 3) ≡ Accepted 0
-  pub log-handed-bytes : commandBytes A (transferOwn 2 1 3) ≡ A-handed
-  pub log-missing : commandAnswer A-ends-00 (transferOwn 2 1 3) ≡ Refused 10 0
+  pub log-handed : commandAnswer limits A (transferOwn 2 1 3) ≡ Accepted 0
+  pub log-handed-bytes : commandBytes limits A (transferOwn 2 1 3) ≡ A-handed
+  pub log-missing : commandAnswer limits A-ends-00 (transferOwn 2 1 3) ≡ Refused 10 0
   -- B is valid as well.
-  pub b-valid : validAnswer B ≡ true
+  pub b-valid : validAnswer limits B ≡ true
 
 pub stations : Stations
 unfolding A A-ends-00 A-handed B any all count least walkFrom firstFailed refusalOf refusal links next numberAt bytesOfNumber bit fromBits joined shapeOf cellAt bitAt stateOf bytesOf climb validMatrix recordRefusal validAnswer refusalOn linksOn nextOn commandAnswer commandBytes

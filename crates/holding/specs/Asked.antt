@@ -9,7 +9,7 @@ use Rattle.matrix.specs.declared.Holding.{Holding}
 use Rattle.matrix.specs.declared.Holding.the-variants.{Yes, No, Refused}
 use Rattle.matrix.specs.declared.Shape.{Shape}
 use Rattle.matrix.specs.Tests.{firstFailed}
-use Rattle.matrix.specs.Shape.{shapeOf, bitsOf, columns}
+use Rattle.matrix.specs.Shape.{limits, shapeOf, bitsOf, columns}
 use Rattle.matrix.specs.Record.{recordRefusal}
 use Rattle.matrix.specs.Calls.{questionFits, holdsOn, heldRefusal, heldAnswer}
 use Rattle.laws.specs.Tests.{and-left, and-right}
@@ -48,7 +48,7 @@ module _ (b : List ℕ) (f : Shape) (s o right : ℕ) (station : Station b f) wh
 -- ---- the answer on a whole record
 
 -- the tests 1 to 5, then 7
-refusal-is : (b : List ℕ) (s o right : ℕ) → heldRefusal b s o right ≡ cond (eqb (recordRefusal b) 0) (cond (questionFits (shapeOf b) s o right) 0 7) (recordRefusal b)
+refusal-is : (b : List ℕ) (s o right : ℕ) → heldRefusal limits b s o right ≡ cond (eqb (recordRefusal limits b) 0) (cond (questionFits (shapeOf b) s o right) 0 7) (recordRefusal limits b)
 unfolding heldRefusal firstFailed
 refusal-is b s o right = refl
 
@@ -57,17 +57,17 @@ refused-or true a = refl
 refused-or false a = refl
 
 -- the tests 1 to 5 are passed: the question is answered, or refused by 7
-pub held-answer : (b : List ℕ) (s o right : ℕ) → recordRefusal b ≡ 0 → heldOn b s o right ≡ heldAnswer b s o right
+pub held-answer : (b : List ℕ) (s o right : ℕ) → recordRefusal limits b ≡ 0 → heldOn b s o right ≡ heldAnswer limits b s o right
 unfolding heldOn heldAnswer
 held-answer b s o right h =
-    let e : eqb (recordRefusal b) 0 ≡ true = eq-eqb (recordRefusal b) 0 h in
-    let r : heldRefusal b s o right ≡ cond (questionFits (shapeOf b) s o right) 0 7 = refusal-is b s o right ∙ rw e refl in
+    let e : eqb (recordRefusal limits b) 0 ≡ true = eq-eqb (recordRefusal limits b) 0 h in
+    let r : heldRefusal limits b s o right ≡ cond (questionFits (shapeOf b) s o right) 0 7 = refusal-is b s o right ∙ rw e refl in
     rw r (refused-or (questionFits (shapeOf b) s o right) (cond (holdsOn b s o right) Yes No))
 
 -- they are not: the question is refused by the first of them that is not passed
-pub held-refused : (b : List ℕ) (s o right : ℕ) → (recordRefusal b ≡ 0 → ⊥) → Refused (recordRefusal b) ≡ heldAnswer b s o right
+pub held-refused : (b : List ℕ) (s o right : ℕ) → (recordRefusal limits b ≡ 0 → ⊥) → Refused (recordRefusal limits b) ≡ heldAnswer limits b s o right
 unfolding heldAnswer
 held-refused b s o right ne =
-    let e : eqb (recordRefusal b) 0 ≡ false = ne-eqb (recordRefusal b) 0 ne in
-    let r : heldRefusal b s o right ≡ recordRefusal b = refusal-is b s o right ∙ rw e refl in
+    let e : eqb (recordRefusal limits b) 0 ≡ false = ne-eqb (recordRefusal limits b) 0 ne in
+    let r : heldRefusal limits b s o right ≡ recordRefusal limits b = refusal-is b s o right ∙ rw e refl in
     rw (r, e) refl

@@ -7,4 +7,5 @@ pub mod Changed
 pub mod Walks
 pub mod Rules
 pub mod Numbers
+pub mod Range
 pub mod BitOps

@@ -13,7 +13,7 @@ use Rattle.matrix.specs.declared.Outcome.{Outcome}
 use Rattle.matrix.specs.declared.Numbers.{Numbers}
 use Rattle.matrix.specs.Numbers.{truth, numbers, heldNumbers, commandNumbers, runNumbers}
 use Rattle.matrix.specs.Step.{answer}
-use Rattle.matrix.specs.Shape.{shapeOf}
+use Rattle.matrix.specs.Shape.{limits, shapeOf}
 use Rattle.matrix.specs.Reading.{stateOf}
 use Rattle.matrix.specs.Record.{recordRefusal}
 use Rattle.matrix.specs.Calls.{heldRefusal, holdsOn, heldAnswer, heldResult, refusalOn, linksOn, commandAnswer, commandResult, runRefusal, runAnswer, runResult}
@@ -33,29 +33,29 @@ said true = refl
 said false = refl
 
 module _ (b : List ℕ) where
-  held-case : (s o right : ℕ) → heldNumbers (heldAnswer b s o right) ≡ heldResult b s o right
+  held-case : (s o right : ℕ) → heldNumbers (heldAnswer limits b s o right) ≡ heldResult limits b s o right
   unfolding heldAnswer heldResult
   held-case s o right =
-      let number = heldRefusal b s o right in
+      let number = heldRefusal limits b s o right in
       let yes = truth (holdsOn b s o right) in
       ⊎-elim (λ e. rw e (said (holdsOn b s o right) ∙ ap (λ (m : ℕ). numbers m yes) (sym (eqb-true number 0 e)))) (λ e. rw e refl) (way (eqb number 0))
 
-  command-case : (c : Fields) → commandNumbers (commandAnswer b c) ≡ commandResult b c
+  command-case : (c : Fields) → commandNumbers (commandAnswer limits b c) ≡ commandResult limits b c
   unfolding commandAnswer commandResult
   command-case c =
       let step = answer-numbers (refusalOn (shapeOf b) (stateOf b) c) (linksOn (shapeOf b) (stateOf b) c) in
-      ⊎-elim (λ e. rw e step) (λ e. rw e refl) (way (eqb (recordRefusal b) 0))
+      ⊎-elim (λ e. rw e step) (λ e. rw e refl) (way (eqb (recordRefusal limits b) 0))
 
-  run-case : (l : List ℕ) → runNumbers (runAnswer b l) ≡ runResult b l
+  run-case : (l : List ℕ) → runNumbers (runAnswer limits b l) ≡ runResult limits b l
   unfolding runAnswer runResult
-  run-case l = ⊎-elim (λ e. rw e refl) (λ e. rw e refl) (way (eqb (runRefusal b l) 0))
+  run-case l = ⊎-elim (λ e. rw e refl) (λ e. rw e refl) (way (eqb (runRefusal limits b l) 0))
 
   -- an answer that is the definition's has the definition's numbers
-  pub held-numbers : (s o right : ℕ) {r : Holding} → r ≡ heldAnswer b s o right → heldNumbers r ≡ heldResult b s o right
+  pub held-numbers : (s o right : ℕ) {r : Holding} → r ≡ heldAnswer limits b s o right → heldNumbers r ≡ heldResult limits b s o right
   held-numbers s o right h = ap heldNumbers h ∙ held-case s o right
 
-  pub command-numbers : (c : Fields) {r : Answer} → r ≡ commandAnswer b c → commandNumbers r ≡ commandResult b c
+  pub command-numbers : (c : Fields) {r : Answer} → r ≡ commandAnswer limits b c → commandNumbers r ≡ commandResult limits b c
   command-numbers c h = ap commandNumbers h ∙ command-case c
 
-  pub run-numbers : (l : List ℕ) {r : Outcome} → r ≡ runAnswer b l → runNumbers r ≡ runResult b l
+  pub run-numbers : (l : List ℕ) {r : Outcome} → r ≡ runAnswer limits b l → runNumbers r ≡ runResult limits b l
   run-numbers l h = ap runNumbers h ∙ run-case l

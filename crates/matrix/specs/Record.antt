@@ -14,7 +14,7 @@ use Rattle.matrix.specs.Rights.{rightOf}
 use Rattle.matrix.specs.State.{State, has, exists, existsName}
 use Rattle.matrix.specs.Owners.{ownerOf}
 use Rattle.matrix.specs.Tests.{test, firstFailed}
-use Rattle.matrix.specs.Shape.{shapeOf, headerBytes, knownVersion, inRange, sized, bitsOf, columns}
+use Rattle.matrix.specs.Shape.{Limits, shapeOf, headerBytes, knownVersion, inRange, sized, bitsOf, columns}
 use Rattle.matrix.specs.Reading.{stateOf}
 
 -- the cell of row w and column x has no bit set
@@ -52,10 +52,10 @@ unfoldable pub validMatrix : Shape → State → Bool
 validMatrix f S = absentZero f S && plainUncontrolled f S && rootRight f S && oneOwnerEach f S && allRooted f S
 
 -- The refusals 1 to 5 (Manual 7.1): too few bytes, the version, n and p, L and the length, the five conditions.
-unfoldable pub recordRefusal : List ℕ → ℕ
-recordRefusal b =
+unfoldable pub recordRefusal : Limits → List ℕ → ℕ
+recordRefusal most b =
     firstFailed (test 1 (leb headerBytes (length b)) ∷
     test 2 (knownVersion (shapeOf b .version)) ∷
-    test 3 (inRange (shapeOf b)) ∷
+    test 3 (inRange most (shapeOf b)) ∷
     test 4 (sized b) ∷
     test 5 (validMatrix (shapeOf b) (stateOf b)) ∷ [])

@@ -11,11 +11,21 @@ use Rattle.matrix.specs.Bytes.{numberAt}
 abbrev pub knownVersion : ℕ → Bool
 knownVersion v = eqb v 1
 
+-- The limits of records: the most subject names and the most plain names. Refusal 3, and so each call's answer, has them as an argument, since
+-- what is promised of a change of the limits speaks of two of them.
+pub record Limits : Type 0 where
+  pub subjects : ℕ
+  pub plain : ℕ
+
+-- the limits that hold
 abbrev pub mostSubjects : ℕ
 mostSubjects = 64
 
 abbrev pub mostPlain : ℕ
 mostPlain = 192
+
+abbrev pub limits : Limits
+limits = record { subjects = mostSubjects; plain = mostPlain }
 
 -- the bytes of the header: version, L, n and p
 abbrev pub headerBytes : ℕ
@@ -52,8 +62,9 @@ sizeOf f = f .first + f .width * (f .n * columns f)
 abbrev pub countOf : Shape → ℕ
 countOf f = sizeOf f - 5
 
-abbrev pub inRange : Shape → Bool
-inRange f = leb 1 (f .n) && leb (f .n) mostSubjects && leb (f .p) mostPlain
+-- n and p are within limits; refusal 3 where this fails
+abbrev pub inRange : Limits → Shape → Bool
+inRange most f = leb 1 (f .n) && leb (f .n) (most .subjects) && leb (f .p) (most .plain)
 
 -- L and the length are those of the shape; refusal 4 where this fails
 abbrev pub sized : List ℕ → Bool

@@ -4,17 +4,17 @@ use mathlib.Core.Path.{_≡_}
 use mathlib.Core.List.{List}
 use lib.ListN.{length}
 use Rattle.matrix.specs.declared.Shape.{Shape}
-use Rattle.matrix.specs.Shape.{headerBytes, shapeOf}
+use Rattle.matrix.specs.Shape.{limits, headerBytes, shapeOf}
 use Rattle.matrix.specs.Record.{recordRefusal}
 use Rattle.matrix.specs.Shaped.{Octets}
 use Rattle.owners.specs.Read.{record-shaped, long}
 use Rattle.cells.specs.Station.{Station}
 
 -- a record that is not turned down is of the right form
-pub station-of : {b : List ℕ} {f : Shape} → Octets b → recordRefusal b ≡ 0 → f ≡ shapeOf b → Station b f
+pub station-of : {b : List ℕ} {f : Shape} → Octets b → recordRefusal limits b ≡ 0 → f ≡ shapeOf b → Station b f
 station-of {b} o h e = record { shaped = record-shaped b h; octets = o; shape = e }
 
-pub long-enough : (b : List ℕ) → recordRefusal b ≡ 0 → headerBytes ≤ length b
+pub long-enough : (b : List ℕ) → recordRefusal limits b ≡ 0 → headerBytes ≤ length b
 long-enough b h = long b (record-shaped b h)
 
 pub station-long : {b : List ℕ} {f : Shape} → Station b f → headerBytes ≤ length b

@@ -2,23 +2,24 @@
 use Prim.Native.Nat.{ℕ, _≤_, _<_}
 use native.Mathlib.Omega.{arith}
 use mathlib.Core.Path.{_≡_}
-use mathlib.Core.Bool.{true, _&&_}
+use mathlib.Core.Bool.{true}
 use mathlib.Core.List.{List, [], _∷_}
 use lib.Dec.{eqb, leb}
 use lib.ListN.{length}
-use borrow.Author.Tests.{eqb-true, eq-eqb, leb-true, le-leb}
+use borrow.Author.Tests.{eqb-true, eq-eqb, le-leb}
 use Rattle.matrix.specs.declared.Name.{Name}
 use Rattle.matrix.specs.declared.Shape.{Shape}
 use Rattle.matrix.specs.Owners.{walk, linksOf}
 use Rattle.matrix.specs.Valid.{Valid}
 use Rattle.matrix.specs.Tests.{Test, test}
 use Rattle.matrix.specs.Bytes.{numberAt}
-use Rattle.matrix.specs.Shape.{shapeOf, headerBytes, knownVersion, inRange, sized, mostSubjects, mostPlain, countOf, sizeOf}
+use Rattle.matrix.specs.Shape.{limits, shapeOf, headerBytes, knownVersion, inRange, sized, countOf, sizeOf}
 use Rattle.matrix.specs.Reading.{stateOf}
 use Rattle.matrix.specs.Shaped.{Shaped}
 use Rattle.matrix.specs.Record.{validMatrix, recordRefusal}
 use Rattle.laws.specs.Tests.{and-left, and-right, and-both}
 use Rattle.laws.specs.Passed.{Passed, none-failed, all-passed}
+use Rattle.laws.specs.Range.{Ranged, ranged, in-range}
 use Rattle.codec.specs.RoundTrip.{within-read}
 use Rattle.owners.specs.Walk.{walk-links}
 use Rattle.owners.specs.Test.{valid-of-test, test-of-valid}
@@ -28,39 +29,36 @@ abbrev pub recordTests : List ℕ → List Test
 recordTests b =
     test 1 (leb headerBytes (length b)) ∷
     test 2 (knownVersion (shapeOf b .version)) ∷
-    test 3 (inRange (shapeOf b)) ∷
+    test 3 (inRange limits (shapeOf b)) ∷
     test 4 (sized b) ∷
     test 5 (validMatrix (shapeOf b) (stateOf b)) ∷ []
 
-tests-passed : (b : List ℕ) → recordRefusal b ≡ 0 → Passed (recordTests b)
+tests-passed : (b : List ℕ) → recordRefusal limits b ≡ 0 → Passed (recordTests b)
 unfolding recordRefusal
 tests-passed b h = none-failed (recordTests b) (omega arith) h
 
 -- A record that is not turned down has the right form, and its state is valid.
-pub record-shaped : (b : List ℕ) → recordRefusal b ≡ 0 → Shaped b
+pub record-shaped : (b : List ℕ) → recordRefusal limits b ≡ 0 → Shaped b
 record-shaped b h =
     let t = tests-passed b h in
-    let range = t .1 .1 .0 in
+    let range : Ranged limits (shapeOf b) = ranged limits (shapeOf b) (t .1 .1 .0) in
     let size = t .1 .1 .1 .0 in
-    let n = shapeOf b .n in
-    let p = shapeOf b .p in
-    let low = and-left (leb 1 n && leb n mostSubjects) (leb p mostPlain) range in
     let count = eqb (numberAt b 1 4) (countOf (shapeOf b)) in
     let whole = eqb (length b) (sizeOf (shapeOf b)) in
     record {
       version = t .1 .0;
-      low = leb-true 1 n (and-left (leb 1 n) (leb n mostSubjects) low);
-      high = leb-true n mostSubjects (and-right (leb 1 n) (leb n mostSubjects) low);
-      plain = leb-true p mostPlain (and-right (leb 1 n && leb n mostSubjects) (leb p mostPlain) range);
+      low = range .low;
+      high = range .high;
+      plain = range .plain;
       count = eqb-true (numberAt b 1 4) (countOf (shapeOf b)) (and-left count whole size);
       size = eqb-true (length b) (sizeOf (shapeOf b)) (and-right count whole size);
     }
 
-pub valid-record : (b : List ℕ) → recordRefusal b ≡ 0 → Valid (stateOf b)
+pub valid-record : (b : List ℕ) → recordRefusal limits b ≡ 0 → Valid (stateOf b)
 valid-record b h = valid-of-test (shapeOf b) (stateOf b) (within-read b) (tests-passed b h .1 .1 .1 .1 .0)
 
 -- A walk on a record that is not turned down follows at most n - 1 links.
-pub record-links : (b : List ℕ) → recordRefusal b ≡ 0 → (s : ℕ) (o : Name) → linksOf (walk (stateOf b) s o) < shapeOf b .n
+pub record-links : (b : List ℕ) → recordRefusal limits b ≡ 0 → (s : ℕ) (o : Name) → linksOf (walk (stateOf b) s o) < shapeOf b .n
 record-links b h s o =
     let l : linksOf (walk (stateOf b) s o) < stateOf b .top = walk-links (stateOf b) (valid-record b h) s o in
     let t : stateOf b .top ≡ shapeOf b .n = within-read b .top in
@@ -72,12 +70,11 @@ unfolding shapeOf
 long b s = let e : length b ≡ sizeOf (shapeOf b) = s .size in omega arith
 
 -- A record of the right form whose state is valid is not turned down.
-pub record-valid : (b : List ℕ) → Shaped b → Valid (stateOf b) → recordRefusal b ≡ 0
+pub record-valid : (b : List ℕ) → Shaped b → Valid (stateOf b) → recordRefusal limits b ≡ 0
 unfolding recordRefusal
 record-valid b s h =
     let f : Shape = shapeOf b in
-    let subjects = and-both (le-leb 1 (f .n) (s .low)) (le-leb (f .n) mostSubjects (s .high)) in
-    let range : inRange f ≡ true = and-both subjects (le-leb (f .p) mostPlain (s .plain)) in
+    let range : inRange limits f ≡ true = in-range limits f (record { low = s .low; high = s .high; plain = s .plain }) in
     let size : sized b ≡ true = and-both (eq-eqb (numberAt b 1 4) (countOf f) (s .count)) (eq-eqb (length b) (sizeOf f) (s .size)) in
     let matrix : validMatrix f (stateOf b) ≡ true = test-of-valid f (stateOf b) (within-read b) h in
     all-passed (recordTests b) (le-leb headerBytes (length b) (long b s), (s .version, (range, (size, (matrix, tt)))))

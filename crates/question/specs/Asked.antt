@@ -11,7 +11,7 @@ use Rattle.matrix.specs.declared.Shape.{Shape}
 use Rattle.matrix.specs.Names.{nameOf}
 use Rattle.matrix.specs.Rights.{rightOf}
 use Rattle.matrix.specs.Tests.{test, firstFailed}
-use Rattle.matrix.specs.Shape.{shapeOf, basicsOf}
+use Rattle.matrix.specs.Shape.{Limits, shapeOf, basicsOf}
 use Rattle.matrix.specs.Reading.{stateOf}
 use Rattle.matrix.specs.Record.{recordRefusal}
 use Rattle.matrix.specs.CommandList.{listHead, recordBytes, wellFormed, commandsOf}
@@ -30,9 +30,9 @@ trustFits f mask = ltb mask (2 ^ f .n)
 abbrev pub listRoom : ℕ → ℕ
 listRoom commands = listHead + recordBytes * commands
 
-unfoldable pub safetyRefusal : List ℕ → ℕ → ℕ → ℕ → ℕ → ℕ → ℕ
-safetyRefusal b mask s o right room =
-    firstFailed (test (recordRefusal b) (eqb (recordRefusal b) 0) ∷
+unfoldable pub safetyRefusal : Limits → List ℕ → ℕ → ℕ → ℕ → ℕ → ℕ → ℕ
+safetyRefusal most b mask s o right room =
+    firstFailed (test (recordRefusal most b) (eqb (recordRefusal most b) 0) ∷
     test 7 (questionFits (shapeOf b) s o right && trustFits (shapeOf b) mask) ∷
     test 15 (leb (listRoom (shapeOf b .n + 2)) room) ∷ [])
 
@@ -59,10 +59,10 @@ Decided b mask s o right out out′ r =
     ((r ≡ Safety.Safe) × (out′ ≡ out) × SafeRecord b mask s o right)
     ⊎ ((commands : ℕ) × (r ≡ Safety.Leaks commands) × Written b mask s o right out out′ commands)
 
--- What the call answers: a refusal by its number with the buffer unchanged, or the question decided.
-pub record Answers (b : List ℕ) (mask s o right : ℕ) (out out′ : List ℕ) (r : Safety) : Type 0 where
-  pub refused : (safetyRefusal b mask s o right (length out) ≡ 0 → ⊥) → (r ≡ Safety.Refused (safetyRefusal b mask s o right (length out))) × (out′ ≡ out)
-  pub decided : safetyRefusal b mask s o right (length out) ≡ 0 → Decided b mask s o right out out′ r
+-- What the call answers under limits of n and p: a refusal by its number with the buffer unchanged, or the question decided.
+pub record Answers (most : Limits) (b : List ℕ) (mask s o right : ℕ) (out out′ : List ℕ) (r : Safety) : Type 0 where
+  pub refused : (safetyRefusal most b mask s o right (length out) ≡ 0 → ⊥) → (r ≡ Safety.Refused (safetyRefusal most b mask s o right (length out))) × (out′ ≡ out)
+  pub decided : safetyRefusal most b mask s o right (length out) ≡ 0 → Decided b mask s o right out out′ r
   -- in numbers: the refusal, 0 where the question is decided
-  pub number : safetyNumbers r .refusal ≡ safetyRefusal b mask s o right (length out)
+  pub number : safetyNumbers r .refusal ≡ safetyRefusal most b mask s o right (length out)
   pub size : length out′ ≡ length out

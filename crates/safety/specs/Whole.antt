@@ -11,7 +11,7 @@ use Rattle.matrix.specs.declared.Shape.{Shape}
 use Rattle.matrix.specs.Names.{nameOf, named}
 use Rattle.matrix.specs.Rights.{rightOf}
 use Rattle.matrix.specs.State.{State, held}
-use Rattle.matrix.specs.Shape.{shapeOf, bitsOf, basicsOf}
+use Rattle.matrix.specs.Shape.{limits, shapeOf, bitsOf, basicsOf}
 use Rattle.matrix.specs.Reading.{stateOf}
 use Rattle.matrix.specs.Record.{recordRefusal}
 use Rattle.matrix.specs.Calls.{questionFits, holdsOn}
@@ -50,7 +50,7 @@ right-in f zero h = tt
 right-in f (suc zero) h = tt
 right-in f (suc (suc j)) h = omega arith
 
-module _ {b : List ℕ} {f : Shape} (valid : recordRefusal b ≡ 0) (station : Station b f) where
+module _ {b : List ℕ} {f : Shape} (valid : recordRefusal limits b ≡ 0) (station : Station b f) where
   same-named : (x : Name) → named (f .n) (f .p) x ≡ true → named (shapeOf b .n) (shapeOf b .p) x ≡ true
   same-named x h = rw (← station .shape) h
 
@@ -69,17 +69,17 @@ module _ {b : List ℕ} {f : Shape} (valid : recordRefusal b ≡ 0) (station : S
   fits-same mask s o right = ap (λ (e : Shape). questionFits e s o right && trustFits e mask) (station .shape)
 
   module _ (mask s o right : ℕ) (out : List ℕ) {t : Bool} (fits : t ≡ (questionFits f s o right && trustFits f mask)) where
-    pub unfit : t ≡ false → Answers b mask s o right out out (Refused 7)
+    pub unfit : t ≡ false → Answers limits b mask s o right out out (Refused 7)
     unfit h = turned-seven b mask s o right out valid (fits ∙ fits-same mask s o right) h
 
-    pub no-room : t ≡ true → length out < listRoom (f .n + 2) → Answers b mask s o right out out (Refused 15)
+    pub no-room : t ≡ true → length out < listRoom (f .n + 2) → Answers limits b mask s o right out out (Refused 15)
     no-room fit l =
         turned-fifteen b mask s o right out valid (fits ∙ fits-same mask s o right) fit
         (subst (λ (e : Shape). length out < listRoom (e .n + 2)) (station .shape) l)
 
 -- a question that is not turned down: a valid record, numbers within its bounds, and room for the list
 pub record Fitting (b : List ℕ) (f : Shape) (mask s o right : ℕ) (out : List ℕ) : Type 0 where
-  pub valid : recordRefusal b ≡ 0
+  pub valid : recordRefusal limits b ≡ 0
   pub station : Station b f
   pub fit : (questionFits f s o right && trustFits f mask) ≡ true
   pub room : listRoom (f .n + 2) ≤ length out
@@ -126,12 +126,12 @@ module _ {b : List ℕ} {f : Shape} {mask s o right : ℕ} {out : List ℕ} (q :
           room = subst (λ (e : Shape). listRoom (e .n + 2) ≤ length out) (station .shape) (q .room);
         }
 
-    pub answered : {out′ : List ℕ} {r : Safety} → Told (stateOf b) s x y (wayOf (stateOf b) (trustedBy mask) s x y) out out′ r → Answers b mask s o right out out′ r
+    pub answered : {out′ : List ℕ} {r : Safety} → Told (stateOf b) s x y (wayOf (stateOf b) (trustedBy mask) s x y) out out′ r → Answers limits b mask s o right out out′ r
     answered {out′} {r} h =
         let g : Told (stateOf b) s (nameOf (shapeOf b .n) o) (rightOf right) (wayOf (stateOf b) (trustedBy mask) s (nameOf (shapeOf b .n) o) (rightOf right)) out out′ r =
         subst₂ (λ (x : Name) (y : Right). Told (stateOf b) s x y (wayOf (stateOf b) (trustedBy mask) s x y) out out′ r) here code h in
         answers b mask s o right out (q .valid) (fits-same (q .valid) station mask s o right) (q .fit) (askable .room) (told-decided b mask s o right out askable g) (told-size b mask s o right out askable g)
 
     -- the right is held: the list is empty
-    pub answered-held : {u : Bool} {out′ : List ℕ} {r : Safety} → u ≡ holdsOn b s o right → u ≡ true → Headed out out′ 0 r → Answers b mask s o right out out′ r
+    pub answered-held : {u : Bool} {out′ : List ℕ} {r : Safety} → u ≡ holdsOn b s o right → u ≡ true → Headed out out′ 0 r → Answers limits b mask s o right out out′ r
     answered-held e h g = answered (told-at (way-held (stateOf b) (trustedBy mask) s x y (held-is true e h)) (told-held g))

@@ -14,7 +14,7 @@ ghost use Prim.Native.Nat.{_≤_, _<_};
 ghost use lib.ListN.{length};
 ghost use Rattle.matrix.specs.Names.{sameName};
 ghost use Rattle.matrix.specs.State.{exists, held};
-ghost use Rattle.matrix.specs.Shape.{mostSubjects};
+ghost use Rattle.matrix.specs.Shape.{limits, mostSubjects};
 ghost use Rattle.matrix.specs.Reading.{stateOf};
 ghost use Rattle.matrix.specs.Calls.{questionFits};
 ghost use Rattle.codec.specs.ShapeRight.{ShapeRight};
@@ -188,7 +188,7 @@ fn within_bounds(f: Shape, trust: u64, s: usize, o: usize, right: usize) -> bool
 
 // The safety question on any bytes and numbers.
 pub fn ask(b: &[u8], trust: u64, s: usize, o: usize, right: usize, out: &mut [u8]) -> Safety
-    ensures { λ r. ⌜ Answers (now (b .entry)) trust s o right (now (out .entry)) (now (out .exit)) r ⌝ }
+    ensures { λ r. ⌜ Answers limits (now (b .entry)) trust s o right (now (out .entry)) (now (out .exit)) r ⌝ }
 {
     let mut owners = [0u8; MOST_SUBJECTS];
     let turned = validity::refusal_with(b, &mut owners);

@@ -8,21 +8,22 @@ use matrix::Outcome;
 use question::Safety;
 ghost use mathlib.Core.Path.{_≡_};
 ghost use Rattle.matrix.specs.Numbers.{heldNumbers, commandNumbers, runNumbers};
+ghost use Rattle.matrix.specs.Shape.{limits};
 ghost use Rattle.matrix.specs.Calls.{validAnswer, heldAnswer, heldResult, commandAnswer, commandResult, commandBytes, runAnswer, runResult, runBytes};
 ghost use Rattle.question.specs.Asked.{Answers};
 ghost use Rattle.station.specs.Given.{fieldsOf};
 
 // Whether a record is valid.
 pub fn valid(b: &[u8]) -> bool
-    ensures { λ t. ⌜ t ≡ validAnswer (now (b .entry)) ⌝ }
+    ensures { λ t. ⌜ t ≡ validAnswer limits (now (b .entry)) ⌝ }
 {
     validity::refusal(b) == 0
 }
 
 // Whether a right is held by subject s over column o, by the right's code.
 pub fn held(b: &[u8], s: u64, o: u64, right: u64) -> Holding
-    ensures answer { λ r. ⌜ r ≡ heldAnswer (now (b .entry)) s o right ⌝ }
-    ensures numbers { λ r. ⌜ heldNumbers r ≡ heldResult (now (b .entry)) s o right ⌝ }
+    ensures answer { λ r. ⌜ r ≡ heldAnswer limits (now (b .entry)) s o right ⌝ }
+    ensures numbers { λ r. ⌜ heldNumbers r ≡ heldResult limits (now (b .entry)) s o right ⌝ }
 {
     let turned = validity::refusal(b);
     if turned != 0 {
@@ -34,9 +35,9 @@ pub fn held(b: &[u8], s: u64, o: u64, right: u64) -> Holding
 
 // One command on a record: accepted with the links of the owner walk, or refused by a number with the links.
 pub fn command(b: &mut [u8], code: u64, i: u64, s: u64, o: u64, k: u64) -> Answer
-    ensures answer { λ r. ⌜ r ≡ commandAnswer (now (b .entry)) (fieldsOf code i s o k) ⌝ }
-    ensures bytes { λ r. ⌜ now (b .exit) ≡ commandBytes (now (b .entry)) (fieldsOf code i s o k) ⌝ }
-    ensures numbers { λ r. ⌜ commandNumbers r ≡ commandResult (now (b .entry)) (fieldsOf code i s o k) ⌝ }
+    ensures answer { λ r. ⌜ r ≡ commandAnswer limits (now (b .entry)) (fieldsOf code i s o k) ⌝ }
+    ensures bytes { λ r. ⌜ now (b .exit) ≡ commandBytes limits (now (b .entry)) (fieldsOf code i s o k) ⌝ }
+    ensures numbers { λ r. ⌜ commandNumbers r ≡ commandResult limits (now (b .entry)) (fieldsOf code i s o k) ⌝ }
 {
     let mut owners = [0u8; MOST_SUBJECTS];
     let turned = validity::refusal_with(b, &mut owners);
@@ -55,9 +56,9 @@ pub fn command(b: &mut [u8], code: u64, i: u64, s: u64, o: u64, k: u64) -> Answe
 
 // The commands of a list in turn, up to the first that is refused: how many were accepted, and the refusal, 0 if none.
 pub fn run(b: &mut [u8], l: &[u8]) -> Outcome
-    ensures answer { λ r. ⌜ r ≡ runAnswer (now (b .entry)) (now (l .entry)) ⌝ }
-    ensures bytes { λ r. ⌜ now (b .exit) ≡ runBytes (now (b .entry)) (now (l .entry)) ⌝ }
-    ensures numbers { λ r. ⌜ runNumbers r ≡ runResult (now (b .entry)) (now (l .entry)) ⌝ }
+    ensures answer { λ r. ⌜ r ≡ runAnswer limits (now (b .entry)) (now (l .entry)) ⌝ }
+    ensures bytes { λ r. ⌜ now (b .exit) ≡ runBytes limits (now (b .entry)) (now (l .entry)) ⌝ }
+    ensures numbers { λ r. ⌜ runNumbers r ≡ runResult limits (now (b .entry)) (now (l .entry)) ⌝ }
 {
     let mut owners = [0u8; MOST_SUBJECTS];
     let turned = validity::refusal_with(b, &mut owners);
@@ -79,7 +80,7 @@ pub fn run(b: &mut [u8], l: &[u8]) -> Outcome
 
 // The safety question: safe, or leaks by a list that is written at the start of `out`, or refused by a number.
 pub fn safety(b: &[u8], trust: u64, s: u64, o: u64, right: u64, out: &mut [u8]) -> Safety
-    ensures { λ r. ⌜ Answers (now (b .entry)) trust s o right (now (out .entry)) (now (out .exit)) r ⌝ }
+    ensures { λ r. ⌜ Answers limits (now (b .entry)) trust s o right (now (out .entry)) (now (out .exit)) r ⌝ }
 {
     safety::ask(b, trust, s as usize, o as usize, right as usize, out)
 }

@@ -12,7 +12,7 @@ use Rattle.matrix.specs.declared.Fields.{Fields}
 use Rattle.matrix.specs.Names.{nameOf, named}
 use Rattle.matrix.specs.Rights.{rightOf}
 use Rattle.matrix.specs.State.{State}
-use Rattle.matrix.specs.Shape.{shapeOf, mostSubjects, basicsOf}
+use Rattle.matrix.specs.Shape.{limits, shapeOf, mostSubjects, basicsOf}
 use Rattle.matrix.specs.Reading.{stateOf}
 use Rattle.matrix.specs.Record.{recordRefusal}
 use Rattle.codec.specs.RoundTrip.{within-read}
@@ -31,7 +31,7 @@ use Rattle.told.specs.Told.{bufferOf, Told}
 
 -- a question of names and a right of the record, with room for its list
 pub record Askable (b : List ℕ) (s o right : ℕ) (out : List ℕ) : Type 0 where
-  pub valid : recordRefusal b ≡ 0
+  pub valid : recordRefusal limits b ≡ 0
   pub subject : s < shapeOf b .n
   pub object : named (shapeOf b .n) (shapeOf b .p) (nameOf (shapeOf b .n) o) ≡ true
   pub basic : basicNumber (rightOf right) < basicsOf (shapeOf b)

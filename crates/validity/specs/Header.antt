@@ -9,7 +9,7 @@ use lib.ListN.{length, getD}
 use borrow.Author.Tests.{le-leb, lt-leb}
 use Rattle.matrix.specs.Bytes.{numberAt}
 use Rattle.matrix.specs.declared.Shape.{Shape}
-use Rattle.matrix.specs.Shape.{headerBytes, mostSubjects, mostPlain, shapeOf, knownVersion, columns, inRange, sized}
+use Rattle.matrix.specs.Shape.{limits, headerBytes, mostSubjects, mostPlain, shapeOf, knownVersion, columns, inRange, sized}
 use Rattle.matrix.specs.Reading.{stateOf}
 use Rattle.matrix.specs.Tests.{firstFailed}
 use Rattle.matrix.specs.Record.{validMatrix, recordRefusal}
@@ -55,29 +55,29 @@ count-bytes b = omega arith
 -- ---- the refusals, one by one
 
 module _ (b : List ℕ) where
-  pub refused-1 : length b < headerBytes → 1 ≡ recordRefusal b
+  pub refused-1 : length b < headerBytes → 1 ≡ recordRefusal limits b
   unfolding recordRefusal firstFailed
   refused-1 h = rw (lt-leb headerBytes (length b) h) refl
 
   module _ (long : headerBytes ≤ length b) where
-    pub refused-2 : knownVersion (shapeOf b .version) ≡ false → 2 ≡ recordRefusal b
+    pub refused-2 : knownVersion (shapeOf b .version) ≡ false → 2 ≡ recordRefusal limits b
     unfolding recordRefusal firstFailed
     refused-2 h = rw (le-leb headerBytes (length b) long, h) refl
 
     module _ (version : knownVersion (shapeOf b .version) ≡ true) where
-      pub refused-3 : inRange (shapeOf b) ≡ false → 3 ≡ recordRefusal b
+      pub refused-3 : inRange limits (shapeOf b) ≡ false → 3 ≡ recordRefusal limits b
       unfolding recordRefusal firstFailed
       refused-3 h = rw (le-leb headerBytes (length b) long, version, h) refl
 
-      module _ (range : inRange (shapeOf b) ≡ true) where
-        pub refused-4 : sized b ≡ false → 4 ≡ recordRefusal b
+      module _ (range : inRange limits (shapeOf b) ≡ true) where
+        pub refused-4 : sized b ≡ false → 4 ≡ recordRefusal limits b
         unfolding recordRefusal firstFailed
         refused-4 h = rw (le-leb headerBytes (length b) long, version, range, h) refl
 
-        pub refused-5 : sized b ≡ true → validMatrix (shapeOf b) (stateOf b) ≡ false → 5 ≡ recordRefusal b
+        pub refused-5 : sized b ≡ true → validMatrix (shapeOf b) (stateOf b) ≡ false → 5 ≡ recordRefusal limits b
         unfolding recordRefusal firstFailed
         refused-5 s h = rw (le-leb headerBytes (length b) long, version, range, s, h) refl
 
-        pub refused-none : sized b ≡ true → validMatrix (shapeOf b) (stateOf b) ≡ true → 0 ≡ recordRefusal b
+        pub refused-none : sized b ≡ true → validMatrix (shapeOf b) (stateOf b) ≡ true → 0 ≡ recordRefusal limits b
         unfolding recordRefusal firstFailed
         refused-none s h = rw (le-leb headerBytes (length b) long, version, range, s, h) refl

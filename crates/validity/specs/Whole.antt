@@ -10,12 +10,13 @@ use borrow.Author.Tests.{eqb-true, leb-true, eq-eqb, ne-eqb}
 use Rattle.matrix.specs.Bounded.{all}
 use Rattle.matrix.specs.Bytes.{numberAt}
 use Rattle.matrix.specs.declared.Shape.{Shape}
-use Rattle.matrix.specs.Shape.{headerBytes, shapeOf, knownVersion, mostSubjects, mostPlain, inRange, sized, countOf, sizeOf}
+use Rattle.matrix.specs.Shape.{limits, headerBytes, shapeOf, knownVersion, mostSubjects, inRange, sized, countOf, sizeOf}
 use Rattle.matrix.specs.Shaped.{Shaped, Octets}
 use Rattle.matrix.specs.Reading.{stateOf}
 use Rattle.matrix.specs.Record.{validMatrix}
 use Rattle.laws.specs.Tests.{and-left, and-right}
 use Rattle.laws.specs.Bounded.{all-same}
+use Rattle.laws.specs.Range.{Ranged, ranged}
 use Rattle.codec.specs.ShapeRight.{ShapeRight}
 use Rattle.cells.specs.Station.{Station, right-shape}
 use Rattle.lanes.specs.declared.Matrix.{Matrix}
@@ -119,24 +120,24 @@ module _ (b : List ℕ) (f : Shape) (e : f ≡ shapeOf b) where
   pub version-wrong : (f .version ≡ 1 → ⊥) → knownVersion (shapeOf b .version) ≡ false
   version-wrong h = ne-eqb (shapeOf b .version) 1 (λ q. h (ap (λ (x : Shape). x .version) e ∙ q))
 
-  pub range-read : (r t : Bool) → r ≡ inRange f → r ≡ t → inRange (shapeOf b) ≡ t
-  range-read r t g q = ap (λ (x : Shape). inRange x) (sym e) ∙ sym g ∙ q
+  pub range-read : (r t : Bool) → r ≡ inRange limits f → r ≡ t → inRange limits (shapeOf b) ≡ t
+  range-read r t g q = ap (λ (x : Shape). inRange limits x) (sym e) ∙ sym g ∙ q
 
 -- the shape is right where the version is known and n and p are within the limits
-shape-read : (b : List ℕ) → knownVersion (shapeOf b .version) ≡ true → inRange (shapeOf b) ≡ true → ShapeRight (shapeOf b)
+shape-read : (b : List ℕ) → knownVersion (shapeOf b .version) ≡ true → inRange limits (shapeOf b) ≡ true → ShapeRight (shapeOf b)
 unfolding shapeOf
 shape-read b v h =
-    let n = getD b 5 0 in
+    let range : Ranged limits (shapeOf b) = ranged limits (shapeOf b) h in
     record {
       version = v;
-      low = leb-true 1 n (and-left _ _ (and-left _ _ h));
-      high = leb-true n mostSubjects (and-right (leb 1 n) _ (and-left _ _ h));
-      plain = leb-true (getD b 6 0) mostPlain (and-right (leb 1 n && leb n mostSubjects) _ h);
+      low = range .low;
+      high = range .high;
+      plain = range .plain;
       width = refl;
       first = refl;
     }
 
-pub headed : (b : List ℕ) (f : Shape) → f ≡ shapeOf b → headerBytes ≤ length b → knownVersion (shapeOf b .version) ≡ true → inRange (shapeOf b) ≡ true
+pub headed : (b : List ℕ) (f : Shape) → f ≡ shapeOf b → headerBytes ≤ length b → knownVersion (shapeOf b .version) ≡ true → inRange limits (shapeOf b) ≡ true
     → Headed b f
 headed b f e long v h = record { long = long; shape = e; right = subst ShapeRight (sym e) (shape-read b v h) }
 

@@ -3,7 +3,7 @@ ghost use mathlib.Core.Path.{_≡_};
 ghost use Prim.Native.Nat.{_≤_};
 ghost use lib.ListN.{length, replicate};
 ghost use Rattle.matrix.specs.Bytes.{numberAt};
-ghost use Rattle.matrix.specs.Shape.{headerBytes, mostSubjects, shapeOf, inRange, sized};
+ghost use Rattle.matrix.specs.Shape.{limits, headerBytes, mostSubjects, shapeOf, inRange, sized};
 ghost use Rattle.matrix.specs.Reading.{stateOf};
 ghost use Rattle.matrix.specs.Record.{validMatrix, recordRefusal};
 ghost use Rattle.cells.specs.Station.{Station};
@@ -49,7 +49,7 @@ fn valid(b: &[u8], f: Shape, owners: &mut [u8; COUNTED]) -> bool
 
 // n and p are within the limits.
 fn in_range(f: Shape) -> bool
-    ensures { λ r. ⌜ r ≡ inRange f ⌝ }
+    ensures { λ r. ⌜ r ≡ inRange limits f ⌝ }
 {
     let n = f.n;
     if n < 1 {
@@ -86,7 +86,7 @@ fn right_size(b: &[u8], f: Shape) -> bool
 // subject, for callers that follow owners: they test each guess, so nothing is promised of it.
 pub fn refusal_with(b: &[u8], owners: &mut [u8; COUNTED]) -> usize
     requires { ⌜ now owners ≡ replicate mostSubjects 0 ⌝ }
-    ensures refusal { λ r. ⌜ r ≡ recordRefusal (now (b .entry)) ⌝ }
+    ensures refusal { λ r. ⌜ r ≡ recordRefusal limits (now (b .entry)) ⌝ }
     ensures table { λ r. ⌜ length (now (owners .exit)) ≡ mostSubjects ⌝ }
 {
     if b.len() < HEADER_BYTES {
@@ -107,7 +107,7 @@ pub fn refusal_with(b: &[u8], owners: &mut [u8; COUNTED]) -> usize
 
 // The refusal, 1 to 5, of a record, or 0 if it is valid.
 pub fn refusal(b: &[u8]) -> usize
-    ensures { λ r. ⌜ r ≡ recordRefusal (now (b .entry)) ⌝ }
+    ensures { λ r. ⌜ r ≡ recordRefusal limits (now (b .entry)) ⌝ }
 {
     let mut owners = [0u8; COUNTED];
     refusal_with(b, &mut owners)

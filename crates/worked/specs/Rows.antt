@@ -18,7 +18,7 @@ use Rattle.matrix.specs.Step.{refusalOf, refusal, links, next}
 use Rattle.matrix.specs.Bytes.{numberAt, bit, fromBits}
 use Rattle.matrix.specs.State.{State}
 use Rattle.matrix.specs.declared.Shape.{Shape}
-use Rattle.matrix.specs.Shape.{shapeOf, basicsOf}
+use Rattle.matrix.specs.Shape.{limits, shapeOf, basicsOf}
 use Rattle.matrix.specs.Reading.{cellAt, bitAt, stateOf}
 use Rattle.matrix.specs.Record.{climb, validMatrix, recordRefusal}
 use Rattle.matrix.specs.Calls.{questionFits, rawOf, namesFit, refusalOn, linksOn, nextOn, runFrom}
@@ -61,22 +61,22 @@ unfolding B any all count least walkFrom firstFailed refusalOf refusal links nex
 B-1 = refl
 
 -- Every question on a valid record, of names and a right within bounds, is decided.
-decided : (b : List ℕ) (mask s o right : ℕ) → recordRefusal b ≡ 0 → s < shapeOf b .n → named (shapeOf b .n) (shapeOf b .p) (nameOf (shapeOf b .n) o) ≡ true → basicNumber (rightOf right) < basicsOf (shapeOf b) → wayAt b mask s o right ≡ no-way → SafeRecord b mask s o right
+decided : (b : List ℕ) (mask s o right : ℕ) → recordRefusal limits b ≡ 0 → s < shapeOf b .n → named (shapeOf b .n) (shapeOf b .p) (nameOf (shapeOf b .n) o) ≡ true → basicNumber (rightOf right) < basicsOf (shapeOf b) → wayAt b mask s o right ≡ no-way → SafeRecord b mask s o right
 decided b mask s o right valid ls ho lk h =
     subst (λ (w : Way). Says (shapeOf b) (stateOf b) (trustedBy mask) s (nameOf (shapeOf b .n) o) (rightOf right) w) h
     (decides (shapeOf b) (stateOf b) (trustedBy mask) s (nameOf (shapeOf b .n) o) (rightOf right) (valid-record b valid) (within-read b) ls ho lk)
 
 -- The question is not turned down where the buffer has room for its list, and no list gets there: so the call answers "safe".
 pub record SafeRow (b : List ℕ) (mask s o right : ℕ) : Type 0 where
-  pub asked : (room : ℕ) → listRoom (shapeOf b .n + 2) ≤ room → safetyRefusal b mask s o right room ≡ 0
+  pub asked : (room : ℕ) → listRoom (shapeOf b .n + 2) ≤ room → safetyRefusal limits b mask s o right room ≡ 0
   pub safe : SafeRecord b mask s o right
-  pub answers : (out out′ : List ℕ) (r : Safety) → listRoom (shapeOf b .n + 2) ≤ length out → Answers b mask s o right out out′ r → r ≡ Safety.Safe
+  pub answers : (out out′ : List ℕ) (r : Safety) → listRoom (shapeOf b .n + 2) ≤ length out → Answers limits b mask s o right out out′ r → r ≡ Safety.Safe
 
 -- It is not turned down there, and the list cs gets there: so the call answers "leaks".
 pub record LeaksRow (b : List ℕ) (mask s o right : ℕ) (cs : List Fields) : Type 0 where
-  pub asked : (room : ℕ) → listRoom (shapeOf b .n + 2) ≤ room → safetyRefusal b mask s o right room ≡ 0
+  pub asked : (room : ℕ) → listRoom (shapeOf b .n + 2) ≤ room → safetyRefusal limits b mask s o right room ≡ 0
   pub leaks : LeaksRecord b mask s o right cs
-  pub answers : (out out′ : List ℕ) (r : Safety) → listRoom (shapeOf b .n + 2) ≤ length out → Answers b mask s o right out out′ r
+  pub answers : (out out′ : List ℕ) (r : Safety) → listRoom (shapeOf b .n + 2) ≤ length out → Answers limits b mask s o right out out′ r
       → (commands : ℕ) × (r ≡ Safety.Leaks commands)
 
 pub record SafetyRows : Type 0 where
@@ -87,7 +87,7 @@ pub record SafetyRows : Type 0 where
   pub a-1 : SafeRow A 1 1 1 0
   -- A, all trusted: subject 2 owns log 3 at the start, and the call answers so by no commands
   pub a-held : LeaksRow A 7 2 3 0 []
-  pub a-held-at-once : (out out′ : List ℕ) (r : Safety) → listRoom 5 ≤ length out → Answers A 7 2 3 0 out out′ r → r ≡ Safety.Leaks 0
+  pub a-held-at-once : (out out′ : List ℕ) (r : Safety) → listRoom 5 ≤ length out → Answers limits A 7 2 3 0 out out′ r → r ≡ Safety.Leaks 0
   -- A, 0 untrusted: it comes to own 2 by destroying 1 ..
   pub a-6-up : LeaksRow A 6 0 2 0 (fields 13 0 1 0 0 ∷ [])
   -- .. and 2 comes to own 1, who is destroyed and created again
@@ -110,12 +110,12 @@ no-initiator f S T trusted (c ∷ cs) all begun (step a r) =
     absurd (clash (all (c .i) (names-in f c bounds .i)) (begun .0))
 
 -- rows from what is computed of a question
-module _ (b : List ℕ) (mask s o right : ℕ) (valid : recordRefusal b ≡ 0) (fits : (questionFits (shapeOf b) s o right && trustFits (shapeOf b) mask) ≡ true) where
-  not-turned-down : (room : ℕ) → listRoom (shapeOf b .n + 2) ≤ room → safetyRefusal b mask s o right room ≡ 0
+module _ (b : List ℕ) (mask s o right : ℕ) (valid : recordRefusal limits b ≡ 0) (fits : (questionFits (shapeOf b) s o right && trustFits (shapeOf b) mask) ≡ true) where
+  not-turned-down : (room : ℕ) → listRoom (shapeOf b .n + 2) ≤ room → safetyRefusal limits b mask s o right room ≡ 0
   unfolding safetyRefusal firstFailed
   not-turned-down room h = rw (valid, fits, le-leb (listRoom (shapeOf b .n + 2)) room h) refl
 
-  decision : (out out′ : List ℕ) (r : Safety) → listRoom (shapeOf b .n + 2) ≤ length out → Answers b mask s o right out out′ r → Decides b mask s o right out out′ r
+  decision : (out out′ : List ℕ) (r : Safety) → listRoom (shapeOf b .n + 2) ≤ length out → Answers limits b mask s o right out out′ r → Decides b mask s o right out out′ r
   decision out out′ r h a =
       demand-3 .decides b mask s o right out out′ r a (safety-numbered b mask s o right (length out) .answered .0 (not-turned-down (length out) h))
 
@@ -132,7 +132,7 @@ module _ (b : List ℕ) (mask s o right : ℕ) (valid : recordRefusal b ≡ 0) (
 
   -- where every subject of the record is trusted, what leaks is held at the start, and the answer is "leaks" by no commands
   by-none : ((i : ℕ) → i < shapeOf b .n → trustedBy mask i ≡ true) → (cs : List Fields) → LeaksRecord b mask s o right cs
-      → (out out′ : List ℕ) (r : Safety) → listRoom (shapeOf b .n + 2) ≤ length out → Answers b mask s o right out out′ r → r ≡ Safety.Leaks 0
+      → (out out′ : List ℕ) (r : Safety) → listRoom (shapeOf b .n + 2) ≤ length out → Answers limits b mask s o right out out′ r → r ≡ Safety.Leaks 0
   by-none all cs leaks out out′ r h a = said (a .decided (not-turned-down (length out) h))
     where
       said : Decided b mask s o right out out′ r → r ≡ Safety.Leaks 0

@@ -2,6 +2,7 @@
 use native.Mathlib.Omega.{arith}
 use mathlib.Core.Path.{_≡_, refl, sym, _∙_}
 use borrow.Author.Tests.{not-true, not-false}
+use Rattle.matrix.specs.Shape.{limits}
 use Rattle.matrix.specs.Record.{recordRefusal}
 use Rattle.matrix.specs.Shaped.{Octets}
 use Rattle.owners.specs.Read.{valid-record}
@@ -17,7 +18,7 @@ refusal-with-requires : tie.Need-refusal-with-requires
 refusal-with-requires c κs = search needs
 
 -- where the record is not turned down
-right : (c : tie.Else1) → recordRefusal (c .before .before .before .before .before .args .b .now) ≡ 0
+right : (c : tie.Else1) → recordRefusal limits (c .before .before .before .before .before .args .b .now) ≡ 0
 right c = sym (c .before .refusal-with .ensures .0) ∙ c .if1 .left
 
 octets : (c : tie.Else1) → Octets (c .before .before .before .before .before .args .b .now)

@@ -1,6 +1,6 @@
 -- `station::command` meets its contract.
 use mathlib.Core.Path.{_≡_, refl, sym, _∙_}
-use Rattle.matrix.specs.Shape.{shapeOf}
+use Rattle.matrix.specs.Shape.{limits, shapeOf}
 use Rattle.matrix.specs.Record.{recordRefusal}
 use Rattle.matrix.specs.Shaped.{Octets}
 use Rattle.owners.specs.Read.{valid-record}
@@ -19,7 +19,7 @@ same-length : tie.Need-same-length
 same-length c = search needs
 
 -- where the record is not turned down
-right : (c : tie.Else1) → recordRefusal (c .before .before .before .before .before .args .b .now) ≡ 0
+right : (c : tie.Else1) → recordRefusal limits (c .before .before .before .before .before .args .b .now) ≡ 0
 right c = sym (c .before .refusal-with .ensures .0) ∙ c .if1 .left
 
 octets : (c : tie.Else1) → Octets (c .before .before .before .before .before .args .b .now)

@@ -1,5 +1,6 @@
 -- `station::held` meets its contract.
 use mathlib.Core.Path.{_≡_, sym, _∙_}
+use Rattle.matrix.specs.Shape.{limits}
 use Rattle.matrix.specs.Record.{recordRefusal}
 use Rattle.matrix.specs.Shaped.{Octets}
 use Rattle.holding.specs.Asked.{held-answer}
@@ -14,7 +15,7 @@ refusal-requires : tie.Need-refusal-requires
 refusal-requires c κs = search needs
 
 -- where the record is not turned down
-right : (c : tie.Else1) → recordRefusal (c .before .before .before .args .b .now) ≡ 0
+right : (c : tie.Else1) → recordRefusal limits (c .before .before .before .args .b .now) ≡ 0
 right c = sym (c .before .refusal .ensures) ∙ c .if1 .left
 
 octets : (c : tie.Else1) → Octets (c .before .before .before .args .b .now)

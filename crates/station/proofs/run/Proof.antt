@@ -1,5 +1,6 @@
 -- `station::run` meets its contract.
 use mathlib.Core.Path.{_≡_, sym, _∙_}
+use Rattle.matrix.specs.Shape.{limits}
 use Rattle.matrix.specs.Record.{recordRefusal}
 use Rattle.matrix.specs.Shaped.{Octets}
 use Rattle.matrix.specs.CommandList.{wellFormed}
@@ -21,7 +22,7 @@ same-length : tie.Need-same-length
 same-length c = search needs
 
 -- where the record is not turned down
-right : (c : tie.Else1) → recordRefusal (c .before .before .before .before .before .before .args .b .now) ≡ 0
+right : (c : tie.Else1) → recordRefusal limits (c .before .before .before .before .before .before .args .b .now) ≡ 0
 right c = sym (c .before .refusal-with .ensures .0) ∙ c .if1 .left
 
 octets : (c : tie.Else1) → Octets (c .before .before .before .before .before .before .args .b .now)

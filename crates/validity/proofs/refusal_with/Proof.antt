@@ -5,7 +5,7 @@ use borrow.Author.Tests.{not-true, not-false}
 use Prim.Native.Nat.{ℕ}
 use mathlib.Core.List.{List}
 use Rattle.matrix.specs.declared.Shape.{Shape}
-use Rattle.matrix.specs.Shape.{shapeOf, knownVersion, inRange, sized}
+use Rattle.matrix.specs.Shape.{limits, shapeOf, knownVersion, inRange, sized}
 use Rattle.matrix.specs.Shaped.{Octets}
 use Rattle.validity.specs.Header.{Headed, refused-1, refused-2, refused-3, refused-4, refused-5, refused-none}
 use Rattle.validity.specs.Whole.{unread, version-read, version-wrong, range-read, headed, station-read}
@@ -40,7 +40,7 @@ octets c = record { octet = λ j. c .before .before .shared-slice-known .given j
 version-here : (c : tie.Else2) → knownVersion (shapeOf (bytes (made2 c)) .version) ≡ true
 version-here c = version-read _ _ (made2 c .shape .ensures) (c .if2 .left)
 
-range-here : (c : tie.Else3) → inRange (shapeOf (bytes (made3 c))) ≡ true
+range-here : (c : tie.Else3) → inRange limits (shapeOf (bytes (made3 c))) ≡ true
 range-here c = range-read _ _ (made3 c .shape .ensures) _ _ (c .before .in-range .ensures) (not-false _ (c .if3 .left))
 
 headed-here : (c : tie.Else3) → Headed (bytes (made3 c)) (shape (made3 c))

@@ -1,0 +1,31 @@
+-- Where a record is within two limits every call is the same under both. A record's n and p are read from its bytes 5 and 6, so that bytes of
+-- any length and content have them.
+use Prim.Native.Nat.{ℕ, _≤_}
+use mathlib.Core.Path.{_≡_}
+use mathlib.Core.Logic.{_↔_}
+use mathlib.Core.List.{List}
+use Rattle.matrix.specs.declared.Fields.{Fields}
+use Rattle.matrix.specs.Shape.{Limits, shapeOf}
+use Rattle.matrix.specs.Calls.{validAnswer, heldAnswer, commandAnswer, commandBytes, runAnswer, runBytes}
+use Rattle.question.specs.declared.Safety.{Safety}
+use Rattle.question.specs.Asked.{Answers}
+
+-- n and p are not above limits
+pub record NotAbove (most : Limits) (b : List ℕ) : Type 0 where
+  pub subjects : shapeOf b .n ≤ most .subjects
+  pub plain : shapeOf b .p ≤ most .plain
+
+-- Every call on a record is the same under two limits: its answer, and the bytes after it. The safety question's answer is any that the
+-- definition allows, so that what is allowed, with the buffer after it, is the same. A window's calls have no limits in their definitions.
+pub record SameCalls (most other : Limits) (b : List ℕ) : Type 0 where
+  pub valid : validAnswer most b ≡ validAnswer other b
+  pub held : (s o right : ℕ) → heldAnswer most b s o right ≡ heldAnswer other b s o right
+  pub command : (c : Fields) → commandAnswer most b c ≡ commandAnswer other b c
+  pub command-bytes : (c : Fields) → commandBytes most b c ≡ commandBytes other b c
+  pub run : (l : List ℕ) → runAnswer most b l ≡ runAnswer other b l
+  pub run-bytes : (l : List ℕ) → runBytes most b l ≡ runBytes other b l
+  pub safety : (mask s o right : ℕ) (out out′ : List ℕ) (r : Safety)
+      → Answers most b mask s o right out out′ r ↔ Answers other b mask s o right out out′ r
+
+pub record LimitsMoved : Type 0 where
+  pub any : (most other : Limits) (b : List ℕ) → NotAbove most b → NotAbove other b → SameCalls most other b
