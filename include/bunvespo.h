@@ -7,8 +7,8 @@
  * THE RECORD. A matrix of cells, 16 bits each, high byte first like every number in a record.
  *   byte 0        version: 1
  *   bytes 1 to 4  L: how many bytes come after these four, 2 + 2 n (n + p)
- *   byte 5        n: how many subject names there are, 1 to 64
- *   byte 6        p: how many plain names there are, 0 to 192
+ *   byte 5        n: how many subject names there are, 1 to 40
+ *   byte 6        p: how many plain names there are, 0 to 120
  *   from byte 7   the cells, n rows with n + p columns, row after row. A row belongs to the subject of its number. So does a column
  *                 below n; every other column is a plain object (a log). Subject 0, called U, is there from the start.
  * Names come and go. Subject s exists while the cell in row s, column s has control, and a plain object while at least one subject
@@ -67,9 +67,10 @@ extern "C" {
  * THE VERSION of this header and its archive, as numbers for #if. It has nothing to do with the version byte of a record.
  *   #if BUNVESPO_LIBRARY_VERSION >= 3000      0.3.0 or later: code 3 takes plain objects too
  *   #if BUNVESPO_LIBRARY_VERSION >= 4000      0.4.0 or later: the window of late refusals
+ *   #if BUNVESPO_LIBRARY_VERSION >= 5000      0.5.0 or later: the limits of n and p, which were 64 and 192, are 40 and 120
  */
 #define BUNVESPO_VERSION_MAJOR 0
-#define BUNVESPO_VERSION_MINOR 4
+#define BUNVESPO_VERSION_MINOR 5
 #define BUNVESPO_VERSION_PATCH 0
 #define BUNVESPO_LIBRARY_VERSION (BUNVESPO_VERSION_MAJOR * 1000000 + BUNVESPO_VERSION_MINOR * 1000 + BUNVESPO_VERSION_PATCH)
 
@@ -108,7 +109,7 @@ static inline const char *bunvespo_refusal_words(uint64_t refusal)
     case BUNVESPO_ANSWERED: return "not refused";
     case BUNVESPO_REFUSED_RECORD_SHORT: return "the record has fewer than 7 bytes";
     case BUNVESPO_REFUSED_VERSION: return "the record's version is not 1";
-    case BUNVESPO_REFUSED_COUNTS: return "the record's n is not 1 to 64, or its p is above 192";
+    case BUNVESPO_REFUSED_COUNTS: return "the record's n is not 1 to 40, or its p is above 120";
     case BUNVESPO_REFUSED_RECORD_LENGTH: return "the record's L or its length does not fit its n and p";
     case BUNVESPO_REFUSED_NOT_VALID: return "the record's matrix is not valid";
     case BUNVESPO_REFUSED_CODE: return "no command has this code";
@@ -160,10 +161,10 @@ enum {
                                                 become zero */
 };
 
-/* The limits of a record, and the bytes of buffer that a safety question asks for on a record of n subject names. With more than
-   64 it is the size for 64, which is enough for every record. */
-#define BUNVESPO_MOST_SUBJECTS 64
-#define BUNVESPO_MOST_PLAIN 192
+/* The limits of a record, and the bytes of buffer that a safety question asks for on a record of n subject names. With an n above
+   the limit it is the size for BUNVESPO_MOST_SUBJECTS, which is enough for every record. */
+#define BUNVESPO_MOST_SUBJECTS 40
+#define BUNVESPO_MOST_PLAIN 120
 #define BUNVESPO_BUFFER_SIZE(n) (5 + 6 * (2 + ((size_t)(n) > BUNVESPO_MOST_SUBJECTS ? (size_t)BUNVESPO_MOST_SUBJECTS : (size_t)(n))))
 
 /* The subject numbers that have a count in a window, the entries that are counted, and the bytes of a window. */

@@ -26,7 +26,7 @@ static void expect(const char *what, bunvespo_answer got, uint64_t refusal, uint
 static void empty_record(const char *what, uint8_t *at)
 {
     uint8_t list[5] = {1, 0, 0, 0, 0};
-    uint8_t out[BUNVESPO_BUFFER_SIZE(64)];
+    uint8_t out[BUNVESPO_BUFFER_SIZE(BUNVESPO_MOST_SUBJECTS)];
     memset(out, 0xEE, sizeof out);
     bunvespo_answer validity = {0, bunvespo_valid(at, 0)};
     expect(what, validity, 0, 0);

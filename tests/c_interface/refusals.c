@@ -13,7 +13,7 @@
 #ifdef BUNVESPO_VERSION
 #error "BUNVESPO_VERSION was a refusal once, and must mean nothing else now"
 #endif
-#if BUNVESPO_LIBRARY_VERSION < 4000
+#if BUNVESPO_LIBRARY_VERSION < 5000
 #error "the version can't be tested by #if"
 #endif
 
@@ -72,8 +72,9 @@ int main(void)
     static uint8_t out[BUNVESPO_BUFFER_SIZE(BUNVESPO_MOST_SUBJECTS)];
     test_words();
     test_rights();
-    expect("the buffer for 64 subjects", sizeof out == 401);
+    expect("the buffer for the largest record", sizeof out == 257);
     expect("the buffer for 1 subject", BUNVESPO_BUFFER_SIZE(1) == 23);
+    expect("the buffer for more subjects than a record has", BUNVESPO_BUFFER_SIZE(BUNVESPO_MOST_SUBJECTS + 1) == sizeof out);
     expect("a buffer's size never wraps", BUNVESPO_BUFFER_SIZE(SIZE_MAX) == sizeof out);
     return failures != 0;
 }

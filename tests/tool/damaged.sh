@@ -50,10 +50,9 @@ bytes controllers 01 00 00 00 22 04 00 00 02 00 01 00 01 00 01 00 00 00 02 00 02
 try check controllers
 changed 4 1b length
 try check length
-changed 6 c1 logs
+changed 6 79 logs
 try check logs
-changed 5 41 logins
+changed 5 29 logins
 try check logins
-head -c 32775 /dev/zero | tr '\0' '\377' >all
-{ printf '\x01\x00\x00\x80\x02\x40\xc0'; head -c 32768 all; } >worst
+{ printf '\x01\x00\x00\x32\x02\x28\x78'; head -c 12800 /dev/zero | tr '\0' '\377'; } >worst
 try check worst

@@ -48,8 +48,8 @@ try show "$a" --html /dev/null
 "$program" show "$a" --html - | head -n 1
 "$program" show "$a" --html - | cmp - before.html
 # A pipe that is closed early ends it quietly, with the answer's status.
-"$program" new big 64 192 >/dev/null
-for words in 'show big' 'ask big none 1 64 r0' 'help'; do
+"$program" new big 40 120 >/dev/null
+for words in 'show big' 'ask big none 1 40 r0' 'help'; do
     status=0
     "$program" $words 2>err | true || true
     { "$program" $words 2>err || echo $? >status; } | head -c 1 >/dev/null

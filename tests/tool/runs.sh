@@ -79,9 +79,9 @@ try run . commands
 try run /dev/null commands
 try run --dry /dev/null commands
 # More commands than a list has: the file is replaced once.
-"$program" new large 64 192 >/dev/null
-yes 'login 0 creates log 64
-login 0 destroys log 64' | head -n 30001 >many || true
+"$program" new large 40 120 >/dev/null
+yes 'login 0 creates log 40
+login 0 destroys log 40' | head -n 30001 >many || true
 "$program" run large many
 # Permissions stay; a link stays a link, and its target is replaced; another folder.
 cp "$a" station

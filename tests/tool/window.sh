@@ -44,7 +44,7 @@ enter '--window w' 'login 1 deletes r1 over login 2 from login 1' '4 300 0 0 0'
 cmp <(head -c 384 w) <(head -c 384 before-w) || fail "more than the number of entries is changed"
 tail -c 1 w | od -An -tu1
 # Names: of the file beside the window, of the file beside the one that a link leads to, or of a file given.
-printf 'login 0 = technician\nlogin 2 = night nurse\nlog 3 = bed-3\nlog 255 = far\nright 0 = read\n' >w.names
+printf 'login 0 = technician\nlogin 2 = night nurse\nlogin 39 = last\nlog 3 = bed-3\nlog 159 = far\nright 0 = read\n' >w.names
 ln -s w link
 try refused w
 try refused link
@@ -53,7 +53,7 @@ mv w.names given.names
 try refused w
 try refused w --names given.names
 try refused w --names nowhere
-for line in 'login 64 = x' 'log 0 = x' 'log 256 = x' 'login x = y'; do
+for line in 'login 40 = x' 'login 63 = x' 'log 0 = x' 'log 160 = x' 'login x = y'; do
     echo "$line" >wrong.names
     try refused w --names wrong.names
 done
@@ -173,15 +173,15 @@ try run station - --window w <commands
 try refused w
 cat before | try run --dry - commands --window w
 # The last 256: accepted commands push refused ones out, one by one.
-"$program" new large 64 192 >/dev/null
-echo 'login 0 creates log 64' | "$program" run large - >/dev/null
+"$program" new large 40 120 >/dev/null
+echo 'login 0 creates log 40' | "$program" run large - >/dev/null
 refuse() {
     local login
     for login in "$@"; do echo "12 $login 3 0 0" | "$program" run large - --window late >/dev/null || true; done
     try refused late
 }
 accept() {
-    { yes 'login 0 grants r0 over log 64 to login 0' || true; } | head -n "$1" >commands
+    { yes 'login 0 grants r0 over log 40 to login 0' || true; } | head -n "$1" >commands
     "$program" run large commands --window late | grep -v 'gains\|:$'
     try refused late
 }

@@ -30,6 +30,9 @@ try ''
 try check ''
 try ask "$a" 7 1 3 r0
 try ask "$a" 0 1 4 r0
+try ask "$a" 39 1 3 r0
+try ask "$a" 40 1 3 r0
+try ask "$a" 63 1 3 r0
 try ask "$a" 64 1 3 r0
 try ask "$a" 0,x 1 3 r0
 try ask "$a" '' 1 3 r0
@@ -52,8 +55,9 @@ try who "$a" 4 own
 try new
 try new station
 try new station 0 1
-try new station 65 1
-try new station 1 193
+try new station 41 1
+try new station 1 121
+try new station 64 192
 try new station -- -1 1
 try new station x 1
 try new station 99999999999999999999 1
@@ -61,6 +65,8 @@ try new station 99999999999999999999 1
 try new station 2 1
 try new station 2 1
 hex station
+try new largest 40 120
+stat -c '%s bytes' largest
 try new nowhere/station 2 1
 ln -s nothing link
 try new link 2 1

@@ -1,14 +1,17 @@
--- Where a record is within two limits every call is the same under both. A record's n and p are read from its bytes 5 and 6, so that bytes of
--- any length and content have them.
+-- Records within the limits are treated as before (Manual 2.3). The limits are those that hold and, before them, 64 subject names and 192 plain
+-- names. A record's n and p are read from its bytes 5 and 6, so that bytes of any length and content have them.
 use Prim.Native.Nat.{ℕ, _≤_}
 use mathlib.Core.Path.{_≡_}
 use mathlib.Core.Logic.{_↔_}
 use mathlib.Core.List.{List}
 use Rattle.matrix.specs.declared.Fields.{Fields}
-use Rattle.matrix.specs.Shape.{Limits, shapeOf}
+use Rattle.matrix.specs.Shape.{Limits, limits, shapeOf}
 use Rattle.matrix.specs.Calls.{validAnswer, heldAnswer, commandAnswer, commandBytes, runAnswer, runBytes}
 use Rattle.question.specs.declared.Safety.{Safety}
 use Rattle.question.specs.Asked.{Answers}
+
+abbrev pub limitsBefore : Limits
+limitsBefore = record { subjects = 64; plain = 192 }
 
 -- n and p are not above limits
 pub record NotAbove (most : Limits) (b : List ℕ) : Type 0 where
@@ -16,7 +19,8 @@ pub record NotAbove (most : Limits) (b : List ℕ) : Type 0 where
   pub plain : shapeOf b .p ≤ most .plain
 
 -- Every call on a record is the same under two limits: its answer, and the bytes after it. The safety question's answer is any that the
--- definition allows, so that what is allowed, with the buffer after it, is the same. A window's calls have no limits in their definitions.
+-- definition allows, so that what is allowed, with the buffer after it, is the same. The numbers of the C calls and the program's answer are made
+-- of these answers. A window's calls have no limits in their definitions.
 pub record SameCalls (most other : Limits) (b : List ℕ) : Type 0 where
   pub valid : validAnswer most b ≡ validAnswer other b
   pub held : (s o right : ℕ) → heldAnswer most b s o right ≡ heldAnswer other b s o right
@@ -27,5 +31,7 @@ pub record SameCalls (most other : Limits) (b : List ℕ) : Type 0 where
   pub safety : (mask s o right : ℕ) (out out′ : List ℕ) (r : Safety)
       → Answers most b mask s o right out out′ r ↔ Answers other b mask s o right out out′ r
 
+-- Any two limits, and those before with those that hold.
 pub record LimitsMoved : Type 0 where
   pub any : (most other : Limits) (b : List ℕ) → NotAbove most b → NotAbove other b → SameCalls most other b
+  pub before : (b : List ℕ) → NotAbove limits b → SameCalls limitsBefore limits b

@@ -1,4 +1,4 @@
--- The calls are the same under two limits: the refusals 1 to 5 alone look at the limits, and every call looks at these alone.
+-- Records within the limits are treated as before: the refusals 1 to 5 alone look at the limits, and every call looks at these alone.
 use Prim.Native.Nat.{ℕ, _≤_}
 use native.Mathlib.Omega.{arith}
 use mathlib.Core.Path.{_≡_, refl, sym, _∙_, ap}
@@ -7,19 +7,19 @@ use mathlib.Core.List.{List}
 use lib.ListN.{length}
 use Rattle.matrix.specs.declared.Fields.{Fields}
 use Rattle.matrix.specs.Tests.{firstFailed}
-use Rattle.matrix.specs.Shape.{Limits, shapeOf, inRange}
+use Rattle.matrix.specs.Shape.{Limits, limits, shapeOf, inRange}
 use Rattle.matrix.specs.Record.{recordRefusal}
 use Rattle.matrix.specs.Calls.{validAnswer, heldRefusal, heldAnswer, commandAnswer, commandBytes, runRefusal, runAnswer, runBytes}
 use Rattle.laws.specs.Tests.{same-test}
 use Rattle.laws.specs.Range.{ranged, in-range}
 use Rattle.question.specs.declared.Safety.{Safety}
 use Rattle.question.specs.Asked.{safetyRefusal, Answers}
-use Rattle.demands.specs.Limits.{NotAbove, SameCalls, LimitsMoved}
+use Rattle.demands.specs.Limits.{limitsBefore, NotAbove, SameCalls, LimitsMoved}
 
 -- what one test lets pass the other does
 passes : (most other : Limits) (b : List ℕ) → NotAbove other b → inRange most (shapeOf b) ≡ true → inRange other (shapeOf b) ≡ true
 passes most other b h e =
-    in-range other (shapeOf b) (record { low = ranged most (shapeOf b) e .low; high = h .subjects; plain = h .plain })
+    in-range other (shapeOf b) (record { low = ranged most (shapeOf b) e .low; high = omega (arith, h .subjects); plain = omega (arith, h .plain) })
 
 -- An answer of the safety question under one refusal is one under the same refusal.
 module _ (most other : Limits) (b : List ℕ) (mask s o right : ℕ) (out out′ : List ℕ) (r : Safety) where
@@ -77,5 +77,13 @@ module _ (most other : Limits) (b : List ℕ) (here : NotAbove most b) (there : 
             (answers-same most other b mask s o right out out′ r e, answers-same other most b mask s o right out out′ r (sym e));
       }
 
+-- what is not above the limits was not above those before
+not-above-before : (b : List ℕ) → NotAbove limits b → NotAbove limitsBefore b
+not-above-before b h =
+    let n : shapeOf b .n ≤ limits .subjects = h .subjects in
+    let p : shapeOf b .p ≤ limits .plain = h .plain in
+    record { subjects = omega arith; plain = omega arith }
+
 pub limits-moved : LimitsMoved
-limits-moved = record { any = λ most other b here there. same-calls most other b here there }
+limits-moved =
+    record { any = λ most other b here there. same-calls most other b here there; before = λ b h. same-calls limitsBefore limits b (not-above-before b h) h }

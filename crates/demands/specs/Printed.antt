@@ -26,7 +26,7 @@ use Rattle.demands.specs.First.{Condition, condition}
 
 -- 3: n is 0 or above the most subject names, or p is above the most plain names
 abbrev pub OutOfRange : Shape → Type 0
-OutOfRange f = (f .n ≡ 0) ⊎ (64 < f .n) ⊎ (192 < f .p)
+OutOfRange f = (f .n ≡ 0) ⊎ (40 < f .n) ⊎ (120 < f .p)
 
 -- 1 to 5: the record is too short; its version is unknown; n or p is out of range; L or the length is wrong; the matrix is not valid
 abbrev pub recordConditions : List ℕ → List Condition

@@ -47,20 +47,11 @@ opposite m t false some e = record { number = refl; some = some; failed = λ h. 
 -- n and p are tested against the limits: where the test fails one of the three printed cases holds, and where it passes none
 out-of-range : (f : Shape) → inRange limits f ≡ false → OutOfRange f
 out-of-range f h =
-    ⊎-elim (λ l. ⊎-elim (λ u. inr (inr (above l u))) (λ u. inr (inl (over (leb-false (f .n) mostSubjects u)))) (way (leb (f .n) mostSubjects)))
-    (λ l. inl (none (leb-false 1 (f .n) l))) (way (leb 1 (f .n)))
+    ⊎-elim (λ l. ⊎-elim (λ u. inr (inr (omega (arith, above l u)))) (λ u. inr (inl (omega (arith, leb-false (f .n) mostSubjects u)))) (way (leb (f .n) mostSubjects)))
+    (λ l. inl (omega (arith, leb-false 1 (f .n) l))) (way (leb 1 (f .n)))
   where
-    none : f .n < 1 → f .n ≡ 0
-    none l = omega arith
-
-    over : mostSubjects < f .n → 64 < f .n
-    over l = omega arith
-
-    above : leb 1 (f .n) ≡ true → leb (f .n) mostSubjects ≡ true → 192 < f .p
-    above l u =
-        let e : leb (f .p) mostPlain ≡ false = rw (l, u) at h in
-        let g : mostPlain < f .p = leb-false (f .p) mostPlain e in
-        omega arith
+    above : leb 1 (f .n) ≡ true → leb (f .n) mostSubjects ≡ true → mostPlain < f .p
+    above l u = let e : leb (f .p) mostPlain ≡ false = rw (l, u) at h in leb-false (f .p) mostPlain e
 
 within-range : (f : Shape) → inRange limits f ≡ true → OutOfRange f → ⊥
 within-range f h out = let r : Ranged limits f = ranged limits f h in inside (r .low) (r .high) (r .plain) out

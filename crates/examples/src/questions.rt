@@ -17,7 +17,7 @@ fn say_safety(a: Safety) {
     }
 }
 
-fn ask(b: &[u8], trust: u8, s: u8, o: u8, right: u8, out: &mut [u8]) {
+pub fn ask(b: &[u8], trust: u8, s: u8, o: u8, right: u8, out: &mut [u8]) {
     say(b", safety");
     next(trust);
     next(s);

@@ -55,6 +55,14 @@ fn rows_1_to_5() {
     row(4, 32, 8, 0, 4, 1, 1, 2, 0, 2);
 }
 
+// One subject name, and one plain name, more than the limits allow; and as many as they allow, with an L that is wrong for them.
+fn limits() {
+    row(3, 31, 5, 41, 4, 1, 1, 2, 0, 2);
+    row(4, 31, 5, 40, 4, 1, 1, 2, 0, 2);
+    row(3, 31, 6, 121, 4, 1, 1, 2, 0, 2);
+    row(4, 31, 6, 120, 4, 1, 1, 2, 0, 2);
+}
+
 fn rows_6_to_14() {
     row(6, 31, 0, 1, 14, 0, 0, 0, 0, 1);
     row(7, 31, 0, 1, 4, 0, 0, 4, 0, 0);
@@ -113,6 +121,7 @@ fn large() {
 
 pub fn all() {
     rows_1_to_5();
+    limits();
     rows_6_to_14();
     further();
     large();

@@ -1,6 +1,7 @@
 -- The rows of Manual 11.2 about validity and commands, as theorems about the definitions.
 use mathlib.Core.Path.{_≡_, refl}
 use mathlib.Core.Bool.{true, false}
+use lib.ListN.{set}
 use Rattle.matrix.specs.declared.Name.the-variants.{Plain}
 use Rattle.matrix.specs.declared.Answer.the-variants.{Accepted, Refused}
 use Rattle.matrix.specs.Bounded.{any, all, count, least}
@@ -33,6 +34,12 @@ pub record Stations : Type 0 where
   pub log-handed : commandAnswer limits A (transferOwn 2 1 3) ≡ Accepted 0
   pub log-handed-bytes : commandBytes limits A (transferOwn 2 1 3) ≡ A-handed
   pub log-missing : commandAnswer limits A-ends-00 (transferOwn 2 1 3) ≡ Refused 10 0
+  -- A with byte 5 = 29 has 41 subject names, and with byte 6 = 79 it has 121 plain names: both are refused by 3. With 40 and with 120 names 3 is
+  -- passed, and A's L is wrong.
+  pub subjects-over : commandAnswer limits (set A 5 41) (transferOwn 1 1 2) ≡ Refused 3 0
+  pub subjects-most : commandAnswer limits (set A 5 40) (transferOwn 1 1 2) ≡ Refused 4 0
+  pub logs-over : commandAnswer limits (set A 6 121) (transferOwn 1 1 2) ≡ Refused 3 0
+  pub logs-most : commandAnswer limits (set A 6 120) (transferOwn 1 1 2) ≡ Refused 4 0
   -- B is valid as well.
   pub b-valid : validAnswer limits B ≡ true
 
@@ -51,5 +58,9 @@ stations =
       log-handed = refl;
       log-handed-bytes = refl;
       log-missing = refl;
+      subjects-over = refl;
+      subjects-most = refl;
+      logs-over = refl;
+      logs-most = refl;
       b-valid = refl;
     }

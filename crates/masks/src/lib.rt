@@ -3,7 +3,7 @@
 use matrix::Shape;
 ghost use mathlib.Core.Path.{_≡_};
 ghost use mathlib.Core.Bool.{not, _&&_};
-ghost use Prim.Native.Nat.{_^_, _≤_, _<_};
+ghost use Prim.Native.Nat.{_^_, _<_};
 ghost use lib.Dec.{ltb};
 ghost use Rattle.matrix.specs.Bounded.{least, count};
 ghost use Rattle.matrix.specs.Bytes.{bit};
@@ -11,9 +11,6 @@ ghost use Rattle.matrix.specs.State.{exists};
 ghost use Rattle.matrix.specs.Reading.{stateOf};
 ghost use Rattle.cells.specs.Station.{Station};
 ghost use Rattle.masks.specs.Marks.{maskBits, MarksOf, LeftOut, Added};
-
-// The bits of a mask.
-const MASK_BITS: usize = 64;
 
 // The existing subjects of a record. No bit is set before its subject is reached, so adding it sets it.
 pub fn existing(b: &[u8], f: Shape) -> u64
@@ -71,14 +68,11 @@ pub fn lowest_untrusted(b: &[u8], f: Shape, trust: u64) -> usize
     lowest(left)
 }
 
-// Whether a trust mask has no bit at n or above. All bits fit where n is their number, by which nothing can be shifted.
+// Whether a trust mask has no bit at n or above. No record has as many subjects as a mask has bits.
 pub fn trust_fits(trust: u64, n: usize) -> bool
-    requires { ⌜ n ≤ maskBits ⌝ }
+    requires { ⌜ n < maskBits ⌝ }
     ensures { λ t. ⌜ t ≡ ltb trust (2 ^ n) ⌝ }
 {
-    if n == MASK_BITS {
-        return true;
-    }
     trust >> n == 0
 }
 

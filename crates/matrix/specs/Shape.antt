@@ -12,17 +12,17 @@ abbrev pub knownVersion : ℕ → Bool
 knownVersion v = eqb v 1
 
 -- The limits of records: the most subject names and the most plain names. Refusal 3, and so each call's answer, has them as an argument, since
--- what is promised of a change of the limits speaks of two of them.
+-- what is promised of a change of the limits speaks of two of them (Manual 2.3).
 pub record Limits : Type 0 where
   pub subjects : ℕ
   pub plain : ℕ
 
 -- the limits that hold
 abbrev pub mostSubjects : ℕ
-mostSubjects = 64
+mostSubjects = 40
 
 abbrev pub mostPlain : ℕ
-mostPlain = 192
+mostPlain = 120
 
 abbrev pub limits : Limits
 limits = record { subjects = mostSubjects; plain = mostPlain }

@@ -1,9 +1,9 @@
 // The types that the definitions and the code share. The definitions are in specs/.
 
 // The most subject names and plain names that a record has, and so the most columns.
-pub const MOST_SUBJECTS: usize = 64;
+pub const MOST_SUBJECTS: usize = 40;
 
-pub const MOST_PLAIN: usize = 192;
+pub const MOST_PLAIN: usize = 120;
 
 pub const MOST_COLUMNS: usize = MOST_SUBJECTS + MOST_PLAIN;
 

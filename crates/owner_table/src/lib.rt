@@ -49,7 +49,7 @@ fn all_root(t: &[u8; MOST_SUBJECTS], n: usize) -> bool
 }
 
 // Following owners from any of the n subjects comes to U: it does where each owner has a lower number than what it owns, and else after six
-// doublings each entry has followed 64 owners, and there are no more subjects. Where all have come to U before, the rest of the doublings is
+// doublings each entry has followed 64 owners, and there are fewer subjects. Where all have come to U before, the rest of the doublings is
 // left out.
 pub fn rooted(t: &[u8; MOST_SUBJECTS], n: usize) -> bool
     requires { ⌜ (1 ≤ n) × (n ≤ mostSubjects) × (length (now t) ≡ mostSubjects) × Inside n (ownerIn (now t)) ⌝ }

@@ -3,6 +3,8 @@
 use std::hint::black_box;
 use std::rc::Rc;
 
+use bunvespo::{MOST_PLAIN, MOST_SUBJECTS};
+
 use crate::lists::{accepted_commands, encode};
 use crate::measure::Case;
 use crate::numbers::Numbers;
@@ -19,18 +21,19 @@ pub struct Size {
 
 impl Size {
     /// All n subjects as a trust mask.
-    fn all(self) -> u64 {
+    pub fn all(self) -> u64 {
         !0 >> (64 - self.n)
     }
 }
 
-/// The sizes, small to large.
-pub const SIZES: [Size; 4] = [
-    Size { n: 4, p: 4 },
-    Size { n: 16, p: 48 },
-    Size { n: 40, p: 120 },
-    Size { n: 64, p: 192 },
-];
+/// The largest size.
+pub const LARGEST: Size = Size {
+    n: MOST_SUBJECTS as usize,
+    p: MOST_PLAIN as usize,
+};
+
+/// The sizes that are measured, small to large.
+pub const SIZES: [Size; 3] = [Size { n: 4, p: 4 }, Size { n: 16, p: 48 }, LARGEST];
 
 /// Commands in a long list.
 pub const LONG: usize = 10_000;

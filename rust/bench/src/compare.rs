@@ -2,6 +2,7 @@
 
 use std::fmt::Debug;
 
+use crate::cases::{LARGEST, SIZES, Size};
 use crate::lists::{accepted_commands, encode, likely_command};
 use crate::numbers::Numbers;
 use crate::sides::{Calls, LIBRARY, PLAIN, SSE2};
@@ -10,9 +11,6 @@ use crate::windows::{WINDOW_SIZE, compared_entry};
 
 /// The number of seeded records.
 pub const RECORDS: u64 = 4000;
-
-/// The sizes that are measured, which are compared more often than others.
-const SIZES: [(usize, usize); 4] = [(4, 4), (16, 48), (40, 120), (64, 192)];
 
 /// The entries that are put into the seeded window.
 pub const ENTRIES: usize = 50_000;
@@ -27,16 +25,25 @@ pub fn compare_all() {
 fn compare_records() {
     for seed in 0..RECORDS {
         let mut numbers = Numbers(seed);
-        let (n, p) = match numbers.below(8) {
-            place @ 0..4 => SIZES[place],
-            4 | 5 => (1 + numbers.below(8), numbers.below(8)),
-            _ => (1 + numbers.below(64), numbers.below(193)),
-        };
-        let mut record = any_record(&mut numbers, n, p);
+        let size = any_size(&mut numbers);
+        let mut record = any_record(&mut numbers, size.n, size.p);
         if numbers.once_in(4) {
             damage(&mut numbers, &mut record);
         }
-        compare_record(&mut numbers, seed, &record, n, p);
+        compare_record(&mut numbers, seed, &record, size);
+    }
+}
+
+/// A size that is measured, a small one, or any; of the last a few are above the limits by one or two.
+fn any_size(numbers: &mut Numbers) -> Size {
+    let (subjects, plain) = match numbers.below(8) {
+        place @ 0..3 => return SIZES[place],
+        3..5 => (8, 7),
+        _ => (LARGEST.n + 2, LARGEST.p + 2),
+    };
+    Size {
+        n: 1 + numbers.below(subjects),
+        p: numbers.below(plain + 1),
     }
 }
 
@@ -56,14 +63,14 @@ fn same<T: PartialEq + Debug>(seed: u64, call: &str, answer: impl Fn(Calls) -> T
 }
 
 /// Every call on one record with several numbers.
-fn compare_record(numbers: &mut Numbers, seed: u64, record: &[u8], n: usize, p: usize) {
+fn compare_record(numbers: &mut Numbers, seed: u64, record: &[u8], size: Size) {
     same(seed, "valid", |calls| (calls.valid)(record));
     for _ in 0..4 {
-        let s = numbers.below(n + 1) as u64;
-        let o = numbers.below(n + p + 1) as u64;
+        let s = numbers.below(size.n + 1) as u64;
+        let o = numbers.below(size.n + size.p + 1) as u64;
         let right = numbers.below(17) as u64;
         same(seed, "held", |calls| (calls.held)(record, s, o, right));
-        compare_safety(numbers, seed, record, n, (s, o, right));
+        compare_safety(numbers, seed, record, size, (s, o, right));
     }
     for _ in 0..13 {
         compare_command(numbers, seed, record);
@@ -143,10 +150,10 @@ fn compare_safety(
     numbers: &mut Numbers,
     seed: u64,
     record: &[u8],
-    n: usize,
+    size: Size,
     (s, o, right): (u64, u64, u64),
 ) {
-    let within = if n == 64 { !0 } else { (1 << n) - 1 };
+    let (n, within) = (size.n, size.all());
     let trust = match numbers.below(4) {
         0 => within,
         1 => within & !(1 << numbers.below(n)),

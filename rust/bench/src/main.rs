@@ -25,7 +25,7 @@ mod sse2;
 mod stations;
 mod windows;
 
-use cases::{LONG, SIZES};
+use cases::{LARGEST, LONG};
 use report::{by_shape, by_size, heading, on_window, window_heading};
 use stations::Shape;
 
@@ -73,6 +73,6 @@ fn main() {
     );
     calls();
     lists();
-    by_shape(SIZES[3]);
+    by_shape(LARGEST);
     window();
 }

@@ -133,8 +133,8 @@ pub fn run(record: &mut [u8], list: &[u8]) -> Result<u64, RunRefused> {
     }
 }
 
-/// The mask of trusted subjects that a safety question takes. A subject of 64 or more is in no record: it gives
-/// [`Refusal::Bounds`], as the question itself does for one beyond its record.
+/// The mask of trusted subjects that a safety question takes. It has 64 bits, more than a record has subjects, and so none for a
+/// subject of 64 or more: that one gives [`Refusal::Bounds`], as the question itself does for one beyond its record.
 ///
 /// ```
 /// use bunvespo::{Refusal, trust_mask};

@@ -3,17 +3,17 @@
 use crate::refusal::Refusal;
 
 /// The most subject names that a record may have.
-pub const MOST_SUBJECTS: u8 = 64;
+pub const MOST_SUBJECTS: u8 = 40;
 
 /// The most plain names that a record may have.
-pub const MOST_PLAIN: u8 = 192;
+pub const MOST_PLAIN: u8 = 120;
 
 /// The most bytes that a record may have. Who reads one from a file needs at most one byte more, to see that it is too long.
 ///
 /// ```
 /// use bunvespo::{MOST_RECORD, new_record};
 ///
-/// assert_eq!(new_record(64, 192)?.len(), MOST_RECORD);
+/// assert_eq!(new_record(40, 120)?.len(), MOST_RECORD);
 /// # Ok::<(), bunvespo::Refusal>(())
 /// ```
 pub const MOST_RECORD: usize = record_length(MOST_SUBJECTS, MOST_PLAIN);
@@ -29,7 +29,7 @@ const fn record_length(n: u8, p: u8) -> usize {
 /// use bunvespo::{MOST_SUBJECTS, buffer_size};
 ///
 /// const ENOUGH_FOR_ANY_RECORD: usize = buffer_size(MOST_SUBJECTS);
-/// assert_eq!(ENOUGH_FOR_ANY_RECORD, 401);
+/// assert_eq!(ENOUGH_FOR_ANY_RECORD, 257);
 /// ```
 pub const fn buffer_size(n: u8) -> usize {
     5 + 6 * (n as usize + 2)
@@ -121,14 +121,15 @@ impl Header {
     }
 }
 
-/// The record of a new station with n subject names and p plain names, in which subject 0 alone exists. Where n is not 1 to 64 or
-/// p is above 192 the error is [`Refusal::Counts`].
+/// The record of a new station with n subject names and p plain names, in which subject 0 alone exists. Where n is not 1 to
+/// [`MOST_SUBJECTS`] or p is above [`MOST_PLAIN`] the error is [`Refusal::Counts`].
 ///
 /// ```
 /// use bunvespo::{Refusal, new_record, valid};
 ///
-/// assert!(valid(&new_record(64, 192)?));
+/// assert!(valid(&new_record(40, 120)?));
 /// assert_eq!(new_record(0, 0), Err(Refusal::Counts));
+/// assert_eq!(new_record(41, 0), Err(Refusal::Counts));
 /// assert_eq!(new_record(1, u64::MAX), Err(Refusal::Counts));
 /// # Ok::<(), Refusal>(())
 /// ```

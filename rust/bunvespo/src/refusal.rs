@@ -104,7 +104,7 @@ impl Refusal {
         match self {
             Refusal::RecordShort => "the record has fewer than 7 bytes",
             Refusal::Version => "the record's version is not 1",
-            Refusal::Counts => "the record's n is not 1 to 64, or its p is above 192",
+            Refusal::Counts => "the record's n is not 1 to 40, or its p is above 120",
             Refusal::RecordLength => "the record's L or its length does not fit its n and p",
             Refusal::NotValid => "the record's matrix is not valid",
             Refusal::Code => "no command has this code",

@@ -83,7 +83,7 @@ fn limits() {
     let number = |name: &str| after(&format!("#define BUNVESPO_MOST_{name} "));
     assert_eq!(number("SUBJECTS"), MOST_SUBJECTS.to_string());
     assert_eq!(number("PLAIN"), MOST_PLAIN.to_string());
-    assert_eq!(buffer_size(MOST_SUBJECTS), 401);
+    assert_eq!(buffer_size(MOST_SUBJECTS), 257);
     assert_eq!(buffer_size(u8::MAX), 5 + 6 * 257);
 }
 

@@ -3,17 +3,24 @@
 use std::thread;
 
 use bunvespo::{
-    Command, MOST_SUBJECTS, Right, Safety, buffer_size, command, held, new_record, safety, valid,
+    Command, MOST_PLAIN, MOST_SUBJECTS, Right, Safety, buffer_size, command, held, new_record,
+    safety, trust_mask, valid,
 };
 
-/// A chain of 64 subjects, each the owner of the next and of a log.
+const SUBJECTS: u64 = MOST_SUBJECTS as u64;
+const COLUMNS: u64 = SUBJECTS + MOST_PLAIN as u64;
+
+/// The one subject that isn't trusted.
+const UNTRUSTED: u64 = 5;
+
+/// The largest station: a chain of subjects, each the owner of the next and, in turn, of the logs.
 fn chain() -> Vec<u8> {
-    let mut record = new_record(64, 64).unwrap();
-    for s in 0..64 {
-        if s > 0 {
-            command(&mut record, Command::create_subject(s - 1, s)).unwrap();
-        }
-        command(&mut record, Command::create_object(s, 64 + s)).unwrap();
+    let mut record = new_record(SUBJECTS, MOST_PLAIN.into()).unwrap();
+    for s in 1..SUBJECTS {
+        command(&mut record, Command::create_subject(s - 1, s)).unwrap();
+    }
+    for log in SUBJECTS..COLUMNS {
+        command(&mut record, Command::create_object(log % SUBJECTS, log)).unwrap();
     }
     record
 }
@@ -24,14 +31,19 @@ type Answered = (bool, Safety, Vec<u8>);
 /// Questions about each log, and a copy of the record in which the chain is destroyed from its middle down.
 fn all_answers(record: &[u8]) -> (Vec<Answered>, Vec<u8>) {
     let mut answers = Vec::new();
-    for log in 64..128 {
+    let (trust, last) = (
+        trust_mask((0..SUBJECTS).filter(|&s| s != UNTRUSTED)).unwrap(),
+        SUBJECTS - 1,
+    );
+    for log in SUBJECTS..COLUMNS {
         let mut out = vec![0xEE; buffer_size(MOST_SUBJECTS)];
-        let asked = safety(record, !(1 << 5), 63, log, Right::Own, &mut out).unwrap();
-        answers.push((held(record, 5, log, Right::Own).unwrap(), asked, out));
+        let asked = safety(record, trust, last, log, Right::Own, &mut out).unwrap();
+        let held = held(record, UNTRUSTED, log, Right::Own).unwrap();
+        answers.push((held, asked, out));
     }
-    let mut copy = record.to_vec();
-    for s in 32..64 {
-        command(&mut copy, Command::destroy_subject(31, s)).unwrap();
+    let (mut copy, middle) = (record.to_vec(), SUBJECTS / 2);
+    for s in middle..SUBJECTS {
+        command(&mut copy, Command::destroy_subject(middle - 1, s)).unwrap();
         assert!(valid(&copy));
     }
     (answers, copy)

@@ -3,8 +3,9 @@
 use std::error::Error;
 
 use bunvespo::{
-    Basic, Command, CommandRefused, EncodeError, Header, MOST_COMMANDS, ParseRightError, Refusal,
-    Right, RunRefused, commands, encode, new_record, run, trust_mask, valid,
+    Basic, Command, CommandRefused, EncodeError, Header, MOST_COMMANDS, MOST_PLAIN, MOST_SUBJECTS,
+    ParseRightError, Refusal, Right, RunRefused, Safety, buffer_size, commands, encode, new_record,
+    run, safety, trust_mask, valid,
 };
 
 #[test]
@@ -62,7 +63,7 @@ fn rights_as_text() {
 /// Headers of bytes of every length and of every kind: no panic, and `None` or `RecordShort` where the bytes end.
 #[test]
 fn headers_of_any_bytes() {
-    for byte in [0, 1, 64, 127, 255] {
+    for byte in [0, 1, 40, 41, 64, 127, 255] {
         for length in 0..40 {
             let record = vec![byte; length];
             let Ok(header) = Header::read(&record) else {
@@ -108,17 +109,19 @@ fn cells_of_station_a() {
 
 #[test]
 fn new_records() {
+    let (most_subjects, most_plain) = (u64::from(MOST_SUBJECTS), u64::from(MOST_PLAIN));
     for n in 0..=300 {
-        for p in [0, 1, 191, 192, 193, 255, 256, 257, 1 << 32, u64::MAX] {
+        for p in (0..=300).chain([1 << 32, u64::MAX]) {
+            let within = (1..=most_subjects).contains(&n) && p <= most_plain;
             match new_record(n, p) {
                 Ok(record) => {
-                    assert!((1..=64).contains(&n) && p <= 192 && valid(&record));
+                    assert!(within && valid(&record));
                     let header = Header::read(&record).unwrap();
                     assert_eq!((u64::from(header.n), u64::from(header.p)), (n, p));
                     assert_eq!(header.expected_length(), record.len());
                 }
                 Err(refusal) => {
-                    assert!(!(1..=64).contains(&n) || p > 192);
+                    assert!(!within);
                     assert_eq!(refusal, Refusal::Counts);
                 }
             }
@@ -186,6 +189,24 @@ fn trust() {
     assert_eq!(trust_mask([63, 63]), Ok(1 << 63));
     for beyond in [64, 65, 1 << 32, u64::MAX] {
         assert_eq!(trust_mask([0, beyond]), Err(Refusal::Bounds));
+    }
+}
+
+/// A mask may have a bit for a subject that no record has; each question is refused by 7 then.
+#[test]
+fn trust_beyond_the_record() {
+    for n in [1, 2, MOST_SUBJECTS.into()] {
+        let record = new_record(n, 0).unwrap();
+        let mut out = [0xEE; buffer_size(MOST_SUBJECTS)];
+        for beyond in n..64 {
+            let trust = trust_mask([0, beyond]).unwrap();
+            let asked = safety(&record, trust, 0, 0, Right::Control, &mut out);
+            assert_eq!(asked, Err(Refusal::Bounds));
+        }
+        assert_eq!(out, [0xEE; buffer_size(MOST_SUBJECTS)]);
+        let trust = trust_mask(0..n).unwrap();
+        let asked = safety(&record, trust, 0, 0, Right::Control, &mut out);
+        assert_eq!(asked, Ok(Safety::Leaks(0)));
     }
 }
 

@@ -5,6 +5,7 @@ use std::fmt;
 use reference::WINDOW_SIZE;
 
 use crate::forged;
+use crate::matrix::{MOST_PLAIN, MOST_SUBJECTS};
 
 /// The calls that give an answer: all but window_empty.
 #[derive(Clone, Copy, Debug, PartialEq, Eq)]
@@ -118,6 +119,9 @@ impl fmt::Display for Windows {
     }
 }
 
+/// The most commands of a leak: two more than there are subject names.
+const MOST_OF_LEAK: usize = MOST_SUBJECTS as usize + 2;
+
 /// The counts of a whole run. They take the same room however long the run.
 pub struct Counts {
     /// By call and refusal; place 0 counts the inputs that were answered.
@@ -133,11 +137,13 @@ pub struct Counts {
     pub ran: [u64; 6],
     pub safe: u64,
     /// Leaks by the number of commands.
-    pub leaks: [u64; 67],
+    pub leaks: [u64; MOST_OF_LEAK + 1],
     /// Safety questions that were also answered by the search.
     pub searched: u64,
     /// The sizes of the valid records met, by n - 1 and p.
     pub sizes: Vec<bool>,
+    /// Whole records above the limits, each asked of every call on a record: of n, of p, and of both.
+    pub above: [u64; 3],
     pub windows: Windows,
 }
 
@@ -151,9 +157,10 @@ impl Counts {
             handed_in_lists: 0,
             ran: [0; 6],
             safe: 0,
-            leaks: [0; 67],
+            leaks: [0; MOST_OF_LEAK + 1],
             searched: 0,
-            sizes: vec![false; 64 * 193],
+            sizes: vec![false; (MOST_SUBJECTS * (MOST_PLAIN + 1)) as usize],
+            above: [0; 3],
             windows: Windows::new(),
         }
     }
@@ -165,12 +172,28 @@ impl Counts {
 
     /// Notes that a valid record of this size was met.
     pub fn add_size(&mut self, n: u64, p: u64) {
-        self.sizes[((n - 1) * 193 + p) as usize] = true;
+        self.sizes[((n - 1) * (MOST_PLAIN + 1) + p) as usize] = true;
+    }
+
+    /// Counts a whole record of a size above the limits.
+    pub fn add_above(&mut self, n: u64, p: u64) {
+        let of = match (n > MOST_SUBJECTS, p > MOST_PLAIN) {
+            (true, false) => 0,
+            (false, true) => 1,
+            (true, true) => 2,
+            (false, false) => unreachable!("n or p is above its limit"),
+        };
+        self.above[of] += 1;
     }
 
     /// The number of inputs.
     pub fn inputs(&self) -> u64 {
         self.by_refusal.iter().flatten().sum()
+    }
+
+    /// The number of inputs that were answered, or refused by another number than this one.
+    pub fn inputs_but(&self, refusal: u64) -> u64 {
+        self.inputs() - CALLS.map(|call| self.of(call, refusal)).iter().sum::<u64>()
     }
 
     /// What never occurred and should have, in words.
@@ -198,6 +221,9 @@ impl Counts {
             ("safety: safe", self.safe),
             ("safety: leaks", self.leaks.iter().sum()),
             ("safety: a question answered by the search", self.searched),
+            ("a whole record with n above its limit", self.above[0]),
+            ("a whole record with p above its limit", self.above[1]),
+            ("a whole record with both above", self.above[2]),
             ("window_count: 256", self.windows.full),
         ];
         let never = answers.iter().filter(|(_, count)| *count == 0);
@@ -270,6 +296,11 @@ impl fmt::Display for Counts {
         }
         let sizes = self.sizes.iter().filter(|met| **met).count();
         writeln!(f, "sizes of valid records: {sizes} of {}", self.sizes.len())?;
+        let [of_n, of_p, of_both] = self.above;
+        writeln!(
+            f,
+            "whole records above the limit of n: {of_n}, of p: {of_p}, of both: {of_both}"
+        )?;
         writeln!(
             f,
             "safety questions also answered by the search: {}",

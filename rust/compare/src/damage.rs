@@ -1,6 +1,9 @@
 //! Records that are wrong in some way. Not each damage makes a record invalid: the second implementation says which.
 
-use crate::matrix::{CONTROL, OWN, clear, existing_subjects, is_set, set, sizes};
+use crate::matrix::{
+    CONTROL, FORMER_MOST_PLAIN, FORMER_MOST_SUBJECTS, MOST_PLAIN, MOST_SUBJECTS, OWN, clear,
+    existing_subjects, is_set, set, sizes,
+};
 use crate::random::Random;
 
 /// A damage that keeps the length.
@@ -201,28 +204,36 @@ fn change_version(record: &mut [u8], random: &mut Random) {
     record[0] = random.pick(&[0, 2, 3, 0x81, 0xFF]);
 }
 
-/// n 0 or over 64, or p over 192.
+/// n 0, or n or p over its limit.
 fn leave_range(record: &mut [u8], random: &mut Random) {
+    let n = over(MOST_SUBJECTS, FORMER_MOST_SUBJECTS, random);
+    let p = over(MOST_PLAIN, FORMER_MOST_PLAIN, random);
     match random.below(2) {
-        0 => record[5] = random.pick(&[0, 65, 66, 128, 129, 255]),
-        _ => record[6] = random.pick(&[193, 194, 255]),
+        0 => record[5] = random.pick(&[0, 128, 129, 255, n, n]),
+        _ => record[6] = random.pick(&[255, p, p]),
     }
+}
+
+/// A number just over a limit, or about the former one.
+fn over(limit: u64, former: u64, random: &mut Random) -> u8 {
+    let about_former = random.pick(&[former - 1, former, former + 1, former + 2]);
+    random.pick(&[limit + 1, limit + 2, about_former, about_former]) as u8
 }
 
 /// Other sizes within their ranges, which the length does not fit.
 fn change_sizes(record: &mut [u8], random: &mut Random) {
     match random.below(3) {
-        0 => record[5] = 1 + random.below(64) as u8,
-        1 => record[6] = random.below(193) as u8,
+        0 => record[5] = 1 + random.below(MOST_SUBJECTS) as u8,
+        1 => record[6] = random.below(MOST_PLAIN + 1) as u8,
         _ => record.swap(5, 6),
     }
 }
 
-/// One row of as many cells as there were, so that the length still fits where the cells are at most 193.
+/// One row of as many cells as there were, so that the length still fits, where a record may have such a row.
 fn keep_cell_count(record: &mut [u8], _: &mut Random) {
     let (n, p) = sizes(record);
     let cells = n * (n + p);
-    if (1..=193).contains(&cells) {
+    if (1..=1 + MOST_PLAIN).contains(&cells) {
         record[5] = 1;
         record[6] = (cells - 1) as u8;
     }

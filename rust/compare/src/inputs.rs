@@ -5,12 +5,28 @@ use reference::{
 };
 
 use crate::facts::Facts;
+use crate::matrix::{FORMER_MOST_PLAIN, FORMER_MOST_SUBJECTS, MOST_PLAIN, MOST_SUBJECTS};
 use crate::random::Random;
+
+/// The bounds of k, of the code and of the right; of a record, now and formerly; of widths.
+const BOUNDS: [u64; 11] = [
+    7,
+    14,
+    16,
+    MOST_SUBJECTS,
+    FORMER_MOST_SUBJECTS,
+    MOST_PLAIN,
+    MOST_SUBJECTS + MOST_PLAIN,
+    FORMER_MOST_PLAIN,
+    256,
+    65_536,
+    1 << 32,
+];
 
 /// A number near the field's bound (the first number over it), near another bound, or near a width of bits; several
 /// equal the legal one modulo such a width.
 fn extreme(legal: u64, bound: u64, random: &mut Random) -> u64 {
-    let other = random.pick(&[7, 14, 16, 64, 192, 256, 65_536, 1 << 32]);
+    let other = random.pick(&BOUNDS);
     let width = random.pick(&[8, 16, 31, 32, 33, 48, 62, 63]);
     match random.below(6) {
         0 => bound,

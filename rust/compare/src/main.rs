@@ -1,12 +1,13 @@
 //! Asks the proved library, through its C interface, and the second implementation the same seeded inputs, and
-//! compares answers, numbers and buffers to the last byte. It exits with 0 only if all agree and every refusal and
-//! answer that the manual gives occurred.
+//! compares answers, numbers and buffers to the last byte. It exits with 0 only if all agree, every refusal and answer
+//! that the manual gives occurred, and whole records above the limits of n and p did too.
 //!
 //!     compare [--inputs N] [--seed S] [--program PATH]
 //!
 //! N is the number of inputs on records drawn at random. The inputs of every cell with every right and those of windows
 //! come after them and are not among the N.
 
+mod above;
 mod cells;
 mod check;
 mod count;

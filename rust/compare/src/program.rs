@@ -6,10 +6,12 @@ use std::process::{Command, Stdio};
 
 use reference::{Safety, buffer_minimum, leaks_by, read, write_list};
 
+use crate::above::record_above;
 use crate::check::hex;
 use crate::damage::damage;
 use crate::generate::valid_record;
 use crate::inputs;
+use crate::matrix::{MOST_PLAIN, MOST_SUBJECTS};
 use crate::random::Random;
 
 /// The most bytes of an input that is asked (Manual 10.2).
@@ -18,8 +20,11 @@ const INPUT_MAXIMUM: usize = 65_536;
 /// The bytes of a question after the record: the trust mask in eight, and s, o and the right.
 const QUESTION_BYTES: usize = 11;
 
-/// The number of generated inputs, besides those of special lengths.
+/// The number of generated inputs, besides those of special lengths and those with records above the limits.
 const GENERATED: u64 = 280;
+
+/// The number of inputs with whole records above the limits.
+const ABOVE: u64 = 40;
 
 /// How often the program printed what.
 #[derive(Default)]
@@ -84,7 +89,7 @@ fn check(input: &[u8], printed: &[u8], runs: &mut Runs) -> Result<(), String> {
         }
     };
     let [trust, s, o, right] = question;
-    match reference::safety(record, trust, s, o, right, buffer_minimum(64)) {
+    match reference::safety(record, trust, s, o, right, buffer_minimum(MOST_SUBJECTS)) {
         Safety::Refused(refusal) => {
             runs.refused[refusal as usize] += 1;
             refused(refusal)
@@ -142,21 +147,36 @@ fn print_of(program: &str, input: &[u8]) -> Result<Vec<u8>, String> {
 /// A generated input: a record, valid or damaged, and a question.
 fn generated(random: &mut Random) -> Vec<u8> {
     let (n, p) = match random.below(4) {
-        0 => (1 + random.below(64), random.below(193)),
+        0 => (
+            1 + random.below(MOST_SUBJECTS),
+            random.below(MOST_PLAIN + 1),
+        ),
         _ => (1 + random.below(5), random.below(5)),
     };
     let mut input = valid_record(n, p, random);
     let station = read(&input).expect("the record was built to be valid");
-    let [trust, s, o, right] = inputs::safety_question(&station, random);
+    let question = inputs::safety_question(&station, random);
     if random.one_in(3) {
         damage(&mut input, random);
     }
-    input.extend(trust.to_be_bytes());
-    input.extend([s as u8, o as u8, right as u8]);
+    append(&mut input, question);
     if random.one_in(20) {
         input.pop();
     }
     input
+}
+
+/// An input with a whole record above the limits and a question about its names.
+fn above(random: &mut Random) -> Vec<u8> {
+    let (mut input, station) = record_above(random);
+    append(&mut input, inputs::safety_question(&station, random));
+    input
+}
+
+/// Appends a question to a record.
+fn append(input: &mut Vec<u8>, [trust, s, o, right]: [u64; 4]) {
+    input.extend(trust.to_be_bytes());
+    input.extend([s as u8, o as u8, right as u8]);
 }
 
 /// Inputs of special lengths: too short for a question, just a question, and about the most.
@@ -178,8 +198,10 @@ fn special() -> Vec<Vec<u8>> {
 pub fn compare(program: &str, seed: u64) -> Result<Runs, String> {
     let mut runs = Runs::default();
     let mut random = Random::new(seed, u64::MAX);
-    let generated = (0..GENERATED).map(|_| generated(&mut random));
-    for input in special().into_iter().chain(generated) {
+    let mut inputs = special();
+    inputs.extend((0..GENERATED).map(|_| generated(&mut random)));
+    inputs.extend((0..ABOVE).map(|_| above(&mut random)));
+    for input in inputs {
         let printed = print_of(program, &input)?;
         check(&input, &printed, &mut runs).map_err(|fault| {
             format!(

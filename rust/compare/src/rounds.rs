@@ -1,24 +1,32 @@
 //! One round: a valid record of the next size, a small valid record and a damaged one, with inputs of all five calls
-//! on records; in some rounds also the longest lists and all questions of a small station.
+//! on records; in some rounds also a record above the limits, the longest lists and all questions of a small station.
 
 use reference::{Station, read};
 
-use crate::check::{self, Difference};
+use crate::above::record_above;
+use crate::check::{self, Difference, hex};
 use crate::count::Counts;
 use crate::damage::damage;
 use crate::facts::Facts;
 use crate::generate::valid_record;
 use crate::inputs;
+use crate::matrix::{MOST_PLAIN, MOST_SUBJECTS};
 use crate::random::Random;
 use crate::small::{self, Searches, not_valid};
 
-/// How many rounds there are to one with the longest lists, and to one with all questions of a small station.
+/// How many rounds there are to one with a record above the limits, to one with the longest lists, and to one with all
+/// questions of a small station.
+const ROUNDS_TO_ABOVE: u64 = 4;
 const ROUNDS_TO_LONGEST_LIST: u64 = 500;
 const ROUNDS_TO_SMALL_STATION: u64 = 250;
 
-/// The size of a round's record: in 64 times 193 rounds every size occurs.
+/// The refusal of a record whose n or p is out of range.
+const REFUSED_COUNTS: u64 = 3;
+
+/// The size of a round's record: in as many rounds as there are sizes every size occurs.
 fn size_of_round(round: u64) -> (u64, u64) {
-    (1 + round % 64, round / 64 % 193)
+    let (n, p) = (round % MOST_SUBJECTS, round / MOST_SUBJECTS);
+    (1 + n, p % (MOST_PLAIN + 1))
 }
 
 /// A small size.
@@ -41,6 +49,9 @@ pub fn round(
     ask_of_valid(&small, random, counts)?;
     let damaged = if random.one_in(4) { large } else { small };
     ask_of_damaged(damaged, random, counts)?;
+    if number.is_multiple_of(ROUNDS_TO_ABOVE) {
+        ask_above(random, counts)?;
+    }
     if number.is_multiple_of(ROUNDS_TO_LONGEST_LIST) {
         longest_list(random, counts)?;
     }
@@ -59,16 +70,45 @@ fn station_of(record: &[u8]) -> Result<Station, Difference> {
 fn ask_of_valid(record: &[u8], random: &mut Random, counts: &mut Counts) -> Result<(), Difference> {
     let station = station_of(record)?;
     counts.add_size(station.n, station.p);
+    ask_each(record, &station, random, counts)
+}
+
+/// One input of each of the five calls on a record, drawn from its station.
+fn ask_each(
+    record: &[u8],
+    station: &Station,
+    random: &mut Random,
+    counts: &mut Counts,
+) -> Result<(), Difference> {
     check::valid(record, false, counts)?;
-    let question = inputs::held_question(&station, random);
+    let question = inputs::held_question(station, random);
     check::held(record, question, false, counts)?;
-    let fields = inputs::command(&station, &Facts::of(&station), random);
+    let fields = inputs::command(station, &Facts::of(station), random);
     check::command(record, fields, false, counts)?;
-    let list = inputs::list(&station, random);
+    let list = inputs::list(station, random);
     check::run(record, &list, random.one_in(2), counts)?;
-    let question = inputs::safety_question(&station, random);
+    let question = inputs::safety_question(station, random);
     let length = inputs::buffer_length(station.n, random);
     check::safety(record, question, length, random.one_in(2), counts)
+}
+
+/// One input of each of the five calls on a whole record above the limits. All of them have to be refused for that,
+/// whatever is asked.
+fn ask_above(random: &mut Random, counts: &mut Counts) -> Result<(), Difference> {
+    let (record, station) = record_above(random);
+    let others = counts.inputs_but(REFUSED_COUNTS);
+    ask_each(&record, &station, random, counts)?;
+    if counts.inputs_but(REFUSED_COUNTS) != others {
+        let other = format!("a call gives another answer than refusal {REFUSED_COUNTS}");
+        return Err(Difference {
+            call: "a whole record above the limits",
+            inputs: format!("record {}", hex(&record)),
+            reference: other.clone(),
+            library: other,
+        });
+    }
+    counts.add_above(station.n, station.p);
+    Ok(())
 }
 
 /// Inputs of the validity call and of two others on a record that was valid and is damaged. What is asked of it was

@@ -5,6 +5,12 @@ use crate::rights::Cell;
 use crate::state::{Name, State};
 use crate::valid::matrix_valid;
 
+/// The most subject names that a record may have; it has at least one, U.
+pub const MOST_SUBJECTS: u64 = 40;
+
+/// The most plain names that a record may have; it may have none.
+pub const MOST_PLAIN: u64 = 120;
+
 /// What is read from a record (Manual 2.2): n, p and the state.
 #[derive(Clone, Debug, PartialEq, Eq)]
 pub struct Station {
@@ -54,9 +60,9 @@ pub fn read(record: &[u8]) -> Result<Station, Refusal> {
     if record[0] != 1 {
         return Err(2);
     }
-    // 3: n is 1 to 64, p 0 to 192.
+    // 3: n is at least 1, and neither n nor p is over its limit.
     let (n, p) = (u64::from(record[5]), u64::from(record[6]));
-    if !(1..=64).contains(&n) || p > 192 {
+    if !(1..=MOST_SUBJECTS).contains(&n) || p > MOST_PLAIN {
         return Err(3);
     }
     // 4: L, and the length.

@@ -89,9 +89,10 @@ pub fn verdict(q: &Question, station: &Station, leak: Option<&[Step]>) -> String
     }
 }
 
-/// The logins of a mask.
+/// The logins of a mask, also those that no record has.
 pub fn members(mask: u64) -> Vec<u64> {
-    Changes::LOGINS.filter(|s| mask >> s & 1 == 1).collect()
+    let bits = 0..u64::from(u64::BITS);
+    bits.filter(|s| mask >> s & 1 == 1).collect()
 }
 
 /// What a reader of the answer has to know of the question: absent names, a right that is impossible, who is trusted.

@@ -88,18 +88,17 @@ pub fn right(word: &str, names: &Names) -> Result<Right, String> {
 
 /// The mask of trusted logins: names or numbers with commas between, `none`, or `all`.
 pub fn trusted(word: &str, record: &Record, names: &Names) -> Result<u64, String> {
-    match word {
-        "none" => return Ok(0),
-        "all" => return Ok(u64::MAX >> (64 - record.logins())),
-        _ => {}
-    }
-    let mut logins = Vec::new();
-    for part in word.split(',') {
-        let s = login(part.trim(), names);
-        logins.push(s.map_err(|why| {
-            format!("{why}; trusted logins stand with commas between, or are none or all")
-        })?);
-    }
+    let logins: Result<Vec<u64>, String> = match word {
+        "none" => Ok(Vec::new()),
+        "all" => Ok((0..record.logins()).collect()),
+        _ => word
+            .split(',')
+            .map(|part| login(part.trim(), names))
+            .collect(),
+    };
+    let logins = logins.map_err(|why| {
+        format!("{why}; trusted logins stand with commas between, or are none or all")
+    })?;
     let most = logins.iter().max().copied().unwrap_or(0);
     trust_mask(logins).map_err(|_| format!("login {most} is in no record, so it can't be trusted"))
 }

@@ -1,7 +1,7 @@
 //! Runs the program on files: what `run` leaves, also in a window, and what `diff` tells are the library's bytes.
 
 mod library {
-    pub use bunvespo::{Command, command, new_record};
+    pub use bunvespo::{Command, MOST_PLAIN, MOST_SUBJECTS, command, new_record};
 }
 #[path = "../src/tests/random.rs"]
 mod random;
@@ -10,7 +10,7 @@ use std::fs;
 use std::path::{Path, PathBuf};
 use std::process::{Command as Process, Output};
 
-use bunvespo::{Command, WINDOW_ENTRIES, Window, encode, run};
+use bunvespo::{Command, WINDOW_ENTRIES, WINDOW_NUMBERS, Window, encode, run};
 use random::{Numbers, any_command, station};
 
 /// A folder that goes with this value.
@@ -144,7 +144,8 @@ fn a_window_has_what_was_tried() {
     assert!(tried > 2 * WINDOW_ENTRIES as u64, "{tried}");
     let told = bunvespo("refused", &[Path::new("--json"), &file]);
     exits(&told, true);
-    let counts: Vec<u64> = (0..64).map(|s| window.count(s).unwrap()).collect();
+    let counts = (0..WINDOW_NUMBERS).map(|s| window.count(s).unwrap());
+    let counts: Vec<u64> = counts.collect();
     let wanted = format!("{{\"refused\":{counts:?}}}\n").replace(' ', "");
     assert_eq!(String::from_utf8(told.stdout).unwrap(), wanted);
     assert!(counts.iter().sum::<u64>() > 3, "{wanted}");

@@ -1,7 +1,7 @@
 //! The changes of accepted commands, in the record and in the tables.
 
 use super::station::{CONTROL, OWN, Station};
-use super::tables::OWN_CONTROL;
+use super::tables::{OWN_CONTROL, SUBJECT_BYTES};
 
 /// The own and control bits in a cell's second byte.
 const OWN_LOW: u8 = OWN as u8;
@@ -78,7 +78,7 @@ impl Station<'_> {
     fn hand_on(&mut self, i: usize, s: usize) {
         let subject_bytes = 2 * self.n;
         let (_, from) = self.two_rows(i, s);
-        let mut lost = [0; 128];
+        let mut lost = [0; SUBJECT_BYTES];
         lost[..subject_bytes].copy_from_slice(&from[..subject_bytes]);
         for (owner, bits) in self.tables.owner.iter_mut().zip(lost) {
             *owner = if bits & OWN_LOW != 0 { i as u8 } else { *owner };

@@ -12,7 +12,7 @@ mod safety;
 mod scan;
 mod station;
 mod subjects;
-mod tables;
+pub mod tables;
 mod window;
 mod witness;
 

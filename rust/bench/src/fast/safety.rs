@@ -2,7 +2,7 @@
 //! untrusted subject above o.
 
 use super::scan::scan;
-use super::tables::Tables;
+use super::tables::{SUBJECTS, Tables};
 use super::witness::Witness;
 use super::{cell, held_mask, question_fits};
 
@@ -25,7 +25,7 @@ pub fn safety(record: &[u8], trust: u64, s: u64, o: u64, right: u64, out: &mut [
         return (refusal, 0);
     }
     let n = record[5] as usize;
-    if !question_fits(record, s, o, right) || (n < 64 && trust >> n != 0) {
+    if !question_fits(record, s, o, right) || trust >> n != 0 {
         return (7, 0);
     }
     if out.len() < 5 + 6 * (n + 2) {
@@ -82,7 +82,12 @@ impl Question<'_> {
 
     /// The way from the owner w of o up to the first untrusted subject, which it gives. The trusted subjects on it are written
     /// to `path`. It ends at a subject that an earlier way has passed, as that one met no untrusted subject.
-    fn climb(&self, w: usize, passed: &mut u64, path: &mut [u8; 64]) -> Option<(usize, usize)> {
+    fn climb(
+        &self,
+        w: usize,
+        passed: &mut u64,
+        path: &mut [u8; SUBJECTS],
+    ) -> Option<(usize, usize)> {
         let (mut at, mut count) = (w, 0);
         while self.trusted(at) {
             if at == 0 || *passed >> at & 1 == 1 {
@@ -97,7 +102,7 @@ impl Question<'_> {
     }
 
     /// The way up from the lowest owner of o that has an untrusted subject at or above it.
-    fn way_up(&self, path: &mut [u8; 64]) -> Option<(usize, usize)> {
+    fn way_up(&self, path: &mut [u8; SUBJECTS]) -> Option<(usize, usize)> {
         let mut passed = 0;
         if self.o < self.n {
             if self.o == 0 {
@@ -135,7 +140,7 @@ impl Question<'_> {
                 None => 0,
             };
         }
-        let mut path = [0; 64];
+        let mut path = [0; SUBJECTS];
         match self.way_up(&mut path) {
             Some((v, count)) => 1 + list.by_owner(self, v, &path[..count]),
             None => 0,

@@ -4,7 +4,7 @@ use super::lanes::{BLOCK, LANE, Lane};
 use super::parts::{part, part_mut};
 use super::rooted::rooted;
 use super::subjects::subject_columns;
-use super::tables::Tables;
+use super::tables::{PLAIN, SUBJECTS, Tables};
 
 /// The place of the first cell.
 const FIRST: usize = 7;
@@ -22,7 +22,7 @@ pub fn scan(record: &[u8], tables: &mut Tables) -> u64 {
         return 2;
     }
     let (n, p) = (head[5] as usize, head[6] as usize);
-    if !(1..=64).contains(&n) || p > 192 {
+    if !(1..=SUBJECTS).contains(&n) || p > PLAIN {
         return 3;
     }
     let width = 2 * (n + p);

@@ -1,7 +1,7 @@
 //! One command after another on a valid record: the tests 6 to 14 in number order. The tables are kept up to date, so that a
 //! command looks at few cells and never scans a column to find an owner or whether a name exists.
 
-use super::tables::Tables;
+use super::tables::{PLAIN, SUBJECTS, Tables};
 
 /// A valid record with its tables.
 pub struct Station<'a> {
@@ -23,11 +23,13 @@ fn basic(k: usize, starred: bool) -> u16 {
 }
 
 impl<'a> Station<'a> {
-    /// A valid record, with the tables that its scan filled.
+    /// A valid record, with the tables that its scan filled. That it keeps the limits is asserted: then the compiler knows that a
+    /// column of the record is in the tables, and no command tests it again.
     #[inline(always)]
     pub fn new(record: &'a mut [u8], tables: &'a mut Tables) -> Station<'a> {
         let n = record[5] as usize;
         let columns = n + record[6] as usize;
+        assert!(n <= SUBJECTS && columns <= SUBJECTS + PLAIN);
         Station {
             record,
             tables,

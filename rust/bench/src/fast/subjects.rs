@@ -1,15 +1,15 @@
 //! The subject columns of a record, in blocks of byte columns: what is found in each, and its tests.
 
 use super::eight::Eight;
-use super::lanes::{BLOCK, LANE, Lane, MIDDLE, WIDE, eight_rows};
+use super::lanes::{BLOCK, EIGHTHS, LANE, Lane, MIDDLE, WIDE, eight_rows};
 use super::parts::{Part, part, part_mut};
-use super::tables::{SUBJECT_BYTES, Tables};
+use super::tables::{SUBJECT_BYTES, SUBJECTS, Tables};
 
 /// In the low byte of each column its number, but for U; everywhere else 255, which no row's number reaches.
 const NUMBERS: [u8; SUBJECT_BYTES] = {
     let mut numbers = [255; SUBJECT_BYTES];
     let mut s = 1;
-    while s < 64 {
+    while s < SUBJECTS {
         numbers[2 * s + 1] = s as u8;
         s += 1;
     }
@@ -20,14 +20,15 @@ const NUMBERS: [u8; SUBJECT_BYTES] = {
 const LOW_BYTES: [u8; SUBJECT_BYTES] = {
     let mut low = [0; SUBJECT_BYTES];
     let mut s = 1;
-    while s < 64 {
+    while s < SUBJECTS {
         low[2 * s + 1] = 255;
         s += 1;
     }
     low
 };
 
-/// 128 bytes of ones, and zeros after them. The part that begins 2 n before their end says which byte columns are of subjects.
+/// Bytes of ones, as many as the subject columns have, and as many zeros. The part that begins 2 n before the ones end says
+/// which byte columns are of subjects.
 const ONES: [u8; 2 * SUBJECT_BYTES] = {
     let mut ones = [0; 2 * SUBJECT_BYTES];
     let mut j = 0;
@@ -37,6 +38,9 @@ const ONES: [u8; 2 * SUBJECT_BYTES] = {
     }
     ones
 };
+
+/// A last block that goes beyond the subject columns is still within the tables.
+const _: () = assert!(SUBJECT_BYTES.is_multiple_of(BLOCK * LANE));
 
 /// What the tests of the subjects found: set bits. U is tested apart; a record without it is refused whatever is found here.
 #[derive(Clone, Copy)]
@@ -52,8 +56,8 @@ pub struct Tests {
 /// What is found of the N lanes of one block.
 struct Found<const N: usize> {
     /// The bits set in some of each eight rows.
-    seen: [[Lane; N]; 8],
-    /// The number of owners plus twice the number of controllers: at most 192 over 64 rows.
+    seen: [[Lane; N]; EIGHTHS],
+    /// The number of owners plus twice the number of controllers: at most three times the number of rows, which fits a byte.
     tally: [Lane; N],
     /// The bits set in an odd number of rows.
     odd: [Lane; N],
@@ -68,7 +72,7 @@ impl<const N: usize> Found<N> {
     fn new(cells: &[u8], n: usize, width: usize, j: usize) -> Found<N> {
         let zero = Lane::every(0);
         let mut found = Found {
-            seen: [[zero; N]; 8],
+            seen: [[zero; N]; EIGHTHS],
             tally: [zero; N],
             odd: [zero; N],
             low: [[zero; N]; 3],

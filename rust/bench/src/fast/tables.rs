@@ -1,12 +1,19 @@
 //! What the pass over a record's rows keeps of each byte column. A column's low byte, with own and control, is its second.
 
-/// The bytes of a row that 64 subject columns have.
-pub const SUBJECT_BYTES: usize = 128;
+use bunvespo::{MOST_PLAIN, MOST_SUBJECTS};
+
+/// The limits of n and p.
+pub const SUBJECTS: usize = MOST_SUBJECTS as usize;
+pub const PLAIN: usize = MOST_PLAIN as usize;
+
+/// The most bytes that a row has, and those of them that are of subject columns.
+pub const ROW_BYTES: usize = 2 * (SUBJECTS + PLAIN);
+pub const SUBJECT_BYTES: usize = 2 * SUBJECTS;
 
 /// Tables over byte columns.
 pub struct Tables {
     /// The bits set in some row.
-    pub seen: [u8; 512],
+    pub seen: [u8; ROW_BYTES],
     /// Over subject columns: the number of owners plus twice the number of controllers.
     pub tally: [u8; SUBJECT_BYTES],
     /// Over subject columns: the owner's row where there is one owner.
@@ -21,7 +28,7 @@ impl Tables {
     #[inline(always)]
     pub fn new() -> Tables {
         Tables {
-            seen: [0; 512],
+            seen: [0; ROW_BYTES],
             tally: [0; SUBJECT_BYTES],
             owner: [0; SUBJECT_BYTES],
         }

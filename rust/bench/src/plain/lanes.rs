@@ -1,11 +1,14 @@
 //! Lanes of one byte. The loops over the lanes of a block are those that LLVM vectorises, 16 bytes at once on the default
 //! target.
 //!
-//! Tried at 64, 192, where SSE2 by hand takes 0.75 µs: lanes `[u8; N]` with a loop in each operation, 1.4 µs with N = 16, 1.6
-//! with 32, 1.1 with 64; loops over whole rows into tables, 2.6 µs by four rows, 2.2 by eight, by 16 not vectorised; blocks
-//! of columns by eight rows, as here, 0.82 µs with 32 columns, 0.76 with 64, 0.79 with 128. Few columns take small blocks.
+//! Tried at n = 64, p = 192, the largest size before version 0.5.0, where SSE2 by hand took 0.75 µs: lanes `[u8; N]` with a
+//! loop in each operation, 1.4 µs with N = 16, 1.6 with 32, 1.1 with 64; loops over whole rows into tables, 2.6 µs by four rows,
+//! 2.2 by eight, by 16 not vectorised; blocks of columns by eight rows, as here, 0.82 µs with 32 columns, 0.76 with 64, 0.79
+//! with 128. At n = 40, p = 120, where SSE2 by hand takes 0.28 µs: wide blocks of 32 columns 0.325 µs, of 48 0.305, of 64 and
+//! of 80 0.30. Few columns take small blocks.
 
 use super::fast::parts::{Part, part};
+use super::fast::tables::SUBJECTS;
 use std::ops::{Add, BitAnd, BitOr, BitOrAssign, BitXor};
 
 /// The bytes of a lane.
@@ -15,6 +18,9 @@ pub const LANE: usize = 1;
 pub const BLOCK: usize = 16;
 pub const MIDDLE: usize = 32;
 pub const WIDE: usize = 64;
+
+/// How many times eight rows are kept apart: as often as there may be eight.
+pub const EIGHTHS: usize = SUBJECTS.div_ceil(8);
 
 /// A byte of a row, or of what is found over several rows.
 #[derive(Clone, Copy)]

@@ -4,11 +4,11 @@ use std::collections::BTreeSet;
 
 use crate::changes::changes;
 use crate::command_text::{Ran, read};
-use crate::library::{Command, Refusal, Right, command, held, witness};
+use crate::library::{Command, Refusal, Right, command, held, new_record, witness};
 use crate::names::Names;
 use crate::record::{Name, Record, column_of};
 use crate::sentence::{numbers as five, parse, sentence};
-use crate::tests::random::{Numbers, any_command, station};
+use crate::tests::random::{LARGEST, Numbers, any_command, station};
 use crate::why;
 
 fn open(bytes: &[u8]) -> Record {
@@ -169,15 +169,19 @@ fn impossible_rights_are_safe() {
 fn texts_of_more_commands_than_a_list_has() {
     let mut record = open(&station(&mut Numbers::new(5)));
     let (n, columns) = (record.logins(), record.columns());
+    let new = new_record(LARGEST.0, LARGEST.1).unwrap();
+    let mut large = open(&new);
+    let last = large.columns() - 1;
     let mut text = String::from("# 25,000 commands that change nothing in the end\n");
     for _ in 0..12_500 {
-        text.push_str("login 0 creates log 255\n\n0 destroys 255\n");
+        text.push_str(&format!(
+            "login 0 creates log {last}\n\n0 destroys {last}\n"
+        ));
     }
-    let mut large = open(&crate::library::new_record(64, 192).unwrap());
     let commands = read(text.into_bytes(), &large, &Names::default()).unwrap();
     assert_eq!(commands.numbered.len(), 25_000);
     assert!(matches!(commands.run(&mut large), Ran::Whole));
-    assert_eq!(large.bytes, crate::library::new_record(64, 192).unwrap());
+    assert_eq!(large.bytes, new);
 
     // A number above 255 stands in no list, and ends the run where it stands.
     let before = record.bytes.clone();

@@ -3,35 +3,46 @@
 use std::collections::BTreeMap;
 
 use crate::faults::{faults, reasons};
-use crate::library::{Right, check, valid};
+use crate::library::{MOST_PLAIN, MOST_RECORD, MOST_SUBJECTS, Refusal, Right, check, valid};
 use crate::names::Names;
 use crate::tests::random::{Numbers, station};
 
 const RECORDS: u64 = 100_000;
 
 /// A part of each sentence that a fault may have.
-const KINDS: [&str; 17] = [
-    "of the 7 bytes",
-    "its version",
-    "says 0 logins",
-    " logs, and a record has 0 to 192",
-    "more than 32775 bytes",
-    "bytes 1 to 4 say",
-    "a record has ",
-    "does not control itself, so it is absent",
-    "has no owner, so it is absent",
-    "a log has no controller",
-    "is U, and does not exist",
-    "is U, but is owned by",
-    "is U, but is controlled by",
-    " owners: ",
-    " controllers besides itself: ",
-    "is above itself",
-    "owns itself",
-];
+fn kinds() -> Vec<String> {
+    let of_sizes = [
+        format!("says 0 logins, and a record has 1 to {MOST_SUBJECTS}"),
+        format!("says {} logins", MOST_SUBJECTS + 1),
+        format!(
+            "says {} logs, and a record has 0 to {MOST_PLAIN}",
+            MOST_PLAIN + 1
+        ),
+        format!("more than {MOST_RECORD} bytes"),
+    ];
+    let others = [
+        "of the 7 bytes",
+        "its version",
+        "bytes 1 to 4 say",
+        "a record has ",
+        "does not control itself, so it is absent",
+        "has no owner, so it is absent",
+        "a log has no controller",
+        "is U, and does not exist",
+        "is U, but is owned by",
+        "is U, but is controlled by",
+        " owners: ",
+        " controllers besides itself: ",
+        "is above itself",
+        "owns itself",
+    ];
+    let others = others.into_iter().map(String::from);
+    of_sizes.into_iter().chain(others).collect()
+}
 
 #[test]
 fn reasons_agree_with_the_library() {
+    let kinds = kinds();
     let mut numbers = Numbers::new(11);
     let mut seen: BTreeMap<&str, u64> = BTreeMap::new();
     let mut by_refusal = [0; 6];
@@ -54,7 +65,7 @@ fn reasons_agree_with_the_library() {
         );
         by_refusal[usize::from(number)] += 1;
         for fault in &all {
-            for kind in KINDS.iter().filter(|kind| fault.sentence.contains(**kind)) {
+            for kind in kinds.iter().filter(|kind| fault.sentence.contains(*kind)) {
                 *seen.entry(kind).or_default() += 1;
             }
         }
@@ -63,11 +74,42 @@ fn reasons_agree_with_the_library() {
         by_refusal.iter().all(|count| *count > 500),
         "{by_refusal:?}"
     );
-    for kind in KINDS {
+    for kind in &kinds {
         assert!(
-            seen.get(kind).is_some_and(|count| *count > 20),
+            seen.get(kind.as_str()).is_some_and(|count| *count > 20),
             "{kind}: {seen:?}"
         );
+    }
+}
+
+/// A record of any sizes, with the length that belongs to them. Where it has logins, U alone exists.
+fn whole(n: u8, p: u8) -> Vec<u8> {
+    let cells = 2 * usize::from(n) * (usize::from(n) + usize::from(p));
+    let mut record = vec![1];
+    record.extend((2 + cells as u32).to_be_bytes());
+    record.extend([n, p, 0, 2]);
+    record.resize(7 + cells, 0);
+    record
+}
+
+/// Of whole records exactly those beyond the limits are refused, each with the size that is wrong.
+#[test]
+fn sizes_of_whole_records() {
+    let sizes = |n| (0..=u8::MAX).map(move |p| (n, p));
+    for (n, p) in (0..=u8::MAX).flat_map(sizes) {
+        let wanted = if !(1..=MOST_SUBJECTS).contains(&n) {
+            format!("byte 5 says {n} logins, and a record has 1 to {MOST_SUBJECTS}")
+        } else if p > MOST_PLAIN {
+            format!("byte 6 says {p} logs, and a record has 0 to {MOST_PLAIN}")
+        } else {
+            String::new()
+        };
+        let record = whole(n, p);
+        let refusal = (!wanted.is_empty()).then_some(Refusal::Counts);
+        assert_eq!(check(&record).err(), refusal, "{n} {p}");
+        let told = faults(&record, &Names::default());
+        let told: Vec<String> = told.into_iter().map(|fault| fault.sentence).collect();
+        assert_eq!(told.concat(), wanted, "{n} {p}");
     }
 }
 
@@ -79,13 +121,13 @@ fn damage(record: &mut Vec<u8>, numbers: &mut Numbers) {
     let length = record.len() as u64;
     match numbers.below(24) {
         0 => record[0] = numbers.below(256) as u8,
-        1 => record[5] = numbers.pick(&[0, 1, 2, 64, 65, 255]),
-        2 => record[6] = numbers.pick(&[0, 1, 192, 193, 255]),
+        1 => record[5] = numbers.pick(&[0, 1, 2, MOST_SUBJECTS, MOST_SUBJECTS + 1, 255]),
+        2 => record[6] = numbers.pick(&[0, 1, MOST_PLAIN, MOST_PLAIN + 1, 255]),
         3 => record[1 + numbers.below(4) as usize] ^= 1 << numbers.below(8),
         4 => record.truncate(numbers.below(length) as usize),
         5 => record.resize(record.len() + 1 + numbers.below(9) as usize, 0),
         6 => record.truncate(numbers.below(9) as usize),
-        7 if numbers.below(9) == 0 => record.resize(32_776, 0),
+        7 if numbers.below(9) == 0 => record.resize(MOST_RECORD + 1, 0),
         8..16 => {
             let byte = 7 + numbers.below(length - 7) as usize;
             record[byte] ^= 1 << numbers.below(8);

@@ -3,7 +3,7 @@
 use crate::html;
 use crate::input::Station;
 use crate::leak::{Question, answer};
-use crate::library::{Basic, Right};
+use crate::library::{Basic, Right, trust_mask};
 use crate::names::Names;
 use crate::record::Record;
 use crate::tests::random::{Numbers, station};
@@ -67,7 +67,7 @@ fn pages_of_leaks() {
         let (n, columns) = (station.record.logins(), station.record.columns());
         let column = numbers.below(columns);
         let q = Question {
-            trust: numbers.below(u64::MAX) & (u64::MAX >> (64 - n)),
+            trust: numbers.below(u64::MAX) & trust_mask(0..n).expect("a mask has all of them"),
             login: numbers.below(n),
             over: station.record.name(column),
             column,

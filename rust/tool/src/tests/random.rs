@@ -2,7 +2,10 @@
 
 use std::hash::{DefaultHasher, Hash, Hasher};
 
-use crate::library::{Command, command, new_record};
+use crate::library::{Command, MOST_PLAIN, MOST_SUBJECTS, command, new_record};
+
+/// The most logins and the most logs of a station.
+pub const LARGEST: (u64, u64) = (MOST_SUBJECTS as u64, MOST_PLAIN as u64);
 
 /// A stream of numbers: the hashes of a seed and a count.
 pub struct Numbers {
@@ -32,8 +35,8 @@ impl Numbers {
 /// A valid record: a new station, and commands on it of which the library takes what it accepts.
 pub fn station(numbers: &mut Numbers) -> Vec<u8> {
     let (n, p) = match numbers.below(40) {
-        0 => (64, 192),
-        1..4 => (1 + numbers.below(64), numbers.below(193)),
+        0 => LARGEST,
+        1..4 => (1 + numbers.below(LARGEST.0), numbers.below(LARGEST.1 + 1)),
         _ => (1 + numbers.below(6), numbers.below(5)),
     };
     let mut record = new_record(n, p).expect("the sizes are in range");

@@ -1,11 +1,13 @@
 //! Files of names, and words by name or number.
 
 use crate::json;
+use crate::leak::members;
 use crate::library::{Basic, Right, new_record};
 use crate::names::Names;
 use crate::names_file::parse;
 use crate::record::{Name, Record};
 use crate::spoken::{column, login, right, trusted};
+use crate::tests::random::LARGEST;
 
 fn record() -> Record {
     Record::open(&new_record(3, 2).unwrap()).unwrap()
@@ -66,21 +68,30 @@ fn lines_that_are_refused() {
 /// A window has no record: then a file may name what some record has.
 #[test]
 fn names_without_a_record() {
-    let text = "login 63 = ann\nlog 1 = bed 1\nlog 255 = bed 255\nright 0 = read";
-    let names = parse(text, None).unwrap_or_else(|why| panic!("{why}"));
-    assert_eq!(names.login(63), "ann");
-    assert_eq!(names.label(Name::Log(255)), "bed 255");
+    let (logins, columns) = (LARGEST.0, LARGEST.0 + LARGEST.1);
+    let (login, log) = (logins - 1, columns - 1);
+    let text = format!("login {login} = ann\nlog 1 = bed 1\nlog {log} = far\nright 0 = read");
+    let names = parse(&text, None).unwrap_or_else(|why| panic!("{why}"));
+    assert_eq!(names.login(login), "ann");
+    assert_eq!(names.label(Name::Log(log)), "far");
+    let logs_are = format!("is in no record, and logs are 1 to {log}");
     for (text, said) in [
         (
-            "login 64 = a",
-            "login 64 is in no record, and logins are 0 to 63",
+            format!("login {logins} = a"),
+            format!("login {logins} is in no record, and logins are 0 to {login}"),
         ),
-        ("log 0 = a", "log 0 is in no record, and logs are 1 to 255"),
-        ("log 256 = a", "log 256 is in no record"),
-        ("login 1 = a\nlog 3 = a", "line 2: 'a' is given twice"),
+        (String::from("log 0 = a"), format!("log 0 {logs_are}")),
+        (
+            format!("log {columns} = a"),
+            format!("log {columns} {logs_are}"),
+        ),
+        (
+            String::from("login 1 = a\nlog 3 = a"),
+            String::from("line 2: 'a' is given twice"),
+        ),
     ] {
-        let why = parse(text, None).err().unwrap_or_default();
-        assert!(why.contains(said), "{text:?}: {why}");
+        let why = parse(&text, None).err().unwrap_or_default();
+        assert!(why.contains(&said), "{text:?}: {why}");
     }
 }
 
@@ -117,6 +128,19 @@ fn words_by_name_and_number() {
     for wrong in ["", "0,", "64", "0,x", "bed"] {
         assert!(trusted(wrong, &record, &names).is_err(), "{wrong}");
     }
+}
+
+/// A mask has logins that no record has, too. Which the record has is for the library to say.
+#[test]
+fn every_login_of_a_mask() {
+    let (record, names) = (record(), Names::default());
+    let logins = Vec::from_iter(0..64);
+    for s in &logins {
+        let mask = trusted(&s.to_string(), &record, &names);
+        assert_eq!(mask.map(members), Ok(vec![*s]));
+    }
+    assert_eq!(members(0), []);
+    assert_eq!(members(u64::MAX), logins);
 }
 
 #[test]

@@ -1,6 +1,6 @@
 //! Which bytes are a window: every one that the library made, and none in which one byte of its entries or counts is another.
 
-use crate::library::{WINDOW_SIZE, Window};
+use crate::library::{WINDOW_NUMBERS, WINDOW_SIZE, Window};
 use crate::tests::random::Numbers;
 use crate::window_file::shows_entries;
 
@@ -10,7 +10,7 @@ fn made_by_the_library() {
     for entries in [0, 1, 2, 255, 256, 257, 600] {
         let mut window = Window::new();
         for _ in 0..entries {
-            let (initiator, outcome) = (numbers.below(64), numbers.below(3));
+            let (initiator, outcome) = (numbers.below(WINDOW_NUMBERS), numbers.below(3));
             window.put(initiator, outcome).unwrap();
             assert!(shows_entries(window.as_bytes()));
         }

@@ -1,0 +1,79 @@
+//! Whole records around the limits, in which U alone exists: L and the length fit their n and p. Above a limit every call refuses
+//! by 3, and neither the record nor the buffer changes, whatever is asked.
+
+use bunvespo::{
+    Command, Header, MOST_PLAIN, MOST_RECORD, MOST_SUBJECTS, Refusal, Right, Safety, check,
+    command, encode, held, run, safety, valid,
+};
+
+/// The record of this n and p, which may be above the limits.
+fn whole(n: u8, p: u8) -> Vec<u8> {
+    let mut record = vec![1, 0, 0, 0, 0, n, p];
+    let length = Header::read(&record).unwrap().expected_length();
+    record.resize(length, 0);
+    record[1..5].copy_from_slice(&(length as u32 - 5).to_be_bytes());
+    record[8] = 2; // U controls itself
+    record
+}
+
+/// The bytes that a buffer has before a question, enough for a record of any n.
+const BUFFER: [u8; 2000] = [0xEE; 2000];
+
+/// Every call refuses the record by 3, with numbers within its bounds and beyond them, and nothing is written.
+fn refused(record: &[u8]) {
+    let Header { n, p, .. } = Header::read(record).unwrap();
+    assert!(!valid(record));
+    assert_eq!(check(record), Err(Refusal::Counts));
+    let (mut after, mut out) = (record.to_vec(), BUFFER);
+    for number in [0, u64::from(n) - 1, u64::from(n) + u64::from(p), u64::MAX] {
+        assert_eq!(
+            held(record, number, number, Right::Own),
+            Err(Refusal::Counts)
+        );
+        let create = Command::create_subject(0, number);
+        let answer = command(&mut after, create).unwrap_err();
+        assert_eq!((answer.refusal, answer.links), (Refusal::Counts, 0));
+        for room in [0, BUFFER.len()] {
+            let asked = safety(record, number, 0, number, Right::Own, &mut out[..room]);
+            assert_eq!(asked, Err(Refusal::Counts));
+        }
+    }
+    let create = encode(&[Command::create_subject(0, 1)]).unwrap();
+    for list in [&create[..], &[]] {
+        let answer = run(&mut after, list).unwrap_err();
+        assert_eq!((answer.refusal, answer.accepted), (Refusal::Counts, 0));
+    }
+    assert_eq!(after, record);
+    assert_eq!(out, BUFFER);
+}
+
+#[test]
+fn the_largest_record() {
+    let mut record = whole(MOST_SUBJECTS, MOST_PLAIN);
+    assert_eq!((record.len(), MOST_RECORD), (12_807, 12_807));
+    let header = check(&record).unwrap();
+    assert_eq!((header.n, header.p), (40, 120));
+    let (last, last_log) = (39, 159);
+    command(&mut record, Command::create_subject(0, last)).unwrap();
+    command(&mut record, Command::create_object(last, last_log)).unwrap();
+    let mut out = BUFFER;
+    let asked = safety(&record, 1 << last, 0, last_log, Right::Own, &mut out);
+    assert_eq!(asked, Ok(Safety::Leaks(1)));
+    let room = &mut out[..256];
+    let asked = safety(&record, 1 << last, 0, last_log, Right::Own, room);
+    assert_eq!(asked, Err(Refusal::BufferShort));
+}
+
+#[test]
+fn around_the_limits() {
+    for n in [1, 2, 39, 40, 41, 42, 63, 64, 65, 128, 255] {
+        for p in [0, 1, 119, 120, 121, 122, 191, 192, 193, 255] {
+            let record = whole(n, p);
+            if n <= MOST_SUBJECTS && p <= MOST_PLAIN {
+                assert_eq!(check(&record), Header::read(&record));
+            } else {
+                refused(&record);
+            }
+        }
+    }
+}

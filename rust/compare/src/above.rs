@@ -1,0 +1,57 @@
+//! Whole, valid records with more names than a record may have, which were right before the limits were lowered.
+
+use reference::{Cell, State, Station};
+
+use crate::generate::valid_record;
+use crate::matrix::{
+    FORMER_MOST_PLAIN, FORMER_MOST_SUBJECTS, MOST_PLAIN, MOST_SUBJECTS, cell, sizes,
+};
+use crate::random::Random;
+
+/// A number up to a limit, often the limit.
+fn within(least: u64, limit: u64, random: &mut Random) -> u64 {
+    let any = least + random.below(limit - least + 1);
+    random.pick(&[limit, any])
+}
+
+/// A number above a limit and up to the former one, often the first or the last of them.
+fn above(limit: u64, former: u64, random: &mut Random) -> u64 {
+    let any = within(limit + 1, former, random);
+    random.pick(&[limit + 1, any])
+}
+
+/// n and p up to the former limits; n, p or both are above the limits.
+fn size(random: &mut Random) -> (u64, u64) {
+    let more_subjects = above(MOST_SUBJECTS, FORMER_MOST_SUBJECTS, random);
+    let more_plain = above(MOST_PLAIN, FORMER_MOST_PLAIN, random);
+    match random.below(3) {
+        0 => (more_subjects, within(0, MOST_PLAIN, random)),
+        1 => (within(1, MOST_SUBJECTS, random), more_plain),
+        _ => (more_subjects, more_plain),
+    }
+}
+
+/// The station that the bytes of a record show, whatever its n and p.
+fn station_of(record: &[u8]) -> Station {
+    let (n, p) = sizes(record);
+    let mut station = Station {
+        n,
+        p,
+        state: State::default(),
+    };
+    let places = (0..n).flat_map(|row| (0..n + p).map(move |column| (row, column)));
+    let cells = places.map(|(row, column)| {
+        let bits = cell(record, row, column);
+        (station.name(column), row, Cell(bits))
+    });
+    station.state = State::from_cells(cells);
+    station
+}
+
+/// A record above the limits, and its station, of which questions can be drawn.
+pub fn record_above(random: &mut Random) -> (Vec<u8>, Station) {
+    let (n, p) = size(random);
+    let record = valid_record(n, p, random);
+    let station = station_of(&record);
+    (record, station)
+}
