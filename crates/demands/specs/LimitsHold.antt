@@ -1,20 +1,25 @@
--- Records within the limits are treated as before: the refusals 1 to 5 alone look at the limits, and every call looks at these alone.
+-- Records within the limits are treated as before: the refusals 1 to 5 look at the limits, and an answer depends on the limits through them alone.
 use Prim.Native.Nat.{ℕ, _≤_}
 use native.Mathlib.Omega.{arith}
 use mathlib.Core.Path.{_≡_, refl, sym, _∙_, ap}
+use mathlib.Core.Logic.{_≢_, inl, inr, ⊎-elim}
 use mathlib.Core.Bool.{true}
 use mathlib.Core.List.{List}
+use lib.Dec.{leb}
 use lib.ListN.{length}
+use borrow.Author.Tests.{leb-true, leb-false}
 use Rattle.matrix.specs.declared.Fields.{Fields}
-use Rattle.matrix.specs.Tests.{firstFailed}
-use Rattle.matrix.specs.Shape.{Limits, limits, shapeOf, inRange}
+use Rattle.matrix.specs.Shape.{Limits, limits, mostSubjects, shapeOf, inRange}
 use Rattle.matrix.specs.Record.{recordRefusal}
-use Rattle.matrix.specs.Calls.{validAnswer, heldRefusal, heldAnswer, commandAnswer, commandBytes, runRefusal, runAnswer, runBytes}
-use Rattle.laws.specs.Tests.{same-test}
+use Rattle.matrix.specs.Calls.{validAnswer, heldRefusal, heldAnswer, heldResult, commandAnswer, commandResult, commandBytes, runRefusal, runAnswer, runResult, runBytes}
+use Rattle.laws.specs.Tests.{way, same-test}
 use Rattle.laws.specs.Range.{ranged, in-range}
 use Rattle.question.specs.declared.Safety.{Safety}
 use Rattle.question.specs.Asked.{safetyRefusal, Answers}
-use Rattle.demands.specs.Limits.{limitsBefore, NotAbove, SameCalls, LimitsMoved}
+use Rattle.demands.specs.First.{First}
+use Rattle.demands.specs.Printed.{OutOfRange, safetyConditions}
+use Rattle.demands.specs.Refusals.{safety-numbered}
+use Rattle.demands.specs.Limits.{limitsBefore, NotAbove, SameCalls, enough, LimitsMoved}
 
 -- what one test lets pass the other does
 passes : (most other : Limits) (b : List ℕ) → NotAbove other b → inRange most (shapeOf b) ≡ true → inRange other (shapeOf b) ≡ true
@@ -42,9 +47,17 @@ module _ (most other : Limits) (b : List ℕ) (here : NotAbove most b) (there : 
   unfolding heldAnswer heldRefusal
   held-same s o right = rw refusal-same refl
 
+  held-result-same : (s o right : ℕ) → heldResult most b s o right ≡ heldResult other b s o right
+  unfolding heldResult heldRefusal
+  held-result-same s o right = rw refusal-same refl
+
   command-same : (c : Fields) → commandAnswer most b c ≡ commandAnswer other b c
   unfolding commandAnswer
   command-same c = rw refusal-same refl
+
+  command-result-same : (c : Fields) → commandResult most b c ≡ commandResult other b c
+  unfolding commandResult
+  command-result-same c = rw refusal-same refl
 
   command-bytes-same : (c : Fields) → commandBytes most b c ≡ commandBytes other b c
   unfolding commandBytes
@@ -53,6 +66,10 @@ module _ (most other : Limits) (b : List ℕ) (here : NotAbove most b) (there : 
   run-same : (l : List ℕ) → runAnswer most b l ≡ runAnswer other b l
   unfolding runAnswer runRefusal
   run-same l = rw refusal-same refl
+
+  run-result-same : (l : List ℕ) → runResult most b l ≡ runResult other b l
+  unfolding runResult runRefusal
+  run-result-same l = rw refusal-same refl
 
   run-bytes-same : (l : List ℕ) → runBytes most b l ≡ runBytes other b l
   unfolding runBytes runRefusal
@@ -68,9 +85,12 @@ module _ (most other : Limits) (b : List ℕ) (here : NotAbove most b) (there : 
       record {
         valid = rw refusal-same refl;
         held = held-same;
+        held-result = held-result-same;
         command = command-same;
+        command-result = command-result-same;
         command-bytes = command-bytes-same;
         run = run-same;
+        run-result = run-result-same;
         run-bytes = run-bytes-same;
         safety = λ mask s o right out out′ r.
             let e = safety-same mask s o right (length out) in
@@ -84,6 +104,29 @@ not-above-before b h =
     let p : shapeOf b .p ≤ limits .plain = h .plain in
     record { subjects = omega arith; plain = omega arith }
 
+-- with enough bytes 15 is never the first condition to hold: n is in range then
+module _ (b : List ℕ) (mask s o right bytes : ℕ) (h : enough ≤ bytes) where
+  few : (OutOfRange (shapeOf b) → ⊥) → shapeOf b .n ≤ mostSubjects
+  few within =
+      ⊎-elim (λ t. leb-true (shapeOf b .n) mostSubjects t) (λ t. absurd (within (inr (inl (leb-false (shapeOf b .n) mostSubjects t))))) (way (leb (shapeOf b .n) mostSubjects))
+
+  not-first : First (safetyConditions b mask s o right bytes) 15 → ⊥
+  not-first (inl (c, e)) = omega arith
+  not-first (inr (c, inl (d, e))) = omega arith
+  not-first (inr (c, inr (d, inl (f, e)))) = omega arith
+  not-first (inr (c, inr (d, inr (f, inl (g, e))))) = omega arith
+  not-first (inr (c, inr (d, inr (f, inr (g, inl (k, e)))))) = omega arith
+  not-first (inr (c, inr (d, inr (f, inr (g, inr (k, inl (l, e))))))) = omega arith
+  not-first (inr (c, inr (d, inr (f, inr (g, inr (k, inr (l, inl (short, e)))))))) = omega (arith, few f)
+  not-first (inr (c, inr (d, inr (f, inr (g, inr (k, inr (l, inr none))))))) = none .1
+
+  room-enough : safetyRefusal limits b mask s o right bytes ≢ 15
+  room-enough e = not-first (safety-numbered b mask s o right bytes .refused 15 (omega arith) .0 e)
+
 pub limits-moved : LimitsMoved
 limits-moved =
-    record { any = λ most other b here there. same-calls most other b here there; before = λ b h. same-calls limitsBefore limits b (not-above-before b h) h }
+    record {
+      any = λ most other b here there. same-calls most other b here there;
+      before = λ b h. same-calls limitsBefore limits b (not-above-before b h) h;
+      room = room-enough;
+    }

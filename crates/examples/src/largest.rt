@@ -3,12 +3,13 @@ use crate::lines::ask_valid;
 use crate::lines::say;
 use crate::questions::ask;
 
-// Its bytes: the header, with L = 12802, and U's own cell.
+// The number of its bytes.
 const LARGEST: usize = 12807;
 
 // The room that a list of 42 commands takes.
 const ROOM: usize = 257;
 
+// Its header, in which L is 12802, and in U's own cell control.
 fn largest() -> [u8; LARGEST] {
     let mut b = [0u8; LARGEST];
     b[0] = 1;

@@ -1,6 +1,7 @@
 // Executes the examples of the refusals (Manual 7.1), and what else the manual says of its two stations, through the public calls alone.
 // A line begins with the row of the table, 0 where nothing is turned down. A command is printed as code, i, s, o and k, and a held
-// question as s, o and the right's code. At the end stands what a window shows (Manual 9). The file stdout has what the manual says of each.
+// question as s, o and the right's code. Then come the largest record (Manual 2.3) and what a window shows (Manual 9). The file stdout has
+// what the manual says of each.
 mod largest;
 mod lines;
 mod questions;

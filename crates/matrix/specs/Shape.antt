@@ -12,7 +12,7 @@ abbrev pub knownVersion : ℕ → Bool
 knownVersion v = eqb v 1
 
 -- The limits of records: the most subject names and the most plain names. Refusal 3, and so each call's answer, has them as an argument, since
--- what is promised of a change of the limits speaks of two of them (Manual 2.3).
+-- what is promised of a change of the limits compares the answers under the old ones and the new (Manual 2.3).
 pub record Limits : Type 0 where
   pub subjects : ℕ
   pub plain : ℕ
