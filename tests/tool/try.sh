@@ -23,7 +23,7 @@ try() {
 }
 
 # Takes a file that is no record, and words for it: check tells why, no other command that reads a record has an answer, and the file stays
-# as it is.
+# as it is. It writes the files commands and before.
 no_record() {
     local file=$1 what=$2 status=0 words
     echo '12 0 1 0 0' >commands
@@ -31,7 +31,7 @@ no_record() {
     "$program" check "$file" >out 2>err || status=$?
     [[ $status == 1 && ! -s err ]] || fail "check of $what exits with $status"
     echo "$what: $(tr '\n' ' ' <out)"
-    for words in "show $file" "held $file 0 0 own" "who $file 0 own" "ask $file none 0 0 r0" "run $file commands" "run --dry $file commands" \
+    for words in "show $file" "held $file 0 0 own" "who $file 0 own" "ask $file none 0 0 r0" "run $file $a" "run $file commands" "run --dry $file commands" \
         "diff $file $file" "diff $file $a" "diff $a $file"; do
         status=0
         timeout 10 "$program" $words >out 2>err || status=$?

@@ -154,10 +154,11 @@ fn compare_safety(
     (s, o, right): (u64, u64, u64),
 ) {
     let (n, within) = (size.n, size.all());
-    let trust = match numbers.below(4) {
+    let trust = match numbers.below(5) {
         0 => within,
         1 => within & !(1 << numbers.below(n)),
         2 => numbers.bits() & within,
+        3 => within | 1 << numbers.below(64),
         _ => (numbers.bits() | numbers.bits()) & within,
     };
     let room = 5 + 6 * (n + 2) - usize::from(numbers.once_in(16));

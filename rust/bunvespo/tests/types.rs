@@ -192,7 +192,7 @@ fn trust() {
     }
 }
 
-/// A mask may have a bit for a subject that no record has; each question is refused by 7 then.
+/// A mask may have a bit for a subject beyond the record; each question is refused by 7 then.
 #[test]
 fn trust_beyond_the_record() {
     for n in [1, 2, MOST_SUBJECTS.into()] {

@@ -8,6 +8,9 @@ use crate::matrix::{
 };
 use crate::random::Random;
 
+/// The refusal that every call gives for them.
+pub const REFUSED: u64 = 3;
+
 /// A number up to a limit, often the limit.
 fn within(least: u64, limit: u64, random: &mut Random) -> u64 {
     let any = least + random.below(limit - least + 1);
@@ -32,7 +35,7 @@ fn size(random: &mut Random) -> (u64, u64) {
 }
 
 /// The station that the bytes of a record show, whatever its n and p.
-fn station_of(record: &[u8]) -> Station {
+fn station_shown(record: &[u8]) -> Station {
     let (n, p) = sizes(record);
     let mut station = Station {
         n,
@@ -52,6 +55,6 @@ fn station_of(record: &[u8]) -> Station {
 pub fn record_above(random: &mut Random) -> (Vec<u8>, Station) {
     let (n, p) = size(random);
     let record = valid_record(n, p, random);
-    let station = station_of(&record);
+    let station = station_shown(&record);
     (record, station)
 }

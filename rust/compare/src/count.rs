@@ -5,7 +5,7 @@ use std::fmt;
 use reference::WINDOW_SIZE;
 
 use crate::forged;
-use crate::matrix::{MOST_PLAIN, MOST_SUBJECTS};
+use crate::matrix::{FORMER_MOST_SUBJECTS, MOST_PLAIN, MOST_SUBJECTS};
 
 /// The calls that give an answer: all but window_empty.
 #[derive(Clone, Copy, Debug, PartialEq, Eq)]
@@ -119,8 +119,8 @@ impl fmt::Display for Windows {
     }
 }
 
-/// The most commands of a leak: two more than there are subject names.
-const MOST_OF_LEAK: usize = MOST_SUBJECTS as usize + 2;
+/// The most commands of a leak: two more than there are subject names, also in a record above the limits, which has none.
+const MOST_OF_LEAK: usize = FORMER_MOST_SUBJECTS as usize + 2;
 
 /// The counts of a whole run. They take the same room however long the run.
 pub struct Counts {
@@ -228,6 +228,10 @@ impl Counts {
         ];
         let never = answers.iter().filter(|(_, count)| *count == 0);
         missing.extend(never.map(|(answer, _)| String::from(*answer)));
+        let sizes = self.sizes.iter().filter(|met| !**met).count();
+        if sizes > 0 {
+            missing.push(format!("a valid record of {sizes} sizes"));
+        }
         missing
     }
 

@@ -1,6 +1,6 @@
 //! Asks the proved library, through its C interface, and the second implementation the same seeded inputs, and
 //! compares answers, numbers and buffers to the last byte. It exits with 0 only if all agree, every refusal and answer
-//! that the manual gives occurred, and whole records above the limits of n and p did too.
+//! that the manual gives occurred, and so did valid records of every size and whole ones above the limits of n and p.
 //!
 //!     compare [--inputs N] [--seed S] [--program PATH]
 //!

@@ -1,7 +1,8 @@
 //! The cells of a record's bytes, for building and for damaging records. It is kept apart from the second
 //! implementation's own reader and writer, so that a fault there would be seen.
 
-/// The most subject names that a record may have, and the most plain names.
+/// The most subject names that a record may have, and the most plain names. They are written here too, so that a wrong limit
+/// of the second implementation would be seen.
 pub const MOST_SUBJECTS: u64 = 40;
 pub const MOST_PLAIN: u64 = 120;
 

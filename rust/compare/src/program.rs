@@ -6,7 +6,7 @@ use std::process::{Command, Stdio};
 
 use reference::{Safety, buffer_minimum, leaks_by, read, write_list};
 
-use crate::above::record_above;
+use crate::above::{REFUSED, record_above};
 use crate::check::hex;
 use crate::damage::damage;
 use crate::generate::valid_record;
@@ -74,29 +74,46 @@ fn asked(input: &[u8]) -> Result<Asked<'_>, u64> {
     })
 }
 
-/// Whether the printed bytes are right for the input; what is wrong in words.
-fn check(input: &[u8], printed: &[u8], runs: &mut Runs) -> Result<(), String> {
-    let exactly = |text: &str| match printed == text.as_bytes() {
+/// Whether the printed bytes are exactly a text; what is wrong in words.
+fn exactly(text: &str, printed: &[u8]) -> Result<(), String> {
+    match printed == text.as_bytes() {
         true => Ok(()),
         false => Err(format!("should have printed {text:?}")),
-    };
-    let refused = |refusal: u64| exactly(&format!("refused {refusal}\n"));
+    }
+}
+
+/// The same of a refusal.
+fn refused(refusal: u64, printed: &[u8]) -> Result<(), String> {
+    exactly(&format!("refused {refusal}\n"), printed)
+}
+
+/// What is wrong, with the input.
+fn told(seed: u64, input: &[u8], printed: &[u8], fault: &str) -> String {
+    format!(
+        "DIFFERENCE, seed {seed}, program\ninput: {}\nprinted: {:?}\n{fault}",
+        hex(input),
+        String::from_utf8_lossy(printed)
+    )
+}
+
+/// Whether the printed bytes are right for the input; what is wrong in words.
+fn check(input: &[u8], printed: &[u8], runs: &mut Runs) -> Result<(), String> {
     let Asked { record, question } = match asked(input) {
         Ok(asked) => asked,
         Err(refusal) => {
             runs.refused[refusal as usize] += 1;
-            return refused(refusal);
+            return refused(refusal, printed);
         }
     };
     let [trust, s, o, right] = question;
     match reference::safety(record, trust, s, o, right, buffer_minimum(MOST_SUBJECTS)) {
         Safety::Refused(refusal) => {
             runs.refused[refusal as usize] += 1;
-            refused(refusal)
+            refused(refusal, printed)
         }
         Safety::Safe => {
             runs.safe += 1;
-            exactly("safe\n")
+            exactly("safe\n", printed)
         }
         Safety::Leaks => {
             runs.leaks += 1;
@@ -200,16 +217,16 @@ pub fn compare(program: &str, seed: u64) -> Result<Runs, String> {
     let mut random = Random::new(seed, u64::MAX);
     let mut inputs = special();
     inputs.extend((0..GENERATED).map(|_| generated(&mut random)));
-    inputs.extend((0..ABOVE).map(|_| above(&mut random)));
     for input in inputs {
         let printed = print_of(program, &input)?;
-        check(&input, &printed, &mut runs).map_err(|fault| {
-            format!(
-                "DIFFERENCE, seed {seed}, program\ninput: {}\nprinted: {:?}\n{fault}",
-                hex(&input),
-                String::from_utf8_lossy(&printed)
-            )
-        })?;
+        let checked = check(&input, &printed, &mut runs);
+        checked.map_err(|fault| told(seed, &input, &printed, &fault))?;
+    }
+    for _ in 0..ABOVE {
+        let input = above(&mut random);
+        let printed = print_of(program, &input)?;
+        let checked = check(&input, &printed, &mut runs).and_then(|()| refused(REFUSED, &printed));
+        checked.map_err(|fault| told(seed, &input, &printed, &fault))?;
     }
     Ok(runs)
 }

@@ -3,7 +3,7 @@
 
 use reference::{Station, read};
 
-use crate::above::record_above;
+use crate::above::{REFUSED, record_above};
 use crate::check::{self, Difference, hex};
 use crate::count::Counts;
 use crate::damage::damage;
@@ -19,9 +19,6 @@ use crate::small::{self, Searches, not_valid};
 const ROUNDS_TO_ABOVE: u64 = 4;
 const ROUNDS_TO_LONGEST_LIST: u64 = 500;
 const ROUNDS_TO_SMALL_STATION: u64 = 250;
-
-/// The refusal of a record whose n or p is out of range.
-const REFUSED_COUNTS: u64 = 3;
 
 /// The size of a round's record: in as many rounds as there are sizes every size occurs.
 fn size_of_round(round: u64) -> (u64, u64) {
@@ -96,10 +93,10 @@ fn ask_each(
 /// whatever is asked.
 fn ask_above(random: &mut Random, counts: &mut Counts) -> Result<(), Difference> {
     let (record, station) = record_above(random);
-    let others = counts.inputs_but(REFUSED_COUNTS);
+    let others = counts.inputs_but(REFUSED);
     ask_each(&record, &station, random, counts)?;
-    if counts.inputs_but(REFUSED_COUNTS) != others {
-        let other = format!("a call gives another answer than refusal {REFUSED_COUNTS}");
+    if counts.inputs_but(REFUSED) != others {
+        let other = format!("a call gives another answer than refusal {REFUSED}");
         return Err(Difference {
             call: "a whole record above the limits",
             inputs: format!("record {}", hex(&record)),

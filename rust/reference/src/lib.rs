@@ -20,7 +20,7 @@ pub use calls::{Answer, Safety, command, held, run, safety, valid};
 pub use command::{Command, Uses, allowed, change, decode, uses};
 pub use leak::leaks_by;
 pub use list::{LIST_MAXIMUM, read_list, write_list};
-pub use record::{MOST_PLAIN, MOST_SUBJECTS, Station, read, record_length, write};
+pub use record::{Station, read, record_length, write};
 pub use rights::{Cell, Form, Right};
 pub use safety::{Question, buffer_minimum, leaks, question};
 pub use search::{Names, leaks_by_codes, leaks_by_definition, projected};

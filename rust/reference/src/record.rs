@@ -6,10 +6,10 @@ use crate::state::{Name, State};
 use crate::valid::matrix_valid;
 
 /// The most subject names that a record may have; it has at least one, U.
-pub const MOST_SUBJECTS: u64 = 40;
+const MOST_SUBJECTS: u64 = 40;
 
 /// The most plain names that a record may have; it may have none.
-pub const MOST_PLAIN: u64 = 120;
+const MOST_PLAIN: u64 = 120;
 
 /// What is read from a record (Manual 2.2): n, p and the state.
 #[derive(Clone, Debug, PartialEq, Eq)]

@@ -128,7 +128,7 @@ fn of_several_faults_the_lowest_number_is_given() {
 }
 
 #[test]
-fn the_longest_list_needs_257_bytes() {
+fn the_largest_record_asks_for_257_bytes() {
     assert_eq!(buffer_minimum(40), 257);
     let record = alone(40, 120);
     for (trust, answered) in [(0, Safety::Leaks), (1, Safety::Safe)] {

@@ -89,7 +89,7 @@ impl Kept {
             match self.window.put(*initiator, *outcome) {
                 Ok(()) => entered = true,
                 Err(refusal) => notes.push_str(&format!(
-                    "The command of login {initiator} is not entered in {}, since a window has counts for logins 0 to {} alone (refusal {}).\n",
+                    "The command of login {initiator} is not entered in {}, since a window has counts for the numbers 0 to {} alone (refusal {}).\n",
                     self.file,
                     WINDOW_NUMBERS - 1,
                     refusal.number()

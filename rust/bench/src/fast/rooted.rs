@@ -1,9 +1,10 @@
 //! Whether following owners from every subject comes to U.
 
-use super::tables::Tables;
+use super::tables::{SUBJECTS, Tables};
 
 /// The entries of the table of owners: more than there are subjects, so that a number of six bits needs no test of bounds.
 const ENTRIES: usize = 64;
+const _: () = assert!(SUBJECTS < ENTRIES);
 
 /// Whether the owners of owners come to U from every subject, where each has at most one owner and U none. By doubling: in a
 /// round each entry becomes the entry of the subject that it names, and one that was renewed earlier in the round is only

@@ -42,6 +42,9 @@ const ONES: [u8; 2 * SUBJECT_BYTES] = {
 /// A last block that goes beyond the subject columns is still within the tables.
 const _: () = assert!(SUBJECT_BYTES.is_multiple_of(BLOCK * LANE));
 
+/// Eight rows at a time hold every row, and as many times as that are looked at in the end.
+const _: () = assert!(SUBJECTS <= 8 * EIGHTHS && EIGHTHS <= 8);
+
 /// What the tests of the subjects found: set bits. U is tested apart; a record without it is refused whatever is found here.
 #[derive(Clone, Copy)]
 pub struct Tests {

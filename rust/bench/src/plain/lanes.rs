@@ -1,11 +1,9 @@
 //! Lanes of one byte. The loops over the lanes of a block are those that LLVM vectorises, 16 bytes at once on the default
 //! target.
 //!
-//! Tried at n = 64, p = 192, the largest size before version 0.5.0, where SSE2 by hand took 0.75 µs: lanes `[u8; N]` with a
-//! loop in each operation, 1.4 µs with N = 16, 1.6 with 32, 1.1 with 64; loops over whole rows into tables, 2.6 µs by four rows,
-//! 2.2 by eight, by 16 not vectorised; blocks of columns by eight rows, as here, 0.82 µs with 32 columns, 0.76 with 64, 0.79
-//! with 128. At n = 40, p = 120, where SSE2 by hand takes 0.28 µs: wide blocks of 32 columns 0.325 µs, of 48 0.305, of 64 and
-//! of 80 0.30. Few columns take small blocks.
+//! Tried at n = 40, p = 120, where SSE2 by hand takes 0.28 µs: wide blocks of 32 columns 0.325 µs, of 48 0.305, of 64 and of 80
+//! 0.30. Tried with the larger limits before version 0.5.0, and slower: lanes `[u8; N]` with a loop in each operation, and loops
+//! over whole rows into tables. Few columns take small blocks.
 
 use super::fast::parts::{Part, part};
 use super::fast::tables::SUBJECTS;

@@ -1,7 +1,7 @@
 //! Lanes of 16 bytes, each a vector register. SSE2, which every x86-64 has and the default target uses.
 
 use super::fast::parts::Part;
-use super::fast::tables::{ROW_BYTES, SUBJECTS};
+use super::fast::tables::ROW_BYTES;
 use std::arch::x86_64::{
     __m128i, _mm_add_epi8, _mm_and_si128, _mm_andnot_si128, _mm_cmpeq_epi8, _mm_loadu_si128,
     _mm_max_epu8, _mm_movemask_epi8, _mm_or_si128, _mm_set1_epi8, _mm_setzero_si128,
@@ -17,10 +17,9 @@ pub const BLOCK: usize = 1;
 pub const MIDDLE: usize = 1;
 pub const WIDE: usize = 1;
 
-/// How many times eight rows are kept apart: more often than there may be eight. With as often, the validity of a record of
-/// n = 40, p = 120 takes 4 in 100 longer, and of n = 16, p = 48 11 in 100.
+/// How many times eight rows are kept apart: more often than there may be eight. If it is as often, validity takes 4 in 100 longer
+/// at n = 40, p = 120, and 11 in 100 at n = 16, p = 48.
 pub const EIGHTHS: usize = 8;
-const _: () = assert!(SUBJECTS <= 8 * EIGHTHS);
 
 /// Neighbouring bytes of a row, or of what is found over several rows.
 #[derive(Clone, Copy)]
