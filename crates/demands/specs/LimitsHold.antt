@@ -43,58 +43,21 @@ module _ (most other : Limits) (b : List ℕ) (here : NotAbove most b) (there : 
   unfolding recordRefusal
   refusal-same = rw (same-test (inRange most (shapeOf b)) (inRange other (shapeOf b)) (passes most other b there) (passes other most b here)) refl
 
-  held-same : (s o right : ℕ) → heldAnswer most b s o right ≡ heldAnswer other b s o right
-  unfolding heldAnswer heldRefusal
-  held-same s o right = rw refusal-same refl
-
-  held-result-same : (s o right : ℕ) → heldResult most b s o right ≡ heldResult other b s o right
-  unfolding heldResult heldRefusal
-  held-result-same s o right = rw refusal-same refl
-
-  command-same : (c : Fields) → commandAnswer most b c ≡ commandAnswer other b c
-  unfolding commandAnswer
-  command-same c = rw refusal-same refl
-
-  command-result-same : (c : Fields) → commandResult most b c ≡ commandResult other b c
-  unfolding commandResult
-  command-result-same c = rw refusal-same refl
-
-  command-bytes-same : (c : Fields) → commandBytes most b c ≡ commandBytes other b c
-  unfolding commandBytes
-  command-bytes-same c = rw refusal-same refl
-
-  run-same : (l : List ℕ) → runAnswer most b l ≡ runAnswer other b l
-  unfolding runAnswer runRefusal
-  run-same l = rw refusal-same refl
-
-  run-result-same : (l : List ℕ) → runResult most b l ≡ runResult other b l
-  unfolding runResult runRefusal
-  run-result-same l = rw refusal-same refl
-
-  run-bytes-same : (l : List ℕ) → runBytes most b l ≡ runBytes other b l
-  unfolding runBytes runRefusal
-  run-bytes-same l = rw refusal-same refl
-
-  safety-same : (mask s o right room : ℕ) → safetyRefusal most b mask s o right room ≡ safetyRefusal other b mask s o right room
-  unfolding safetyRefusal
-  safety-same mask s o right room = rw refusal-same refl
-
   same-calls : SameCalls most other b
-  unfolding validAnswer
+  unfolding validAnswer heldRefusal heldAnswer heldResult commandAnswer commandResult commandBytes runRefusal runAnswer runResult runBytes safetyRefusal
   same-calls =
       record {
         valid = rw refusal-same refl;
-        held = held-same;
-        held-result = held-result-same;
-        command = command-same;
-        command-result = command-result-same;
-        command-bytes = command-bytes-same;
-        run = run-same;
-        run-result = run-result-same;
-        run-bytes = run-bytes-same;
+        held = λ s o right. rw refusal-same refl;
+        held-result = λ s o right. rw refusal-same refl;
+        command = λ c. rw refusal-same refl;
+        command-result = λ c. rw refusal-same refl;
+        command-bytes = λ c. rw refusal-same refl;
+        run = λ l. rw refusal-same refl;
+        run-result = λ l. rw refusal-same refl;
+        run-bytes = λ l. rw refusal-same refl;
         safety = λ mask s o right out out′ r.
-            let e = safety-same mask s o right (length out) in
-            (answers-same most other b mask s o right out out′ r e, answers-same other most b mask s o right out out′ r (sym e));
+            (answers-same most other b mask s o right out out′ r (rw refusal-same refl), answers-same other most b mask s o right out out′ r (rw refusal-same refl));
       }
 
 -- what is not above the limits was not above those before

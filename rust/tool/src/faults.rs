@@ -43,20 +43,22 @@ fn form_fault(bytes: &[u8]) -> Option<(u8, String)> {
     let Header { version, n, p, .. } = header;
     if version != 1 {
         Some((2, format!("its version, byte 0, is {version} and not 1")))
-    } else if !(1..=MOST_SUBJECTS).contains(&n) {
-        let most = MOST_SUBJECTS;
-        Some((
-            3,
-            format!("byte 5 says {n} logins, and a record has 1 to {most}"),
-        ))
-    } else if p > MOST_PLAIN {
-        let most = MOST_PLAIN;
-        Some((
-            3,
-            format!("byte 6 says {p} logs, and a record has 0 to {most}"),
-        ))
+    } else if let Some(sentence) = size_fault(n, p) {
+        Some((3, sentence))
     } else {
         length_fault(header, has).map(|sentence| (4, sentence))
+    }
+}
+
+/// Which of the two counts is out of range, or that both are.
+fn size_fault(n: u8, p: u8) -> Option<String> {
+    let logins = format!("byte 5 says {n} logins, and a record has 1 to {MOST_SUBJECTS}");
+    let logs = format!("byte 6 says {p} logs, and a record has 0 to {MOST_PLAIN}");
+    match ((1..=MOST_SUBJECTS).contains(&n), p <= MOST_PLAIN) {
+        (true, true) => None,
+        (false, true) => Some(logins),
+        (true, false) => Some(logs),
+        (false, false) => Some(format!("{logins}; {logs}")),
     }
 }
 

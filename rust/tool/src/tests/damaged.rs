@@ -92,18 +92,23 @@ fn whole(n: u8, p: u8) -> Vec<u8> {
     record
 }
 
-/// Of whole records exactly those beyond the limits are refused, each with the size that is wrong.
+/// Of whole records exactly those beyond the limits are refused, each with the sizes that are wrong.
 #[test]
 fn sizes_of_whole_records() {
     let sizes = |n| (0..=u8::MAX).map(move |p| (n, p));
     for (n, p) in (0..=u8::MAX).flat_map(sizes) {
-        let wanted = if !(1..=MOST_SUBJECTS).contains(&n) {
-            format!("byte 5 says {n} logins, and a record has 1 to {MOST_SUBJECTS}")
-        } else if p > MOST_PLAIN {
-            format!("byte 6 says {p} logs, and a record has 0 to {MOST_PLAIN}")
-        } else {
-            String::new()
-        };
+        let mut wrong = Vec::new();
+        if n == 0 || n > MOST_SUBJECTS {
+            wrong.push(format!(
+                "byte 5 says {n} logins, and a record has 1 to {MOST_SUBJECTS}"
+            ));
+        }
+        if p > MOST_PLAIN {
+            wrong.push(format!(
+                "byte 6 says {p} logs, and a record has 0 to {MOST_PLAIN}"
+            ));
+        }
+        let wanted = wrong.join("; ");
         let record = whole(n, p);
         let refusal = (!wanted.is_empty()).then_some(Refusal::Counts);
         assert_eq!(check(&record).err(), refusal, "{n} {p}");
