@@ -1,12 +1,14 @@
 /*
  * Bunvespo: the rights record of a log station (Graham-Denning), its thirteen commands and its safety question, and a window of the
- * commands that were refused of late. The eight calls of the proved library, for C99 and C++11. `./install PREFIX` puts this header,
+ * commands that were refused of late. The ten calls of the proved library, for C99 and C++11. `./install PREFIX` puts this header,
  * the archive and a file for pkg-config below a prefix; without it, link with target/staticlib/libbunvespo.a, which
- * `rt staticlib bunvespo` proves and writes. The archive is built for x86-64 and needs nothing but memset of the C library.
+ * `rt staticlib bunvespo` proves and writes. The archive is built for x86-64 and needs nothing but memcpy and memset of the C
+ * library.
  *
- * THE RECORD. A matrix of cells, 16 bits each, high byte first like every number in a record.
- *   byte 0        version: 1
- *   bytes 1 to 4  L: how many bytes come after these four, 2 + 2 n (n + p)
+ * THE RECORD. A matrix of cells. In each of them every right has one bit: a cell has 16 bits at version 1 and 32 at version 2, high byte
+ * first like every number in a record.
+ *   byte 0        version: 1 or 2
+ *   bytes 1 to 4  L: how many bytes come after these four, 2 + 2 n (n + p) at version 1 and 2 + 4 n (n + p) at version 2
  *   byte 5        n: how many subject names there are, 1 to 40
  *   byte 6        p: how many plain names there are, 0 to 120
  *   from byte 7   the cells, n rows with n + p columns, row after row. A row belongs to the subject of its number. So does a column
@@ -18,9 +20,11 @@
  *   - U exists, nobody owns it, and it alone controls it;
  *   - each further subject that exists has one owner, no more and no fewer, and besides itself one controller or none;
  *   - from owner to owner one never comes back to the same subject, and so always ends at U.
+ * The versions differ in the width of a cell and so in the basic rights, 0 to 6 at version 1 and 0 to 14 at version 2, and in nothing
+ * else. A command never changes a record's version; bunvespo_to_version_1 and bunvespo_to_version_2 write a record in the other one.
  *
  * A LIST OF COMMANDS.
- *   byte 0        version: 1
+ *   byte 0        version: 1, for records of either version
  *   bytes 1 to 4  L: how many bytes come after these four, six for each command, 60,000 at most
  *   from byte 5   for each command 05, code, i, s, o, k
  *
@@ -37,21 +41,22 @@
  * written.
  *
  * SLICES. Each pointer is followed by its length in bytes. A call reads, and where the pointer isn't const may write, these
- * bytes and no others, and keeps no pointer after it returns. A record or a buffer that a call may write must not overlap its
- * other slice.
+ * bytes and no others, and keeps no pointer after it returns. A record, a buffer or an output that a call may write must not overlap
+ * its other slice: so a record is never converted in its own place.
  * NULL with length 0 is an empty slice, for each of them: the compiled code looks at a slice's length before it reads or
  * writes a byte, and never at the pointer itself. So an empty record, NULL or not, gives 0 for validity and else refusal 1;
- * an empty list on a valid record refusal 16; an empty buffer on a valid record refusal 15 (7 stands before it); and an empty
- * slice for a window is one of another length than a window's. NULL with another length is not allowed.
+ * an empty list on a valid record refusal 16; an empty buffer on a valid record refusal 15 (7 stands before it); an empty output on a
+ * valid record refusal 15 (18 stands before it); and an empty slice for a window is one of another length than a window's. NULL with
+ * another length is not allowed.
  * tests/c_interface/null_and_empty.c tests this.
  *
  * THREADS. The library has no variables and takes no locks: all that a call touches is the bytes lent to it. So threads may call
  * it at the same time, under the rule that C has for all bytes: none may be written by one thread while another reads or writes it.
- *   - valid, held and safety only read a record, run only reads a list, and window_count only reads a window: any number of threads
- *     may ask of one record or window, and share one list, at once.
- *   - command and run write their record, safety its buffer, and window_empty and window_put their window. While a thread is in such
- *     a call, no other may use that record, buffer or window in any call, not even to ask. A lock, or a copy of the record for each
- *     thread, is the caller's to provide.
+ *   - valid, held, safety, to_version_1 and to_version_2 only read a record, run only reads a list, and window_count only reads a window:
+ *     any number of threads may ask of one record or window, convert one record, and share one list, at once.
+ *   - command and run write their record, safety its buffer, to_version_1 and to_version_2 their output, and window_empty and window_put
+ *     their window. While a thread is in such a call, no other may use that record, buffer, output or window in any call, not even to
+ *     ask. A lock, or a copy of the record for each thread, is the caller's to provide.
  */
 #ifndef BUNVESPO_H
 #define BUNVESPO_H
@@ -68,27 +73,35 @@ extern "C" {
  *   #if BUNVESPO_LIBRARY_VERSION >= 3000      0.3.0 or later: code 3 takes plain objects too
  *   #if BUNVESPO_LIBRARY_VERSION >= 4000      0.4.0 or later: the window of late refusals
  *   #if BUNVESPO_LIBRARY_VERSION >= 5000      0.5.0 or later: the limits of n and p, which were 64 and 192, are 40 and 120
+ *   #if BUNVESPO_LIBRARY_VERSION >= 6000      0.6.0 or later: records of version 2, with fifteen basic rights, and the conversions
  */
 #define BUNVESPO_VERSION_MAJOR 0
-#define BUNVESPO_VERSION_MINOR 5
+#define BUNVESPO_VERSION_MINOR 6
 #define BUNVESPO_VERSION_PATCH 0
 #define BUNVESPO_LIBRARY_VERSION (BUNVESPO_VERSION_MAJOR * 1000000 + BUNVESPO_VERSION_MINOR * 1000 + BUNVESPO_VERSION_PATCH)
 
 /*
- * REFUSALS. The answer is the lowest number whose condition holds; only bunvespo_run tests 16 before its first command. The words
- * of each condition are those of bunvespo_refusal_words. Here stand the calls that give the number, and what the words leave out.
- * bunvespo_valid and bunvespo_window_empty never refuse. Like the codes below these are enumerators, for programs and not for #if.
+ * REFUSALS. Each call tests the conditions below in an order of its own, and the answer is the number of the first one that holds:
+ *   held                        1 to 5, 7
+ *   command                     1 to 14
+ *   run                         1 to 5, 16, and then 6 to 14 for each command in its turn
+ *   safety                      1 to 5, 7, 15
+ *   to_version_1                1 to 5, 18, 15
+ *   to_version_2                1 to 5, 15
+ *   window_put, window_count    17
+ * bunvespo_valid and bunvespo_window_empty never refuse. The words of each condition are those of bunvespo_refusal_words. Here stand the
+ * calls that give the number, and what the words leave out. Like the codes below these are enumerators, for programs and not for #if.
  */
 enum {
     BUNVESPO_ANSWERED = 0,                  /* not refused */
-    BUNVESPO_REFUSED_RECORD_SHORT = 1,      /* held, command, run, safety */
-    BUNVESPO_REFUSED_VERSION = 2,           /* held, command, run, safety */
-    BUNVESPO_REFUSED_COUNTS = 3,            /* held, command, run, safety */
-    BUNVESPO_REFUSED_RECORD_LENGTH = 4,     /* held, command, run, safety */
-    BUNVESPO_REFUSED_NOT_VALID = 5,         /* held, command, run, safety: one of the five conditions above fails */
+    BUNVESPO_REFUSED_RECORD_SHORT = 1,      /* 1 to 5: held, command, run, safety, to_version_1, to_version_2 */
+    BUNVESPO_REFUSED_VERSION = 2,
+    BUNVESPO_REFUSED_COUNTS = 3,
+    BUNVESPO_REFUSED_RECORD_LENGTH = 4,     /* each version has its own L and its own length, as above */
+    BUNVESPO_REFUSED_NOT_VALID = 5,         /* one of the five conditions above fails */
     BUNVESPO_REFUSED_CODE = 6,              /* command, run: codes are 1 to 13 */
-    BUNVESPO_REFUSED_BOUNDS = 7,            /* held, command, run, safety: subjects and trust bits are below n, columns below n + p,
-                                               k is at most 6, a right at most 15 */
+    BUNVESPO_REFUSED_BOUNDS = 7,            /* held, command, run, safety: subjects and trust bits are below n, columns below n + p;
+                                               k is at most 6 and a right at most 15 at version 1, 14 and 31 at version 2 */
     BUNVESPO_REFUSED_INITIATOR_ABSENT = 8,  /* command, run */
     BUNVESPO_REFUSED_KIND = 9,              /* command, run: code 6 takes a subject, 7, 10 and 11 a plain object */
     BUNVESPO_REFUSED_NAME_ABSENT = 10,      /* command, run */
@@ -96,21 +109,22 @@ enum {
     BUNVESPO_REFUSED_RIGHT_LACKING = 12,    /* command, run */
     BUNVESPO_REFUSED_WALK_MEETS = 13,       /* command, run: code 3 over a subject */
     BUNVESPO_REFUSED_OTHER_CONTROLLER = 14, /* command, run: code 6 */
-    BUNVESPO_REFUSED_BUFFER_SHORT = 15,     /* safety */
+    BUNVESPO_REFUSED_BUFFER_SHORT = 15,     /* safety: its buffer; to_version_1, to_version_2: their output */
     BUNVESPO_REFUSED_LIST_FORM = 16,        /* run: fewer than 5 bytes, a version other than 1, a command that does not begin with 05, or
                                                an L above 60,000, not divisible by six, or not the number of bytes after it */
-    BUNVESPO_REFUSED_WINDOW_NUMBER = 17     /* window_put, window_count: whatever the window's bytes */
+    BUNVESPO_REFUSED_WINDOW_NUMBER = 17,    /* window_put, window_count: whatever the window's bytes */
+    BUNVESPO_REFUSED_HIGH_RIGHT = 18        /* to_version_1: one of the bits 16 to 31 is set in some cell of a record of version 2 */
 };
 
-/* A refusal in words, without a full stop. Any number has some: 0 and those above 17 are told so. The text is never freed. */
+/* A refusal in words, without a full stop. Any number has some: 0 and those above 18 are told so. The text is never freed. */
 static inline const char *bunvespo_refusal_words(uint64_t refusal)
 {
     switch (refusal) {
     case BUNVESPO_ANSWERED: return "not refused";
     case BUNVESPO_REFUSED_RECORD_SHORT: return "the record has fewer than 7 bytes";
-    case BUNVESPO_REFUSED_VERSION: return "the record's version is not 1";
+    case BUNVESPO_REFUSED_VERSION: return "the record's version is neither 1 nor 2";
     case BUNVESPO_REFUSED_COUNTS: return "the record's n is not 1 to 40, or its p is above 120";
-    case BUNVESPO_REFUSED_RECORD_LENGTH: return "the record's L or its length does not fit its n and p";
+    case BUNVESPO_REFUSED_RECORD_LENGTH: return "the record's L or its length does not fit its version, n and p";
     case BUNVESPO_REFUSED_NOT_VALID: return "the record's matrix is not valid";
     case BUNVESPO_REFUSED_CODE: return "no command has this code";
     case BUNVESPO_REFUSED_BOUNDS:
@@ -122,9 +136,11 @@ static inline const char *bunvespo_refusal_words(uint64_t refusal)
     case BUNVESPO_REFUSED_RIGHT_LACKING: return "the initiator lacks the right that the command asks for";
     case BUNVESPO_REFUSED_WALK_MEETS: return "the owner walk from s meets o";
     case BUNVESPO_REFUSED_OTHER_CONTROLLER: return "somebody else controls o already";
-    case BUNVESPO_REFUSED_BUFFER_SHORT: return "the buffer has fewer than 5 + 6 (n + 2) bytes";
+    case BUNVESPO_REFUSED_BUFFER_SHORT:
+        return "the buffer is shorter than 5 + 6 (n + 2) bytes, or the output than the new record";
     case BUNVESPO_REFUSED_LIST_FORM: return "the list is not of the right form";
     case BUNVESPO_REFUSED_WINDOW_NUMBER: return "the initiator, or the number whose count is read, is 64 or more";
+    case BUNVESPO_REFUSED_HIGH_RIGHT: return "a basic right above 6 is set, for which version 1 has no room";
     default: return "no refusal has this number";
     }
 }
@@ -132,13 +148,14 @@ static inline const char *bunvespo_refusal_words(uint64_t refusal)
 /*
  * RIGHTS, by code, which is the number of the right's bit in a cell (0 is the lowest bit). The star is a copy flag: with r* over o
  * one may transfer r and r* over it. To hold a right is to have its bit, or to have r* where r is asked for.
- * A k that is out of range, negative too, gives BUNVESPO_NO_RIGHT, which every call refuses by 7. The macros evaluate k twice.
+ * A k that is out of range, negative too, gives BUNVESPO_NO_RIGHT, which every call refuses by 7. A k of 7 to 14 gives a right that
+ * records of version 2 have; on one of version 1 it is refused by 7 too. The macros evaluate k twice.
  */
 #define BUNVESPO_OWN UINT64_C(0)
 #define BUNVESPO_CONTROL UINT64_C(1)
 #define BUNVESPO_NO_RIGHT UINT64_MAX
-#define BUNVESPO_PLAIN(k) ((uint64_t)(k) > 6 ? BUNVESPO_NO_RIGHT : 2 + 2 * (uint64_t)(k))   /* basic right k: 2, 4, .. 14 */
-#define BUNVESPO_STARRED(k) ((uint64_t)(k) > 6 ? BUNVESPO_NO_RIGHT : 3 + 2 * (uint64_t)(k)) /* with the star: 3, 5, .. 15 */
+#define BUNVESPO_PLAIN(k) ((uint64_t)(k) > 14 ? BUNVESPO_NO_RIGHT : 2 + 2 * (uint64_t)(k))   /* basic right k: 2, 4, .. 30 */
+#define BUNVESPO_STARRED(k) ((uint64_t)(k) > 14 ? BUNVESPO_NO_RIGHT : 3 + 2 * (uint64_t)(k)) /* with the star: 3, 5, .. 31 */
 
 /*
  * COMMANDS, by code, with the fields that each uses; fields left out are 0. i is the initiator, s a subject, o a column, k the
@@ -161,10 +178,12 @@ enum {
                                                 become zero */
 };
 
-/* The limits of a record, and the bytes of buffer that a safety question asks for on a record of n subject names. With an n above
-   the limit it is the size for BUNVESPO_MOST_SUBJECTS, which is enough for every record. */
+/* The limits of a record, and the bytes of the longest one of either version, which are output enough for every conversion. Then the
+   bytes of buffer that a safety question asks for on a record of n subject names. With an n above the limit it is the size for
+   BUNVESPO_MOST_SUBJECTS, which is enough for every record. */
 #define BUNVESPO_MOST_SUBJECTS 40
 #define BUNVESPO_MOST_PLAIN 120
+#define BUNVESPO_MOST_RECORD_BYTES 25607
 #define BUNVESPO_BUFFER_SIZE(n) (5 + 6 * (2 + ((size_t)(n) > BUNVESPO_MOST_SUBJECTS ? (size_t)BUNVESPO_MOST_SUBJECTS : (size_t)(n))))
 
 /* The subject numbers that have a count in a window, the entries that are counted, and the bytes of a window. */
@@ -211,6 +230,20 @@ bunvespo_answer bunvespo_run(uint8_t *record, size_t record_len, const uint8_t *
  */
 bunvespo_answer bunvespo_safety(const uint8_t *record, size_t record_len, uint64_t trust, uint64_t s, uint64_t o,
                                 uint64_t right, uint8_t *out, size_t out_len);
+
+/*
+ * A record converted: to version 1 by the first call, to version 2 by the second. The new record stands at the start of out. It has the
+ * same n and p, and the same rights in cells of the wanted width; a record that is of the wanted version already is copied. So a record
+ * that is converted there and back is the same bytes.
+ * Refusals, tested in this order: 1 to 5 of the record; then, by to_version_1 alone, 18 where some cell has a basic right above 6, which
+ * no record of version 1 has room for (own and control do not count: both versions have them); then 15 where out_len is below the bytes
+ * of the new record, 7 + 2 n (n + p) in version 1 and 7 + 4 n (n + p) in version 2. So 18 is given whatever out_len is, and an out of
+ * BUNVESPO_MOST_RECORD_BYTES never gives 15.
+ * value: the bytes of the new record; 0 with a refusal. Later bytes of out, and all of it on a refusal, are unchanged. The record is only
+ * read, and must not overlap out.
+ */
+bunvespo_answer bunvespo_to_version_1(const uint8_t *record, size_t record_len, uint8_t *out, size_t out_len);
+bunvespo_answer bunvespo_to_version_2(const uint8_t *record, size_t record_len, uint8_t *out, size_t out_len);
 
 /* Makes bytes an empty window. window_len is BUNVESPO_WINDOW_SIZE; bytes of another length stay as they are. */
 void bunvespo_window_empty(uint8_t *window, size_t window_len);

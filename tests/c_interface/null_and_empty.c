@@ -34,6 +34,8 @@ static void empty_record(const char *what, uint8_t *at)
     expect(what, bunvespo_command(at, 0, 12, 0, 1, 0, 0), BUNVESPO_REFUSED_RECORD_SHORT, 0);
     expect(what, bunvespo_run(at, 0, list, sizeof list), BUNVESPO_REFUSED_RECORD_SHORT, 0);
     expect(what, bunvespo_safety(at, 0, 0, 0, 0, 0, out, sizeof out), BUNVESPO_REFUSED_RECORD_SHORT, 0);
+    expect(what, bunvespo_to_version_1(at, 0, out, sizeof out), BUNVESPO_REFUSED_RECORD_SHORT, 0);
+    expect(what, bunvespo_to_version_2(at, 0, out, sizeof out), BUNVESPO_REFUSED_RECORD_SHORT, 0);
     for (size_t j = 0; j < sizeof out; j++) {
         failures += out[j] != 0xEE;
     }
@@ -58,6 +60,22 @@ static void empty_buffer(const char *what, uint8_t *at, const uint8_t *record_at
     expect(what, bunvespo_safety(record_at, 0, 0, 0, 0, 0, at, 0), BUNVESPO_REFUSED_RECORD_SHORT, 0);
 }
 
+/* An empty output on a valid record of version 1, and on one of version 2 without a basic right above 6 and with one; then both slices
+   empty. */
+static void empty_output(const char *what, uint8_t *at, const uint8_t *record_at)
+{
+    uint8_t wide[11] = {2, 0, 0, 0, 6, 1, 0, 0, 0, 0, 2};
+    expect(what, bunvespo_to_version_1(station_a, sizeof station_a, at, 0), BUNVESPO_REFUSED_BUFFER_SHORT, 0);
+    expect(what, bunvespo_to_version_2(station_a, sizeof station_a, at, 0), BUNVESPO_REFUSED_BUFFER_SHORT, 0);
+    expect(what, bunvespo_to_version_1(wide, sizeof wide, at, 0), BUNVESPO_REFUSED_BUFFER_SHORT, 0);
+    expect(what, bunvespo_to_version_2(wide, sizeof wide, at, 0), BUNVESPO_REFUSED_BUFFER_SHORT, 0);
+    wide[8] = 1;
+    expect(what, bunvespo_to_version_1(wide, sizeof wide, at, 0), BUNVESPO_REFUSED_HIGH_RIGHT, 0);
+    expect(what, bunvespo_to_version_2(wide, sizeof wide, at, 0), BUNVESPO_REFUSED_BUFFER_SHORT, 0);
+    expect(what, bunvespo_to_version_1(record_at, 0, at, 0), BUNVESPO_REFUSED_RECORD_SHORT, 0);
+    expect(what, bunvespo_to_version_2(record_at, 0, at, 0), BUNVESPO_REFUSED_RECORD_SHORT, 0);
+}
+
 /* An empty window: 17 as ever, and else answered. */
 static void empty_window(const char *what, uint8_t *at)
 {
@@ -77,6 +95,8 @@ int main(void)
     empty_list("list empty", bytes, bytes);
     empty_buffer("buffer NULL", NULL, NULL);
     empty_buffer("buffer empty", bytes, bytes);
+    empty_output("output NULL", NULL, NULL);
+    empty_output("output empty", bytes, bytes);
     empty_window("window NULL", NULL);
     empty_window("window empty", bytes);
     failures += bytes[0] != 0xEE;

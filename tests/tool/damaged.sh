@@ -1,6 +1,6 @@
 # Records that are refused, by each number, in each command that reads one.
 bytes 1 01 00 00 00 04 01
-changed 0 02 2
+changed 0 00 2
 changed 5 00 3
 { cat "$a"; printf '\x00'; } >4
 changed 8 00 5
@@ -21,7 +21,10 @@ for refusal in 1 2 3 4 5; do
     cmp $refusal before
     try diff $refusal "$a"
     try diff "$a" $refusal
+    try convert $refusal 1 made
+    try convert $refusal 2 made
 done
+[[ ! -e made ]] || fail "a record is made of a refused one"
 [[ ! -e page.html ]] || fail "a page of a refused record"
 # Each condition of the matrix.
 changed 8 00 u-absent
@@ -56,3 +59,48 @@ changed 5 29 logins
 try check logins
 { printf '\x01\x00\x00\x32\x02\x28\x78'; head -c 12800 /dev/zero | tr '\0' '\377'; } >worst
 try check worst
+# Station A in version 2: each of the refusals 1 to 5, with the numbers of its version; and each version's length under the other's byte 0.
+head -c 6 "$a2" >short
+try check short
+for version in 00 03 ff; do
+    changed 0 $version version "$a2"
+    try check version
+done
+changed 0 02 length
+try check length
+changed 0 01 length "$a2"
+try check length
+changed 5 29 logins "$a2"
+try check logins
+changed 4 33 length "$a2"
+try check length
+{ cat "$a2"; printf '\x00'; } >length
+try check length
+head -c 54 "$a2" >length
+try check length
+changed 10 00 matrix "$a2"
+try check matrix
+# Only own makes a log exist, and a bit above the lowest 16 is a right as any other.
+changed 51 80 log "$a2"
+try check log
+changed 54 00 matrix log
+try check matrix
+
+# Writes the record of a file of version 1 in version 2, cell by cell, also where its matrix is not valid.
+widened() {
+    local cells
+    cells=$(od -An -v -tx1 "$1" | tr -d '\n' | sed 's/^\( ..\)\{7\}//; s/ \(..\) \(..\)/ 00 00 \1 \2/g')
+    bytes "$2" 02 $(printf '%08x' $((2 * ($(wc -c <"$1") - 7) + 2)) | sed 's/../& /g') $(head -c 7 "$1" | tail -c 2 | od -An -tx1) $cells
+}
+# What check tells of a file, without its name and version.
+told_of() {
+    { "$program" check "$1" || true; } | sed "s/^$1 is/It is/; s/version 2; //"
+}
+widened "$a" wide
+cmp wide "$a2"
+# The matrix has the same conditions in both versions, and the same reasons are told.
+for file in 5 u-owned u-controlled two-owners no-owner absent-with-rights no-log absent-log cycle itself controllers worst; do
+    cp $file narrow
+    widened narrow wide
+    diff <(told_of narrow) <(told_of wide) || fail "check of $file in version 2"
+done

@@ -1,6 +1,7 @@
 # What the cases of the topics are written with. They run in a folder of their own; root is the repository's.
 program=$root/rust/target/release/bunvespo
 a=$root/stations/a.rights
+a2=$root/stations/a2.rights
 b=$root/stations/b.rights
 
 fail() {
@@ -32,12 +33,13 @@ no_record() {
     [[ $status == 1 && ! -s err ]] || fail "check of $what exits with $status"
     echo "$what: $(tr '\n' ' ' <out)"
     for words in "show $file" "held $file 0 0 own" "who $file 0 own" "ask $file none 0 0 r0" "run $file $a" "run $file commands" "run --dry $file commands" \
-        "diff $file $file" "diff $file $a" "diff $a $file"; do
+        "diff $file $file" "diff $file $a" "diff $a $file" "convert $file 1 made" "convert $file 2 made"; do
         status=0
         timeout 10 "$program" $words >out 2>err || status=$?
         [[ $status == 2 && ! -s out && $(wc -l <err) == 1 ]] || fail "$words with $what exits with $status"
     done
     cmp "$file" before
+    [[ ! -e made ]] || fail "a record is made of $what"
 }
 
 # The words, with quotes where a shell needs them.
@@ -60,9 +62,10 @@ bytes() {
     for byte in "$@"; do printf "\\x$byte"; done >"$file"
 }
 
-# Station A with the byte at a place changed.
+# Station A, or another file that is named, with the byte at a place changed.
 changed() {
-    { head -c "$1" "$a"; printf "\\x$2"; tail -c "+$(($1 + 2))" "$a"; } >"$3"
+    local from=${4-$a}
+    { head -c "$1" "$from"; printf "\\x$2"; tail -c "+$(($1 + 2))" "$from"; } >"$3"
 }
 
 # The bytes of a file in hexadecimal.

@@ -1,5 +1,5 @@
 -- The steps of the loop by which i gains own over all that s owns.
-use Prim.Native.Nat.{ℕ, _+_, _*_, _/_, _%_, _<_}
+use Prim.Native.Nat.{ℕ, _+_, _-_, _*_, _/_, _%_, _<_}
 use native.Mathlib.Omega.{arith}
 use mathlib.Core.Path.{_≡_, refl, sym, _∙_, ap}
 use mathlib.Core.Logic.{⊎-elim}
@@ -15,19 +15,20 @@ use Rattle.matrix.specs.Names.{sameName, nameOf, named}
 use Rattle.matrix.specs.State.{State, put}
 use Rattle.matrix.specs.Bytes.{bit}
 use Rattle.matrix.specs.Shape.{shapeOf, columns, cellPlace, bitsOf}
-use Rattle.matrix.specs.Reading.{cellAt, setCell, stateOf}
+use Rattle.matrix.specs.Reading.{cellAt, stateOf}
 use Rattle.matrix.specs.Changes.{inherit}
 use Rattle.laws.specs.Same.{sameName-eq}
 use Rattle.laws.specs.Tests.{way}
-use Rattle.codec.specs.Bits.{withBit}
+use Rattle.codec.specs.Numbers.{set-same}
+use Rattle.codec.specs.ShapeRight.{TwoOrFour, two-or-four}
 use Rattle.codec.specs.Update.{bit-read}
 use Rattle.codec.specs.RoundTrip.{within-read}
 use Rattle.cells.specs.Station.{Station, Cell, right-shape}
-use Rattle.cells.specs.Places.{rowBytes}
+use Rattle.cells.specs.Places.{rowBytes, lowPlace, bitPlace}
 use Rattle.states.specs.Reads.{code-in}
 use Rattle.bits.specs.Became.{Became}
 use Rattle.bits.specs.Passed.{firstColumns, inheritPart}
-use Rattle.bits.specs.OwnBytes.{ownJoined, set-same, second-byte, own-read, own-stored}
+use Rattle.bits.specs.OwnBytes.{ownJoined, same-cell, next-cell, last-place, column-below, columns-passed, own-read}
 use Rattle.bits.specs.Steps.{became-same, became-then, became-as, became-at, became-put, cell-after, cell-row, cell-column}
 use Rattle.bits.specs.Loops.{columns-none, columns-next, columns-all}
 
@@ -93,8 +94,10 @@ module _ (n i s : ℕ) (S : State) where
       by false false o a h = refl
 
 module _ {b₀ : List ℕ} {f : Shape} (i s : ℕ) where
-  pub inherit-none : Station b₀ f → Became b₀ b₀ (inheritPart (shapeOf b₀ .n) i s 0 (stateOf b₀))
-  inherit-none h = became-as (became-same h) (part-none (shapeOf b₀ .n) i s (stateOf b₀))
+  pub inherit-none : Station b₀ f → Became b₀ b₀ (inheritPart (shapeOf b₀ .n) i s (0 / f .width) (stateOf b₀))
+  inherit-none h =
+      let e : 0 / f .width ≡ 0 = columns-passed (f .width) 0 (two-or-four f (right-shape h)) 0 (omega arith) in
+      became-as (became-same h) (part-none (shapeOf b₀ .n) i s (stateOf b₀) ∙ ap (λ (m : ℕ). inheritPart (shapeOf b₀ .n) i s m (stateOf b₀)) (sym e))
 
   -- the test of the bit of own in the cell of s in column c
   owns-read : {b : List ℕ} {c v : ℕ} {t : Bool} → Became b₀ b (inheritPart (shapeOf b₀ .n) i s c (stateOf b₀)) → Cell b f s c → v ≡ cellAt b s c → t ≡ bit 0 v
@@ -114,53 +117,48 @@ module _ {b₀ : List ℕ} {f : Shape} (i s : ℕ) where
       by false false = refl
 
   -- one more byte of row i is joined with that of row s
-  pub inherit-byte : {b b′ : List ℕ} {k to from u : ℕ} → Station b₀ f → Became b₀ b (inheritPart (shapeOf b₀ .n) i s (k / 2) (stateOf b₀)) → i < f .n → s < f .n
-      → k < rowBytes f → to ≡ cellPlace f i 0 + k → from ≡ cellPlace f s 0 + k → u ≡ ownJoined (getD b to 0) (getD b from 0) k → b′ ≡ set b to u
-      → Became b₀ b′ (inheritPart (shapeOf b₀ .n) i s ((k + 1) / 2) (stateOf b₀))
-  inherit-byte {b} {b′} {k} {to} {from} st h hi hs more e d g w = ⊎-elim second first (way (eqb (k % 2) 1))
+  pub inherit-byte : {b b′ : List ℕ} {k to from u : ℕ} → Station b₀ f → Became b₀ b (inheritPart (shapeOf b₀ .n) i s (k / f .width) (stateOf b₀)) → i < f .n → s < f .n
+      → k < rowBytes f → to ≡ cellPlace f i 0 + k → from ≡ cellPlace f s 0 + k → u ≡ ownJoined (f .width) (getD b to 0) (getD b from 0) k → b′ ≡ set b to u
+      → Became b₀ b′ (inheritPart (shapeOf b₀ .n) i s ((k + 1) / f .width) (stateOf b₀))
+  inherit-byte {b} {b′} {k} {to} {from} st h hi hs more e d g w = ⊎-elim last other (way (eqb (k % f .width) (f .width - 1)))
     where
-      half : {m : ℕ} → k < 2 * m → k / 2 < m
-      half l = omega arith
+      wide : TwoOrFour (f .width)
+      wide = two-or-four f (right-shape st)
+
+      col : ℕ
+      col = k / f .width
 
       -- a byte that stays
-      kept : ownJoined (getD b to 0) (getD b from 0) k ≡ getD b to 0 → b′ ≡ b
+      kept : ownJoined (f .width) (getD b to 0) (getD b from 0) k ≡ getD b to 0 → b′ ≡ b
       kept q = w ∙ ap (set b to) (g ∙ q) ∙ set-same b to
 
-      passed : {l : List ℕ} {m : ℕ} → m ≡ (k + 1) / 2 → Became b₀ l (inheritPart (shapeOf b₀ .n) i s m (stateOf b₀)) → Became b₀ l (inheritPart (shapeOf b₀ .n) i s ((k + 1) / 2) (stateOf b₀))
+      passed : {l : List ℕ} {m : ℕ} → m ≡ (k + 1) / f .width → Became b₀ l (inheritPart (shapeOf b₀ .n) i s m (stateOf b₀)) → Became b₀ l (inheritPart (shapeOf b₀ .n) i s ((k + 1) / f .width) (stateOf b₀))
       passed q a = became-as a (ap (λ (m : ℕ). inheritPart (shapeOf b₀ .n) i s m (stateOf b₀)) q)
 
-      first : eqb (k % 2) 1 ≡ false → Became b₀ b′ (inheritPart (shapeOf b₀ .n) i s ((k + 1) / 2) (stateOf b₀))
-      first t =
-          let ne = eqb-false (k % 2) 1 t in
-          let q : k / 2 ≡ (k + 1) / 2 = omega (arith, ne) in
-          became-at (kept (rw t refl)) (passed q h)
+      other : eqb (k % f .width) (f .width - 1) ≡ false → Became b₀ b′ (inheritPart (shapeOf b₀ .n) i s ((k + 1) / f .width) (stateOf b₀))
+      other t = became-at (kept (rw t refl)) (passed (same-cell (f .width) k wide (eqb-false (k % f .width) (f .width - 1) t)) h)
 
-      second : eqb (k % 2) 1 ≡ true → Became b₀ b′ (inheritPart (shapeOf b₀ .n) i s ((k + 1) / 2) (stateOf b₀))
-      second t =
-          let odd = eqb-true (k % 2) 1 t in
-          let q : k / 2 + 1 ≡ (k + 1) / 2 = omega arith in
-          let two : f .width ≡ 2 = right-shape st .width in
-          let to-place : to ≡ cellPlace f i (k / 2) + 1 = e ∙ second-byte f i k two odd in
-          let from-place : from ≡ cellPlace f s (k / 2) + 1 = d ∙ second-byte f s k two odd in
-          let column : k / 2 < columns f = half (rw two at more) in
-          let to-cell : Cell b f i (k / 2) = cell-after st h hi column in
-          let from-cell : Cell b f s (k / 2) = cell-after st h hs column in
-          let read : stateOf b₀ .owns s (nameOf (shapeOf b₀ .n) (k / 2)) ≡ bit 0 (getD b from 0) = owns-read h from-cell refl (sym (own-read (from-cell .station) s (k / 2) ∙ ap (λ (m : ℕ). bit 0 (getD b m 0)) (sym from-place))) in
+      last : eqb (k % f .width) (f .width - 1) ≡ true → Became b₀ b′ (inheritPart (shapeOf b₀ .n) i s ((k + 1) / f .width) (stateOf b₀))
+      last t =
+          let at = eqb-true (k % f .width) (f .width - 1) t in
+          let q : col + 1 ≡ (k + 1) / f .width = next-cell (f .width) k wide at in
+          let to-place : to ≡ lowPlace f i col = e ∙ last-place (f .width) k wide (f .first) (i * columns f) at in
+          let to-byte : to ≡ bitPlace f i col 0 = to-place ∙ omega arith in
+          let from-place : from ≡ lowPlace f s col = d ∙ last-place (f .width) k wide (f .first) (s * columns f) at in
+          let column : col < columns f = column-below (f .width) k wide (columns f) more in
+          let to-cell : Cell b f i col = cell-after st h hi column in
+          let from-cell : Cell b f s col = cell-after st h hs column in
+          let read : stateOf b₀ .owns s (nameOf (shapeOf b₀ .n) col) ≡ bit 0 (getD b from 0) = owns-read h from-cell refl (sym (own-read (from-cell .station) s col ∙ ap (λ (m : ℕ). bit 0 (getD b m 0)) (sym from-place))) in
           ⊎-elim
           (λ (y : bit 0 (getD b from 0) ≡ true).
-          let stored : b′ ≡ setCell b i (k / 2) (withBit 0 true (cellAt b i (k / 2))) =
-          w ∙ ap (set b to) (g ∙ rw (t, y) refl) ∙ ap (λ (m : ℕ). set b m (withBit 0 true (getD b m 0))) to-place ∙ sym (own-stored (to-cell .station) i (k / 2)) in
-          passed q (became-as (became-then (put Own i (nameOf (shapeOf b₀ .n) (k / 2)) true) h (became-as (became-put Own true to-cell tt refl refl refl stored) (ap (λ (e : Shape). put Own i (nameOf (e .n) (k / 2)) true (stateOf b)) (st .shape)))) (part-hit (shapeOf b₀ .n) i s (stateOf b₀) (k / 2) (read ∙ y))))
-          (λ (y : bit 0 (getD b from 0) ≡ false). became-at (kept (rw (t, y) refl)) (passed q (became-as h (part-miss (shapeOf b₀ .n) i s (stateOf b₀) (k / 2) (read ∙ y)))))
+          passed q (became-as (became-then (put Own i (nameOf (shapeOf b₀ .n) col) true) h (became-as (became-put Own true to-cell tt refl to-byte (g ∙ rw (t, y) refl) w) (ap (λ (e : Shape). put Own i (nameOf (e .n) col) true (stateOf b)) (st .shape)))) (part-hit (shapeOf b₀ .n) i s (stateOf b₀) col (read ∙ y))))
+          (λ (y : bit 0 (getD b from 0) ≡ false). became-at (kept (rw (t, y) refl)) (passed q (became-as h (part-miss (shapeOf b₀ .n) i s (stateOf b₀) col (read ∙ y)))))
           (way (bit 0 (getD b from 0)))
 
   -- all bytes of the row are
-  pub inherit-all : {b : List ℕ} {k : ℕ} → Station b₀ f → k ≡ rowBytes f → Became b₀ b (inheritPart (shapeOf b₀ .n) i s (k / 2) (stateOf b₀))
+  pub inherit-all : {b : List ℕ} {k : ℕ} → Station b₀ f → k ≡ rowBytes f → Became b₀ b (inheritPart (shapeOf b₀ .n) i s (k / f .width) (stateOf b₀))
       → Became b₀ b (inherit i s (stateOf b₀))
   inherit-all {k = k} h e g =
       became-as g
-      (ap (λ (m : ℕ). inheritPart (shapeOf b₀ .n) i s m (stateOf b₀)) (half (e ∙ ap (λ (w : ℕ). w * columns f) (right-shape h .width)) ∙ ap columns (h .shape))
+      (ap (λ (m : ℕ). inheritPart (shapeOf b₀ .n) i s m (stateOf b₀)) (columns-passed (f .width) k (two-or-four f (right-shape h)) (columns f) e ∙ ap columns (h .shape))
       ∙ part-all (shapeOf b₀ .n) i s (stateOf b₀) (shapeOf b₀ .p) (λ x g. within-read b₀ .column Own s x g))
-    where
-      half : {m : ℕ} → k ≡ 2 * m → k / 2 ≡ m
-      half e = omega arith

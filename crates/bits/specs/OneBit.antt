@@ -1,27 +1,20 @@
--- The number with one bit set or cleared, as the code computes it.
-use Prim.Native.Nat.{ℕ, _+_, _-_, _/_, _%_, _^_, _≤_, _<_}
-use native.Mathlib.Nat.{div-eq-of-lt, lt-of-lt-of-le}
+-- The byte with one bit set or cleared, as the code computes it.
+use Prim.Native.Nat.{ℕ, suc, _+_, _-_, _*_, _/_, _%_, _^_, _≤_, _<_}
+use native.Mathlib.Nat.{div-eq-of-lt, pow-succ'}
 use native.Mathlib.Omega.{arith}
-use mathlib.Core.Path.{_≡_, refl, sym, _∙_}
+use mathlib.Core.Path.{_≡_, refl, sym, _∙_, subst}
 use mathlib.Core.Logic.{⊎-elim}
-use mathlib.Core.Bool.{Bool, true, cond}
-use mathlib.Core.List.{List}
+use mathlib.Core.Bool.{Bool, true, false, cond}
 use lib.Dec.{ltb}
 use lib.Pow.{pow-mono}
 use borrow.Author.Tests.{eqb-true, ltb-true, ltb-false}
-use Rattle.matrix.specs.declared.Shape.{Shape}
 use Rattle.matrix.specs.Bytes.{bit}
-use Rattle.matrix.specs.Shape.{shapeOf, bitsOf}
-use Rattle.matrix.specs.Reading.{cellAt}
 use Rattle.laws.specs.Tests.{way}
-use Rattle.codec.specs.Bits.{withBit}
-use Rattle.codec.specs.Cells.{cell-below}
-use Rattle.codec.specs.ShapeRight.{mostBits, bits-most}
-use Rattle.cells.specs.Station.{Cell, right-shape}
+use Rattle.codec.specs.Bits.{withBit, withBit-below}
 
--- the bits of a cell are small numbers
-pub power-small : (j : ℕ) → j < mostBits → 2 ^ j ≤ 2 ^ mostBits
-power-small j h = pow-mono {i = j} {j = mostBits} (omega arith)
+-- a one shifted left within a byte
+pub one-in-byte : (j : ℕ) → j < 8 → 1 * 2 ^ j % 256 ≡ 2 ^ j
+one-in-byte j h = omega (arith, pow-mono {i = suc j} {j = 8} (omega arith), pow-succ' 2 j)
 
 -- a number whose bit j is set has room to clear it
 pub bit-within : (j v : ℕ) {t : Bool} → t ≡ bit j v → t ≡ true → 2 ^ j ≤ v
@@ -40,7 +33,6 @@ pub with-bit-is : (j v : ℕ) {t on s u : Bool} → t ≡ bit j v → t ≡ s �
 unfolding withBit
 with-bit-is j v f h g = rw (sym f ∙ h, g) refl
 
--- a cell is a number of a cell's bits
-pub cell-small : {b : List ℕ} {f : Shape} {r c v : ℕ} → Cell b f r c → v ≡ cellAt b r c → v < 2 ^ mostBits
-cell-small {b} {f} {r = r} {c = c} h e =
-    rw e (lt-of-lt-of-le (cell-below b r c (h .station .octets)) (pow-mono {i = bitsOf (shapeOf b)} {j = mostBits} (rw (← h .station .shape) (bits-most f (right-shape (h .station))))))
+-- a byte whose bit j is not set has room to set it
+pub bit-fits : (j v : ℕ) {t : Bool} → j < 8 → v < 256 → t ≡ bit j v → t ≡ false → v + 2 ^ j < 256
+bit-fits j v h l f e = subst (λ (x : ℕ). x < 256) (with-bit-is j v f e refl) (withBit-below 8 j true v h l)

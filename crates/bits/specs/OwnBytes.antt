@@ -1,29 +1,34 @@
 -- The bytes of a row that gains own: what the code stores is the cell with own, or the byte that stands there.
-use Prim.Native.Nat.{ℕ, zero, suc, _+_, _-_, _*_, _/_, _%_, _≤_, _<_, max}
+use Prim.Native.Nat.{ℕ, suc, _+_, _-_, _*_, _/_, _%_, _≤_, _<_, max}
 use native.Mathlib.Nat.{div-one}
 use native.Mathlib.Omega.{arith}
-use mathlib.Core.Path.{_≡_, refl, sym, _∙_, ap, ap₂}
+use mathlib.Core.Path.{_≡_, refl, sym, _∙_, ap, ap₂, subst}
 use mathlib.Core.Logic.{⊎-elim}
-use mathlib.Core.Bool.{Bool, true, false, cond, _&&_}
-use mathlib.Core.List.{List, [], _∷_}
+use mathlib.Core.Bool.{Bool, true, false, cond, _&&_, _||_}
+use mathlib.Core.List.{List}
 use lib.Bits.{bitAnd, bitOr, and-mask, and-zero-r, or-zero-r, or-step}
 use lib.Dec.{eqb}
-use lib.ListN.{length, getD, set}
-use borrow.Author.Tests.{eqb-true, eqb-false}
+use lib.ListN.{length, getD}
+use borrow.Author.Tests.{eqb-true, eqb-false, eq-eqb}
 use Rattle.matrix.specs.declared.Shape.{Shape}
+use Rattle.matrix.specs.Numbers.{truth}
 use Rattle.matrix.specs.Bytes.{bit}
 use Rattle.matrix.specs.Shape.{columns, cellPlace}
-use Rattle.matrix.specs.Reading.{cellAt, setCell}
-use Rattle.laws.specs.Tests.{way}
+use Rattle.matrix.specs.Reading.{cellAt}
+use Rattle.laws.specs.Tests.{way, same-test, and-left, and-right, and-both}
 use Rattle.laws.specs.BitOps.{bit-count}
-use Rattle.codec.specs.Bits.{withBit, withBit-below, bit-low}
-use Rattle.codec.specs.ShapeRight.{mostBytes}
+use Rattle.codec.specs.Bits.{withBit}
+use Rattle.codec.specs.ShapeRight.{TwoOrFour, mostBytes}
 use Rattle.cells.specs.Station.{Station, right-shape}
-use Rattle.cells.specs.Places.{rowBytes, place-small, place-below, cell-is, store-is}
+use Rattle.cells.specs.Places.{rowBytes, lowPlace, place-small, place-below, low-bit}
 
--- the byte x at place k of a row, with own where the byte y has it and place k is that of a cell's second byte
-abbrev pub ownJoined : ℕ → ℕ → ℕ → ℕ
-ownJoined x y k = cond (eqb (k % 2) 1 && bit 0 y) (withBit 0 true x) x
+-- 1 where byte k of a row is the last of its cell of w bytes, else 0
+abbrev pub lastByte : ℕ → ℕ → ℕ
+lastByte w k = truth (eqb (k % w) (w - 1))
+
+-- the byte x at place k of a row, with own where the byte y has it and place k is that of a cell's last byte
+abbrev pub ownJoined : ℕ → ℕ → ℕ → ℕ → ℕ
+ownJoined w x y k = cond (eqb (k % w) (w - 1) && bit 0 y) (withBit 0 true x) x
 
 -- the digit that bit 0 is
 odd-is : (x : ℕ) (t : Bool) → bit 0 x ≡ t → x % 2 ≡ cond t 1 0
@@ -39,29 +44,58 @@ or-own x = or-step x 1 ∙ ap (λ (m : ℕ). m * 2 + max (x % 2) 1) (or-zero-r (
     clear-bit : bit 0 x ≡ false → x / 2 * 2 + max (x % 2) 1 ≡ cond (bit 0 x) x (x + 1)
     clear-bit t = let e = odd-is x false t in let q : x / 2 * 2 + 1 ≡ x + 1 = omega arith in rw t (ap (λ (d : ℕ). x / 2 * 2 + max d 1) e ∙ q)
 
--- what the code stores
-pub joined-is : (x y k : ℕ) → bitOr x (bitAnd y (k % 2)) ≡ ownJoined x y k
-joined-is x y k = ⊎-elim second first (way (eqb (k % 2) 1))
+-- digits joined are tests joined
+digit-is : (v : ℕ) → v < 2 → v ≡ truth (eqb v 1)
+digit-is v h = ⊎-elim (λ (e : eqb v 1 ≡ true). rw e (eqb-true v 1 e)) (λ (e : eqb v 1 ≡ false). rw e (omega (arith, eqb-false v 1 e))) (way (eqb v 1))
+
+digits-joined : (x y z : Bool) → bitAnd (truth x) (bitOr (truth y) (truth z)) ≡ truth (x && (y || z))
+digits-joined true true true = refl
+digits-joined true true false = refl
+digits-joined true false true = refl
+digits-joined true false false = refl
+digits-joined false y z = refl
+
+-- the last byte of a cell of two bytes, or of four, as the code finds it
+pub last-is : (w k : ℕ) → TwoOrFour w → bitAnd (k % 2) (bitOr (k / 2 % 2) (truth (eqb w 2))) ≡ lastByte w k
+last-is w k h =
+    ap₂ (λ (x y : ℕ). bitAnd x (bitOr y (truth (eqb w 2)))) (digit-is (k % 2) (omega arith)) (digit-is (k / 2 % 2) (omega arith))
+    ∙ digits-joined odd upper (eqb w 2) ∙ ap truth (⊎-elim two four h)
   where
-    low : eqb (k % 2) 1 ≡ true → bitOr x (bitAnd y (k % 2)) ≡ bitOr x (y % 2)
-    low t = ap (λ (m : ℕ). bitOr x (bitAnd y m)) (eqb-true (k % 2) 1 t) ∙ ap (bitOr x) (and-mask y 1)
+    odd : Bool
+    odd = eqb (k % 2) 1
 
-    second : eqb (k % 2) 1 ≡ true → bitOr x (bitAnd y (k % 2)) ≡ ownJoined x y k
-    second t =
-        ⊎-elim (λ (u : bit 0 y ≡ true). rw (t, u) (low t ∙ ap (bitOr x) (odd-is y true u) ∙ or-own x))
-        (λ (u : bit 0 y ≡ false). rw (t, u) (low t ∙ ap (bitOr x) (odd-is y false u) ∙ or-zero-r x)) (way (bit 0 y))
+    upper : Bool
+    upper = eqb (k / 2 % 2) 1
 
-    first : eqb (k % 2) 1 ≡ false → bitOr x (bitAnd y (k % 2)) ≡ ownJoined x y k
-    first t =
-        let ne = eqb-false (k % 2) 1 t in
-        let q : k % 2 ≡ 0 = omega (arith, ne) in
-        rw t (ap (λ (m : ℕ). bitOr x (bitAnd y m)) q ∙ ap (bitOr x) (and-zero-r y) ∙ or-zero-r x)
+    both : (x y : Bool) → (x && (y || true)) ≡ x
+    both true true = refl
+    both true false = refl
+    both false y = refl
 
--- a byte is stored where it stands
-pub set-same : (l : List ℕ) (i : ℕ) → set l i (getD l i 0) ≡ l
-set-same [] i = refl
-set-same (x ∷ xs) zero = refl
-set-same (x ∷ xs) (suc i) = ap (λ (r : List ℕ). x ∷ r) (set-same xs i)
+    two : w ≡ 2 → (odd && (upper || eqb w 2)) ≡ eqb (k % w) (w - 1)
+    two e = subst (λ (u : ℕ). (odd && (upper || eqb u 2)) ≡ eqb (k % u) (u - 1)) (sym e) (both odd upper)
+
+    four : w ≡ 4 → (odd && (upper || eqb w 2)) ≡ eqb (k % w) (w - 1)
+    four e =
+        subst (λ (u : ℕ). (odd && (upper || eqb u 2)) ≡ eqb (k % u) (u - 1)) (sym e)
+        (same-test _ _ (λ t. eq-eqb (k % 4) 3 (omega (arith, eqb-true (k % 2) 1 (and-left odd _ t), eqb-true (k / 2 % 2) 1 (either upper (and-right odd _ t)))))
+        (λ t. let q : k % 4 ≡ 3 = eqb-true (k % 4) 3 t in and-both (eq-eqb (k % 2) 1 (omega arith)) (ap (λ (u : Bool). u || false) (eq-eqb (k / 2 % 2) 1 (omega arith)))))
+      where
+        either : (y : Bool) → (y || false) ≡ true → y ≡ true
+        either true t = refl
+        either false t = t
+
+-- what the code stores
+pub joined-is : (w x y k t : ℕ) → t ≡ lastByte w k → bitOr x (bitAnd y t) ≡ ownJoined w x y k
+joined-is w x y k t e = rw e (⊎-elim last other (way (eqb (k % w) (w - 1))))
+  where
+    last : eqb (k % w) (w - 1) ≡ true → bitOr x (bitAnd y (lastByte w k)) ≡ ownJoined w x y k
+    last d =
+        ⊎-elim (λ (u : bit 0 y ≡ true). rw (d, u) (ap (bitOr x) (and-mask y 1 ∙ odd-is y true u) ∙ or-own x))
+        (λ (u : bit 0 y ≡ false). rw (d, u) (ap (bitOr x) (and-mask y 1 ∙ odd-is y false u) ∙ or-zero-r x)) (way (bit 0 y))
+
+    other : eqb (k % w) (w - 1) ≡ false → bitOr x (bitAnd y (lastByte w k)) ≡ ownJoined w x y k
+    other d = rw d (ap (bitOr x) (and-zero-r y) ∙ or-zero-r x)
 
 -- a byte of a row stands within the record, which is not long
 pub byte-below : {b : List ℕ} {f : Shape} {r k at : ℕ} → Station b f → r < f .n → k < rowBytes f → at ≡ cellPlace f r 0 → (at + k < length b) × (at + k ≤ mostBytes)
@@ -75,37 +109,31 @@ byte-below {b} {f} {r} {k} {at} h row more e =
     row-end : (a w x m : ℕ) {y : ℕ} → at ≡ a + w * (x + 0) → y ≡ suc m → a + w * (x + m) + w ≡ at + w * y
     row-end a w x m d q = rw q (omega arith)
 
--- the second byte of a cell, among the bytes of its row
-pub second-byte : (f : Shape) (r k : ℕ) → f .width ≡ 2 → k % 2 ≡ 1 → cellPlace f r 0 + k ≡ cellPlace f r (k / 2) + 1
-second-byte f r k e odd = rw e (omega arith)
+-- where byte k of a row stands: before its cell's last byte, or at it; and its cell's column
+module _ (w k : ℕ) (h : TwoOrFour w) where
+  -- what holds for two bytes and for four
+  each : (P : ℕ → Type 0) → P 2 → P 4 → P w
+  each P two four = ⊎-elim (λ (e : w ≡ 2). subst P (sym e) two) (λ (e : w ≡ 4). subst P (sym e) four) h
+
+  pub same-cell : (k % w ≡ w - 1 → ⊥) → k / w ≡ (k + 1) / w
+  same-cell = each (λ u. (k % u ≡ u - 1 → ⊥) → k / u ≡ (k + 1) / u) (λ n. omega arith) (λ n. omega arith)
+
+  pub next-cell : k % w ≡ w - 1 → k / w + 1 ≡ (k + 1) / w
+  next-cell = each (λ u. k % u ≡ u - 1 → k / u + 1 ≡ (k + 1) / u) (λ e. omega arith) (λ e. omega arith)
+
+  pub last-place : (a x : ℕ) → k % w ≡ w - 1 → a + w * (x + 0) + k ≡ a + w * (x + k / w) + (w - 1)
+  last-place a x = each (λ u. k % u ≡ u - 1 → a + u * (x + 0) + k ≡ a + u * (x + k / u) + (u - 1)) (λ e. omega arith) (λ e. omega arith)
+
+  pub column-below : (m : ℕ) → k < w * m → k / w < m
+  column-below m = each (λ u. k < u * m → k / u < m) (λ l. omega arith) (λ l. omega arith)
+
+  pub columns-passed : (m : ℕ) → k ≡ w * m → k / w ≡ m
+  columns-passed m = each (λ u. k ≡ u * m → k / u ≡ m) (λ l. omega arith) (λ l. omega arith)
 
 module _ {b : List ℕ} {f : Shape} (h : Station b f) (r c : ℕ) where
-  abbrev high : ℕ
-  high = getD b (cellPlace f r c) 0
-
   abbrev low : ℕ
-  low = getD b (cellPlace f r c + 1) 0
+  low = getD b (lowPlace f r c) 0
 
-  -- own stands in the second byte
+  -- own stands in the last byte
   pub own-read : bit 0 (cellAt b r c) ≡ bit 0 low
-  own-read = ap (bit 0) (cell-is b f h r c) ∙ bit-low 0 7 high low
-
-  -- and a cell with own is stored there
-  pub own-stored : setCell b r c (withBit 0 true (cellAt b r c)) ≡ set b (cellPlace f r c + 1) (withBit 0 true low)
-  own-stored =
-      let u = withBit 0 true low in
-      let small : u < 256 = withBit-below 8 0 true low (omega arith) (h .octets .octet (cellPlace f r c + 1)) in
-      let first : high < 256 = h .octets .octet (cellPlace f r c) in
-      let e : withBit 0 true (cellAt b r c) ≡ high * 256 + u = ap (withBit 0 true) (cell-is b f h r c) ∙ with-high in
-      let q : (high * 256 + u) / 256 % 256 ≡ high = omega arith in
-      let m : (high * 256 + u) % 256 ≡ u = omega arith in
-      ap (setCell b r c) e ∙ store-is b f h r c (high * 256 + u)
-      ∙ ap₂ (λ (v w : ℕ). set (set b (cellPlace f r c) v) (cellPlace f r c + 1) w) q m
-      ∙ ap (λ (l : List ℕ). set l (cellPlace f r c + 1) u) (set-same b (cellPlace f r c))
-    where
-      with-high : withBit 0 true (high * 256 + low) ≡ high * 256 + withBit 0 true low
-      with-high = unfold withBit in rw (bit-low 0 7 high low) (by (bit 0 low))
-        where
-          by : (t : Bool) → cond t (high * 256 + low) (high * 256 + low + 1) ≡ high * 256 + cond t low (low + 1)
-          by true = refl
-          by false = omega arith
+  own-read = low-bit b f h 0 r c (omega arith)

@@ -1,9 +1,9 @@
 -- Laws of changes: they follow one another, and one stored cell is a bit put or a cell cleared.
-use Prim.Native.Nat.{ℕ, _<_}
-use mathlib.Core.Path.{_≡_, refl, sym, _∙_, ap, ap₂, subst}
+use Prim.Native.Nat.{ℕ, _%_, _<_}
+use mathlib.Core.Path.{_≡_, refl, sym, _∙_, ap, subst}
 use mathlib.Core.Bool.{Bool, true}
 use mathlib.Core.List.{List}
-use lib.ListN.{length}
+use lib.ListN.{length, getD, set}
 use Rattle.matrix.specs.declared.Name.{Name}
 use Rattle.matrix.specs.declared.Right.{Right}
 use Rattle.matrix.specs.declared.Shape.{Shape}
@@ -17,6 +17,7 @@ use Rattle.codec.specs.Cells.{shape-set, shaped-set, octets-set}
 use Rattle.codec.specs.Columns.{nameOf-columnOf, named-below}
 use Rattle.codec.specs.Update.{state-put, state-clear}
 use Rattle.cells.specs.Station.{Station, Cell, right-shape}
+use Rattle.cells.specs.Places.{bitPlace, bit-stored}
 use Rattle.states.specs.Needs.{RightIn, BitIn}
 use Rattle.states.specs.Reads.{code-in}
 use Rattle.bits.specs.Became.{Became}
@@ -70,11 +71,12 @@ became-set {b} {r = r} {c = c} v h e g =
     }
 
 -- One bit of it is set or cleared: u is the number v of the cell, with the bit of the right's code j set or cleared.
-pub became-put : {b b′ : List ℕ} {f : Shape} {w c j v u : ℕ} (y : Right) (on : Bool) → Cell b f w c → RightIn f y → j ≡ codeOf y → v ≡ cellAt b w c
-    → u ≡ withBit j on v → b′ ≡ setCell b w c u → Became b b′ (put y w (nameOf (f .n) c) on (stateOf b))
-became-put {b} {f} {w = w} {c = c} y on h l e i g k =
+pub became-put : {b b′ : List ℕ} {f : Shape} {w c j at v : ℕ} (y : Right) (on : Bool) → Cell b f w c → RightIn f y → j ≡ codeOf y → at ≡ bitPlace f w c j
+    → v ≡ withBit (j % 8) on (getD b at 0) → b′ ≡ set b at v → Became b b′ (put y w (nameOf (f .n) c) on (stateOf b))
+became-put {b} {b′} {f} {w = w} {c = c} {j = j} {at = at} y on h l e i g k =
     became-set (withBit (codeOf y) on (cellAt b w c)) h
-    (k ∙ ap (setCell b w c) (g ∙ ap₂ (λ (j m : ℕ). withBit j on m) e i))
+    (k ∙ ap (set b at) g ∙ ap (λ (x : ℕ). set b x (withBit (j % 8) on (getD b x 0))) i
+    ∙ sym (bit-stored b f (h .station) w c j on (rw e (code-in f (right-shape (h .station)) y l))) ∙ ap (λ (x : ℕ). setCell b w c (withBit x on (cellAt b w c))) e)
     (state-put b w c y on (h .station .shaped) (h .station .octets) (cell-row h) (cell-column h) room
     ∙ ap (λ (m : Shape). put y w (nameOf (m .n) c) on (stateOf b)) (sym (h .station .shape)))
   where

@@ -16,14 +16,15 @@ ghost use Rattle.cells.specs.Station.{Station, Cell};
 ghost use Rattle.states.specs.Needs.{RightIn, BitIn};
 ghost use Rattle.bits.specs.Became.{Became};
 ghost use Rattle.bits.specs.Passed.{inRow};
-ghost use Rattle.bits.specs.OwnBytes.{ownJoined};
+ghost use Rattle.codec.specs.ShapeRight.{TwoOrFour};
+ghost use Rattle.bits.specs.OwnBytes.{lastByte, ownJoined};
 
-// v with bit j set or cleared.
-fn with_bit(v: usize, j: usize, on: bool) -> usize
-    requires { ⌜ (v < 2 ^ mostBits) × (j < mostBits) ⌝ }
+// The byte v with bit j set or cleared.
+fn with_bit(v: u8, j: usize, on: bool) -> u8
+    requires { ⌜ j < 8 ⌝ }
     ensures { λ r. ⌜ r ≡ withBit j on v ⌝ }
 {
-    if cells::bit_of(v, j) {
+    if cells::bit_of(v as usize, j) {
         if on { v } else { v - (1 << j) }
     } else {
         if on { v + (1 << j) } else { v }
@@ -36,8 +37,8 @@ fn put_in_column(b: &mut [u8], f: Shape, y: Right, w: usize, c: usize, on: bool)
     ensures { λ _. ⌜ Became (now (b .entry)) (now (b .exit)) (put y w (nameOf (f .n) c) on (stateOf (now (b .entry)))) ⌝ }
 {
     let j = states::code_of(y);
-    let v = with_bit(cells::cell(b, f, w, c), j, on);
-    cells::store(b, f, w, c, v);
+    let at = cells::bit_place(f, w, c, j);
+    b[at] = with_bit(b[at], j % 8, on);
 }
 
 // Right y over x is given to row w, or taken from it.
@@ -71,11 +72,21 @@ pub fn clear_row(b: &mut [u8], f: Shape, r: usize)
     }
 }
 
-// The byte x at place k of a row, joined with own where the byte y of another row has it: own is bit 0 of a cell's second byte.
-fn own_joined(x: u8, y: u8, k: usize) -> u8
-    ensures { λ r. ⌜ r ≡ ownJoined x y k ⌝ }
+// 1 where byte k of a row is the last of its cell, which has two bytes or four, and else 0. It is made of digits, so that the compiler may take
+// many bytes at once.
+fn last_byte(width: usize, k: usize) -> u8
+    requires { ⌜ TwoOrFour width ⌝ }
+    ensures { λ r. ⌜ r ≡ lastByte width k ⌝ }
 {
-    x | (y & ((k % 2) as u8))
+    (k % 2) as u8 & ((k / 2 % 2) as u8 | (width == 2) as u8)
+}
+
+// The byte x at place k of a row, joined with own where the byte y of another row has it: own is bit 0 of a cell's last byte.
+fn own_joined(x: u8, y: u8, width: usize, k: usize) -> u8
+    requires { ⌜ TwoOrFour width ⌝ }
+    ensures { λ r. ⌜ r ≡ ownJoined width x y k ⌝ }
+{
+    x | (y & last_byte(width, k))
 }
 
 // Row i gains own over all that row s owns. The rows are taken byte by byte as they lie, so that the compiler may take many at once.
@@ -87,6 +98,6 @@ pub fn inherit_own(b: &mut [u8], f: Shape, i: usize, s: usize)
     let from = cells::place(f, s, 0);
     let bytes = cells::row_bytes(f);
     for k in 0..bytes {
-        b[to + k] = own_joined(b[to + k], b[from + k], k);
+        b[to + k] = own_joined(b[to + k], b[from + k], f.width, k);
     }
 }

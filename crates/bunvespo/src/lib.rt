@@ -7,6 +7,7 @@ use question::Safety;
 ghost use mathlib.Core.Path.{_≡_};
 ghost use Rattle.matrix.specs.Shape.{limits};
 ghost use Rattle.matrix.specs.Calls.{validAnswer, heldAnswer, commandAnswer, commandBytes, runAnswer, runBytes};
+ghost use Rattle.matrix.specs.Converting.{convertResult, convertOutput};
 ghost use Rattle.station.specs.Given.{fieldsOf};
 ghost use Rattle.matrix.specs.Numbers.{truth, heldNumbers, commandNumbers, runNumbers};
 ghost use Rattle.history.specs.Calls.{Emptied, Put, Counted};
@@ -108,6 +109,24 @@ pub extern "C" fn bunvespo_safety(
             value: 0,
         },
     }
+}
+
+// A record in version 1 at the start of the output: the value is the bytes of the new record.
+#[no_mangle]
+pub extern "C" fn bunvespo_to_version_1(b: &[u8], out: &mut [u8]) -> Numbers
+    ensures numbers { λ r. ⌜ r ≡ convertResult limits 1 (now (b .entry)) (now (out .entry)) ⌝ }
+    ensures bytes { λ r. ⌜ now (out .exit) ≡ convertOutput limits 1 (now (b .entry)) (now (out .entry)) ⌝ }
+{
+    station::to_version_1(b, out)
+}
+
+// The same in version 2.
+#[no_mangle]
+pub extern "C" fn bunvespo_to_version_2(b: &[u8], out: &mut [u8]) -> Numbers
+    ensures numbers { λ r. ⌜ r ≡ convertResult limits 2 (now (b .entry)) (now (out .entry)) ⌝ }
+    ensures bytes { λ r. ⌜ now (out .exit) ≡ convertOutput limits 2 (now (b .entry)) (now (out .entry)) ⌝ }
+{
+    station::to_version_2(b, out)
 }
 
 // An empty window of late refusals.

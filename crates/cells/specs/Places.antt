@@ -1,18 +1,21 @@
--- Where the cells of a record stand, in numbers: what the code computes is what the definitions say. That a cell has two bytes is known here
--- alone, where they are read and stored.
+-- Where the cells of a record stand, in numbers: what the code computes is what the definitions say. That a cell has two bytes or four is known
+-- here, where they are read and stored.
 use Prim.Native.Nat.{ℕ, suc, _+_, _-_, _*_, _/_, _%_, _^_, _≤_, _<_}
 use native.Mathlib.Nat.{zero-add, le-trans, mul-le-mul, mul-le-mul-right}
 use native.Mathlib.Omega.{arith}
 use mathlib.Core.Path.{_≡_, refl, sym, _∙_, ap, ap₂, subst}
+use mathlib.Core.Logic.{⊎-elim}
+use mathlib.Core.Bool.{Bool}
 use mathlib.Core.List.{List}
 use lib.ListN.{length, getD, set}
 use Rattle.matrix.specs.declared.Shape.{Shape}
 use Rattle.matrix.specs.Bytes.{numberAt, setNumber, bit}
-use Rattle.matrix.specs.Shape.{mostSubjects, mostPlain, columns, cellPlace, sizeOf}
+use Rattle.matrix.specs.Shape.{mostSubjects, mostPlain, bitsOf, columns, cellPlace, sizeOf}
 use Rattle.matrix.specs.Reading.{cellAt, setCell}
-use Rattle.codec.specs.Numbers.{two-read, two-stored}
-use Rattle.codec.specs.Bits.{bit-low}
-use Rattle.codec.specs.ShapeRight.{ShapeRight, mostWidth, mostBytes, width-some, width-most, size-most}
+use Rattle.codec.specs.Numbers.{four-read, four-stored}
+use Rattle.codec.specs.Bits.{withBit, bit-low}
+use Rattle.codec.specs.BitBytes.{byteOf, byte-bit, byte-stored}
+use Rattle.codec.specs.ShapeRight.{ShapeRight, mostWidth, mostBytes, two-or-four, width-some, size-most}
 use Rattle.codec.specs.Cells.{place-inside}
 use Rattle.cells.specs.Station.{Station, right-shape}
 
@@ -22,6 +25,10 @@ rowBytes f = f .width * columns f
 
 abbrev pub lowPlace : Shape → ℕ → ℕ → ℕ
 lowPlace f r c = cellPlace f r c + (f .width - 1)
+
+-- the place of the byte that has bit j of a cell
+abbrev pub bitPlace : Shape → ℕ → ℕ → ℕ → ℕ
+bitPlace f r c j = cellPlace f r c + byteOf (f .width) j
 
 -- bits 0 to 7 of a number are those of its lowest byte
 low-byte : (j high low : ℕ) → j < 8 → bit j (high * 256 + low) ≡ bit j low
@@ -36,10 +43,14 @@ low-apart f r i c = omega arith
 pub low-reached : {at from stride : ℕ} (f : Shape) (r c : ℕ) → from ≡ lowPlace f 0 c → stride ≡ rowBytes f → at ≡ from + r * stride → at ≡ lowPlace f r c
 low-reached f r c e g h = h ∙ ap₂ (λ (x y : ℕ). x + r * y) e g ∙ low-apart f 0 r c ∙ ap (λ (i : ℕ). lowPlace f i c) (zero-add r)
 
+-- a cell that has not two bytes has four
+pub not-two : {b : List ℕ} {f : Shape} → Station b f → (f .width ≡ 2 → ⊥) → f .width ≡ 4
+not-two {f = f} h ne = ⊎-elim (λ (e : f .width ≡ 2). absurd (ne e)) (λ (e : f .width ≡ 4). e) (two-or-four f (right-shape h))
+
 -- the numbers that the code computes on its way to a cell of a right shape, and those of the next row, are small
 module _ (f : Shape) (g : ShapeRight f) where
   pub row-small : rowBytes f ≤ mostBytes
-  row-small = less (mul-le-mul (width-most f g) columns-most)
+  row-small = less (mul-le-mul (g .width-most) columns-most)
     where
       columns-most : f .n + f .p ≤ mostSubjects + mostPlain
       columns-most = omega arith
@@ -79,12 +90,32 @@ module _ (b : List ℕ) (f : Shape) (h : Station b f) where
       last : (at w : ℕ) → bit j (numberAt b at (suc w)) ≡ bit j (getD b (at + w) 0)
       last at w = unfold numberAt in low-byte j (numberAt b at w) (getD b (at + w) 0) l
 
-  -- the cell's two bytes, read and stored
-  pub cell-is : (r c : ℕ) → cellAt b r c ≡ getD b (cellPlace f r c) 0 * 256 + getD b (cellPlace f r c + 1) 0
-  cell-is r c = cell-number r c ∙ ap (numberAt b (cellPlace f r c)) (right-shape h .width) ∙ two-read b (cellPlace f r c)
-
-  pub store-is : (r c v : ℕ) → setCell b r c v ≡ set (set b (cellPlace f r c) (v / 256 % 256)) (cellPlace f r c + 1) (v % 256)
+  store-number : (r c v : ℕ) → setCell b r c v ≡ setNumber b (cellPlace f r c) (f .width) v
   unfolding setCell
-  store-is r c v =
-      ap (λ (e : Shape). setNumber b (cellPlace e r c) (e .width) v) (sym (h .shape))
-      ∙ ap (λ (w : ℕ). setNumber b (cellPlace f r c) w v) (right-shape h .width) ∙ two-stored b (cellPlace f r c) v
+  store-number r c v = ap (λ (e : Shape). setNumber b (cellPlace e r c) (e .width) v) (sym (h .shape))
+
+  -- a bit of a cell is read in its byte, which stands within the record, and stored there
+  pub bit-below : (r c j : ℕ) → r < f .n → c < columns f → j < bitsOf f → bitPlace f r c j < length b
+  bit-below r c j hr hc l = omega (arith, place-below r c hr hc, right-shape h .width-least)
+
+  pub bit-there : (r c j : ℕ) → j < bitsOf f → bit j (cellAt b r c) ≡ bit (j % 8) (getD b (bitPlace f r c j) 0)
+  bit-there r c j l = ap (bit j) (cell-number r c) ∙ byte-bit b (cellPlace f r c) (f .width) j (h .octets) l
+
+  pub bit-stored : (r c j : ℕ) (on : Bool) → j < bitsOf f
+      → setCell b r c (withBit j on (cellAt b r c)) ≡ set b (bitPlace f r c j) (withBit (j % 8) on (getD b (bitPlace f r c j) 0))
+  bit-stored r c j on l =
+      store-number r c (withBit j on (cellAt b r c)) ∙ ap (λ (v : ℕ). setNumber b (cellPlace f r c) (f .width) (withBit j on v)) (cell-number r c)
+      ∙ byte-stored b (cellPlace f r c) (f .width) j on (h .octets) l
+
+  -- a cell of two bytes, and one of four, which are two numbers of two, read and stored
+  pub cell-two : (r c : ℕ) → f .width ≡ 2 → numberAt b (cellPlace f r c) 2 ≡ cellAt b r c
+  cell-two r c e = sym (cell-number r c ∙ ap (numberAt b (cellPlace f r c)) e)
+
+  pub cell-four : (r c : ℕ) → f .width ≡ 4 → numberAt b (cellPlace f r c) 2 * 65536 + numberAt b (cellPlace f r c + 2) 2 ≡ cellAt b r c
+  cell-four r c e = sym (cell-number r c ∙ ap (numberAt b (cellPlace f r c)) e ∙ four-read b (cellPlace f r c))
+
+  pub store-two : (r c v : ℕ) → f .width ≡ 2 → setNumber b (cellPlace f r c) 2 v ≡ setCell b r c v
+  store-two r c v e = sym (store-number r c v ∙ ap (λ (w : ℕ). setNumber b (cellPlace f r c) w v) e)
+
+  pub store-four : (r c v : ℕ) → f .width ≡ 4 → setNumber (setNumber b (cellPlace f r c) 2 (v / 65536)) (cellPlace f r c + 2) 2 v ≡ setCell b r c v
+  store-four r c v e = sym (store-number r c v ∙ ap (λ (w : ℕ). setNumber b (cellPlace f r c) w v) e ∙ four-stored b (cellPlace f r c) v)

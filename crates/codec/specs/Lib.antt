@@ -1,6 +1,7 @@
 pub mod Bits
 pub mod Codes
 pub mod Numbers
+pub mod BitBytes
 pub mod Cells
 pub mod Columns
 pub mod Update
@@ -8,3 +9,5 @@ pub mod Blocks
 pub mod ShapeRight
 pub mod Written
 pub mod RoundTrip
+pub mod InVersion
+pub mod OtherShape

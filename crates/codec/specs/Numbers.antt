@@ -65,6 +65,19 @@ numberAt-set-same b at (suc w) v h l =
     low : getD (set front (at + w) (v % 256)) (at + w) 0 ≡ v % 256
     low = getD-set-same front (at + w) (v % 256) 0 (let e : length front ≡ length b = length-setNumber b at w (v / 256) in omega arith)
 
+-- a byte, and a number of bytes, stored where it stands
+pub set-same : (l : List ℕ) (i : ℕ) → set l i (getD l i 0) ≡ l
+set-same [] i = refl
+set-same (x ∷ xs) zero = refl
+set-same (x ∷ xs) (suc i) = ap (λ (r : List ℕ). x ∷ r) (set-same xs i)
+
+pub number-stored : (b : List ℕ) (at w : ℕ) → Octets b → setNumber b at w (numberAt b at w) ≡ b
+unfolding setNumber numberAt
+number-stored b at zero o = refl
+number-stored b at (suc w) o =
+    ap₂ (λ (x y : ℕ). set (setNumber b at w x) (at + w) y) (digits-div (numberAt b at w) (o .octet (at + w))) (digits-mod (numberAt b at w) (o .octet (at + w)))
+    ∙ ap (λ (l : List ℕ). set l (at + w) (getD b (at + w) 0)) (number-stored b at w o) ∙ set-same b (at + w)
+
 -- ---- a number of two bytes
 
 pub two-read : (b : List ℕ) (at : ℕ) → numberAt b at 2 ≡ getD b at 0 * 256 + getD b (at + 1) 0
@@ -74,6 +87,23 @@ two-read b at = rw add-zero (simp zero-add)
 pub two-stored : (b : List ℕ) (at v : ℕ) → setNumber b at 2 v ≡ set (set b at (v / 256 % 256)) (at + 1) (v % 256)
 unfolding setNumber
 two-stored b at v = rw add-zero refl
+
+-- ---- a number of four bytes is two numbers of two
+
+pub four-read : (b : List ℕ) (at : ℕ) → numberAt b at 4 ≡ numberAt b at 2 * 65536 + numberAt b (at + 2) 2
+unfolding numberAt
+four-read b at =
+    let e : at + 2 + 0 ≡ at + 2 = omega arith in
+    let f : at + 2 + 1 ≡ at + 3 = omega arith in
+    rw (e, f) (omega arith)
+
+pub four-stored : (b : List ℕ) (at v : ℕ) → setNumber b at 4 v ≡ setNumber (setNumber b at 2 (v / 65536)) (at + 2) 2 v
+unfolding setNumber
+four-stored b at v =
+    let e : at + 2 + 0 ≡ at + 2 = omega arith in
+    let f : at + 2 + 1 ≡ at + 3 = omega arith in
+    let g : v / 256 / 256 ≡ v / 65536 = div-div-eq-div-mul v 256 256 in
+    rw (e, f, g) refl
 
 -- ---- bytes stay bytes
 

@@ -21,7 +21,7 @@ use Rattle.matrix.specs.Shape.{shapeOf, headerBytes, columns, cellPlace, bitsOf
 use Rattle.matrix.specs.Reading.{cellAt, content, contentOf, cellOf, rowOf, header, bitAt, stateOf, bytesOf}
 use Rattle.matrix.specs.Shaped.{Shaped, Octets, Within}
 use Rattle.laws.specs.Tests.{same-test, and-left, and-right}
-use Rattle.codec.specs.ShapeRight.{ShapeRight}
+use Rattle.codec.specs.ShapeRight.{ShapeRight, right-in}
 use Rattle.codec.specs.Bits.{bit-fromBits, fromBits-bit, fromBits-same}
 use Rattle.codec.specs.Codes.{codeOf-rightOf, rightOf-codeOf}
 use Rattle.codec.specs.Numbers.{bytes-numberAt}
@@ -33,7 +33,7 @@ use Rattle.codec.specs.Written.{shape-write, cell-write}
 
 pub shape-right : (b : List ℕ) → Shaped b → ShapeRight (shapeOf b)
 unfolding shapeOf
-shape-right b s = record { version = s .version; low = s .low; high = s .high; plain = s .plain; width = refl; first = refl }
+shape-right b s = right-in (getD b 0 0) (getD b 5 0) (getD b 6 0) (s .version) (s .low) (s .high) (s .plain)
 
 -- only bits of the record's rows, columns and rights are read
 pub within-read : (b : List ℕ) → Within (shapeOf b) (stateOf b)

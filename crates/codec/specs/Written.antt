@@ -3,11 +3,11 @@ use Prim.Native.Nat.{ℕ, suc, _+_, _-_, _*_, _^_, _≤_, _<_}
 use native.Mathlib.Nat.{zero-add}
 use native.Mathlib.Omega.{arith}
 use mathlib.Core.Path.{_≡_, refl, sym, _∙_, ap, ap₂, subst}
+use mathlib.Core.Logic.{⊎-elim}
 use mathlib.Core.List.{List, [], _∷_, append-nil, append-assoc}
 use lib.ListN.{length, getD, length-append}
 use lib.Seq.{getD-append-add}
 use lib.Arith.{digits-lt}
-use borrow.Author.Tests.{eqb-true}
 use Rattle.matrix.specs.declared.Shape.{Shape}
 use Rattle.matrix.specs.Rights.{rightOf}
 use Rattle.matrix.specs.Names.{nameOf}
@@ -16,7 +16,7 @@ use Rattle.matrix.specs.Bytes.{numberAt, bytesOfNumber, joined}
 use Rattle.matrix.specs.Shape.{shapeOf, columns, countOf, bitsOf, sizeOf, cellPlace}
 use Rattle.matrix.specs.Reading.{cellAt, content, cellOf, rowOf, header, bytesOf}
 use Rattle.matrix.specs.Shaped.{Shaped, Octets}
-use Rattle.codec.specs.ShapeRight.{ShapeRight, mostBytes, size-most}
+use Rattle.codec.specs.ShapeRight.{ShapeRight, mostBytes, versions, size-most}
 use Rattle.codec.specs.Bits.{fromBits-below}
 use Rattle.codec.specs.Numbers.{numberAt-agree, numberAt-bytes, length-bytesOfNumber, octets-bytesOfNumber, pow-bytes}
 use Rattle.codec.specs.Blocks.{length-joined, getD-joined, octets-nil, octets-cons, octets-append, octets-joined}
@@ -131,4 +131,4 @@ module _ (f : Shape) (S : State) where
       (λ r h. octets-joined (columns f) (λ c. bytesOfNumber (f .width) (cellOf f S r c)) (λ c l. octets-bytesOfNumber (f .width) (cellOf f S r c))))
     where
       version : f .version < 256
-      version = let e : f .version ≡ 1 = eqb-true (f .version) 1 (g .version) in omega arith
+      version = ⊎-elim (λ (e : f .version ≡ 1). omega arith) (λ (e : f .version ≡ 2). omega arith) (versions (f .version) (g .version))

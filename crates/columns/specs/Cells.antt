@@ -1,174 +1,282 @@
--- The cells of a record as lanes. A cell is one lane, and the last lane of a cell has own and control, in its upper byte. Nothing else than this
--- file and the functions `lanes_of`, `last_lane` and `bits_of` knows how many lanes a cell has.
-use Prim.Native.Nat.{ℕ, suc, _+_, _-_, _*_, _^_, _≤_, _<_}
+-- The cells of a record as lanes. A cell is one lane or two, in the order of its bytes, and its last lane has own and control, in the upper
+-- byte. The number q of a cell's lanes is an argument; what it may be is known here alone.
+use Prim.Native.Nat.{ℕ, zero, suc, _+_, _-_, _*_, _/_, _%_, _^_, _≤_, _<_}
 use native.Mathlib.Nat.{mul-left-comm, le-refl}
 use native.Mathlib.Omega.{arith}
-use mathlib.Core.Path.{_≡_, refl, sym, _∙_, ap}
-use mathlib.Core.Bool.{Bool, true, _&&_}
+use mathlib.Core.Path.{_≡_, refl, sym, _∙_, ap, ap₂, subst}
+use mathlib.Core.Logic.{_⊎_, inl, inr, ⊎-elim}
+use mathlib.Core.Bool.{Bool, true, false, _&&_}
 use mathlib.Core.List.{List}
+use lib.Bits.{bitOr}
 use lib.Dec.{eqb}
 use lib.ListN.{getD}
-use borrow.Author.Tests.{eqb-true, eq-eqb}
+use borrow.Author.Tests.{eqb-true, eqb-false, eq-eqb}
 use Rattle.matrix.specs.Bounded.{all}
 use Rattle.matrix.specs.Bytes.{numberAt, bit}
 use Rattle.matrix.specs.declared.Shape.{Shape}
-use Rattle.matrix.specs.Shape.{shapeOf, mostSubjects, mostPlain, columns, cellPlace, sizeOf}
+use Rattle.matrix.specs.Shape.{shapeOf, mostSubjects, mostPlain, widthOf, columns, cellPlace, sizeOf}
 use Rattle.matrix.specs.Reading.{cellAt}
-use Rattle.laws.specs.Tests.{same-test}
-use Rattle.laws.specs.Bounded.{all-same}
+use Rattle.laws.specs.Tests.{way, same-test, and-left, and-right, and-both}
+use Rattle.laws.specs.Bounded.{all-same, all-each, each-all}
 use Rattle.codec.specs.Bits.{bit-low}
+use Rattle.codec.specs.Numbers.{two-read, four-read}
+use Rattle.codec.specs.ShapeRight.{TwoOrFour, widths}
 use Rattle.lanes.specs.declared.Matrix.{Matrix}
-use Rattle.lanes.specs.Lanes.{merged, rowPlace, laneAt, upperAt, bitIn}
+use Rattle.lanes.specs.Lanes.{merged, rowPlace, laneIn, laneAt, upperAt, bitIn}
 use Rattle.lanes.specs.LaneLaws.{upper-byte}
-use Rattle.lanes.specs.Zeros.{merged-zero}
+use Rattle.lanes.specs.Zeros.{or-zero, merged-zero}
 
--- the lanes of a cell
-abbrev pub cellLanes : ℕ
-cellLanes = 1
+-- a cell has one lane or two
+abbrev pub OneOrTwo : ℕ → Type 0
+OneOrTwo q = (q ≡ 1) ⊎ (q ≡ 2)
 
--- the lanes of the longest row, and of the most subjects' columns
-abbrev pub mostRow : ℕ
-mostRow = cellLanes * (mostSubjects + mostPlain)
+abbrev pub mostLanes : ℕ
+mostLanes = 2
+
+-- what holds for one lane and for two
+pub either-way : {q : ℕ} → OneOrTwo q → (P : ℕ → Type 0) → P 1 → P 2 → P q
+either-way {q} h P one two = ⊎-elim (λ (e : q ≡ 1). subst P (sym e) one) (λ (e : q ≡ 2). subst P (sym e) two) h
+
+-- a cell that has not one lane has two
+pub not-one : {q : ℕ} → OneOrTwo q → (q ≡ 1 → ⊥) → q ≡ 2
+not-one {q} h ne = ⊎-elim (λ (e : q ≡ 1). absurd (ne e)) (λ (e : q ≡ 2). e) h
+
+-- the lanes of a cell of this shape
+abbrev pub cellLanes : Shape → ℕ
+cellLanes f = f .width / 2
+
+-- the lanes of the most columns, and of the most subjects' columns
+abbrev pub mostColumns : ℕ
+mostColumns = mostSubjects + mostPlain
 
 abbrev pub mostCounted : ℕ
-mostCounted = cellLanes * mostSubjects
+mostCounted = mostLanes * mostSubjects
 
--- the lanes of k cells; the last lane of cell c; the bits of cell c, where f are the lanes of its row
-unfoldable pub lanesOf : ℕ → ℕ
-lanesOf k = cellLanes * k
+-- the lanes of k cells; the last lane of cell c; the bits of cell c, in its first lane and its last, where f are the lanes
+unfoldable pub lanesOf : ℕ → ℕ → ℕ
+lanesOf q k = q * k
 
-unfoldable pub lastLane : ℕ → ℕ
-lastLane c = lanesOf c + (cellLanes - 1)
+unfoldable pub lastLane : ℕ → ℕ → ℕ
+lastLane q c = q * c + (q - 1)
 
-unfoldable pub bitsIn : (ℕ → ℕ) → ℕ → ℕ
-bitsIn f c = f (lastLane c)
+unfoldable pub bitsIn : ℕ → (ℕ → ℕ) → ℕ → ℕ
+bitsIn q f c = bitOr (f (lanesOf q c)) (f (lastLane q c))
 
 -- the lanes of a record of this shape
 abbrev pub matrixOf : Shape → Matrix
-matrixOf f = record { first = f .first; rows = f .n; lanes = lanesOf (columns f) }
+matrixOf f = record { first = f .first; rows = f .n; lanes = lanesOf (cellLanes f) (columns f) }
 
 -- the own and control bits, and whether a cell is zero, by row and column
-abbrev pub ownBit : List ℕ → Matrix → ℕ → ℕ → Bool
-ownBit b m w c = bitIn b m 0 (lastLane c) w
+abbrev pub ownBit : ℕ → List ℕ → Matrix → ℕ → ℕ → Bool
+ownBit q b m w c = bitIn b m 0 (lastLane q c) w
 
-abbrev pub controlBit : List ℕ → Matrix → ℕ → ℕ → Bool
-controlBit b m w c = bitIn b m 1 (lastLane c) w
+abbrev pub controlBit : ℕ → List ℕ → Matrix → ℕ → ℕ → Bool
+controlBit q b m w c = bitIn b m 1 (lastLane q c) w
 
-abbrev pub zeroCell : List ℕ → Matrix → ℕ → ℕ → Bool
-zeroCell b m w c = eqb (bitsIn (λ j. laneAt b m w j) c) 0
+abbrev pub zeroCell : ℕ → List ℕ → Matrix → ℕ → ℕ → Bool
+zeroCell q b m w c = eqb (bitsIn q (λ j. laneAt b m w j) c) 0
+
+-- two tests that pass for all
+both-all : (n : ℕ) (f g : ℕ → Bool) → (all n f && all n g) ≡ all n (λ i. f i && g i)
+both-all n f g =
+    same-test _ _ (λ t. each-all n _ (λ i l. and-both (all-each n f (and-left _ _ t) i l) (all-each n g (and-right (all n f) _ t) i l)))
+    (λ t. and-both (each-all n f (λ i l. and-left _ _ (all-each n (λ i. f i && g i) t i l))) (each-all n g (λ i l. and-right (f i) _ (all-each n (λ i. f i && g i) t i l))))
 
 -- ---- where the lanes of cells lie
 
-pub lanes-more : (n k : ℕ) → n ≤ k → lanesOf n ≤ lanesOf k
-unfolding lanesOf
-lanes-more n k h = omega arith
+module _ {q : ℕ} (h : OneOrTwo q) where
+  pub lanes-some : 1 ≤ q
+  lanes-some = either-way h (λ u. 1 ≤ u) (omega arith) (omega arith)
 
-pub last-inside : (c k : ℕ) → c < k → lastLane c < lanesOf k
-unfolding lanesOf lastLane
-last-inside c k h = omega arith
+  pub lanes-few : q ≤ mostLanes
+  lanes-few = either-way h (λ u. u ≤ mostLanes) (omega arith) (omega arith)
 
-pub last-after : (n c : ℕ) → n ≤ c → lanesOf n ≤ lastLane c
-unfolding lanesOf lastLane
-last-after n c h = omega arith
+  pub lanes-most : (k : ℕ) → lanesOf q k ≤ mostLanes * k
+  unfolding lanesOf
+  lanes-most k = either-way h (λ u. u * k ≤ mostLanes * k) (omega arith) (omega arith)
 
-pub last-later : (c : ℕ) → c ≤ lastLane c
-unfolding lanesOf lastLane
-last-later c = omega arith
+  pub lanes-more : (n k : ℕ) → n ≤ k → lanesOf q n ≤ lanesOf q k
+  unfolding lanesOf
+  lanes-more n k l = either-way h (λ u. u * n ≤ u * k) (omega arith) (omega arith)
 
--- the lists have room
-pub row-most : (k : ℕ) → k ≤ mostSubjects + mostPlain → lanesOf k ≤ mostRow
-unfolding lanesOf
-row-most k h = omega arith
+  pub lanes-added : (a i : ℕ) → lanesOf q a + lanesOf q i ≡ lanesOf q (a + i)
+  unfolding lanesOf
+  lanes-added a i = either-way h (λ u. u * a + u * i ≡ u * (a + i)) (omega arith) (omega arith)
 
-pub counted-most : (n : ℕ) → n ≤ mostSubjects → lanesOf n ≤ mostCounted
-unfolding lanesOf
-counted-most n h = omega arith
+  pub last-added : (a i : ℕ) → lanesOf q a + lastLane q i ≡ lastLane q (a + i)
+  unfolding lanesOf lastLane
+  last-added a i = either-way h (λ u. u * a + (u * i + (u - 1)) ≡ u * (a + i) + (u - 1)) (omega arith) (omega arith)
 
--- a list of the subjects' lanes serves as a table of the subjects: a cell has one lane
-pub table-most : mostCounted ≡ mostSubjects
-table-most = refl
+  pub first-inside : (c k : ℕ) → c < k → lanesOf q c < lanesOf q k
+  unfolding lanesOf
+  first-inside c k l = either-way h (λ u. u * c < u * k) (omega arith) (omega arith)
 
-pub last-row : (c j : ℕ) → c < mostSubjects + mostPlain → j ≡ lastLane c → j < mostRow
-last-row c j h e = omega (arith, last-inside c _ h, row-most _ (le-refl (mostSubjects + mostPlain)))
+  pub last-inside : (c k : ℕ) → c < k → lastLane q c < lanesOf q k
+  unfolding lanesOf lastLane
+  last-inside c k l = either-way h (λ u. u * c + (u - 1) < u * k) (omega arith) (omega arith)
 
-pub last-counted : (s j : ℕ) → s < mostSubjects → j ≡ lastLane s → j < mostCounted
-last-counted s j h e = omega (arith, last-inside s _ h, counted-most _ (le-refl mostSubjects))
+  pub first-last : (c : ℕ) → lanesOf q c ≤ lastLane q c
+  unfolding lanesOf lastLane
+  first-last c = omega arith
 
--- ---- the bits of a cell
+  -- the lists have room
+  pub counted-most : (n : ℕ) → n ≤ mostSubjects → lanesOf q n ≤ mostCounted
+  counted-most n l = omega (arith, lanes-most n)
 
--- lanes that are the same from the cell's first to its last
-pub bits-same : (f g : ℕ → ℕ) (n c k : ℕ) → n ≤ c → c < k → ((j : ℕ) → lanesOf n ≤ j → j < lanesOf k → f j ≡ g j) → bitsIn f c ≡ bitsIn g c
-unfolding bitsIn
-bits-same f g n c k h l e = e (lastLane c) (last-after n c h) (last-inside c k l)
+  pub last-counted : (s j : ℕ) → s < mostSubjects → j ≡ lastLane q s → j < mostCounted
+  last-counted s j l e = omega (arith, last-inside s _ l, counted-most _ (le-refl mostSubjects))
 
--- a zero cell has a zero last lane
-pub bits-zero : (f : ℕ → ℕ) (c : ℕ) → eqb (bitsIn f c) 0 ≡ true → f (lastLane c) ≡ 0
-unfolding bitsIn
-bits-zero f c z = eqb-true (f (lastLane c)) 0 z
+  -- ---- the bits of a cell
 
--- a column is zero where its cells are, and a row of lanes where its cells are
-pub column-cells : (n : ℕ) (f : ℕ → ℕ → ℕ) (c : ℕ) → eqb (bitsIn (λ j. merged n (λ w. f w j)) c) 0 ≡ all n (λ w. eqb (bitsIn (λ j. f w j) c) 0)
-unfolding bitsIn
-column-cells n f c = merged-zero n (λ w. f w (lastLane c))
+  -- a cell is zero where its lanes are
+  pub bits-none : (f : ℕ → ℕ) (c : ℕ) → eqb (bitsIn q f c) 0 ≡ (eqb (f (lanesOf q c)) 0 && eqb (f (lastLane q c)) 0)
+  unfolding bitsIn
+  bits-none f c = or-zero (f (lanesOf q c)) (f (lastLane q c))
 
-pub row-cells : (k : ℕ) (f : ℕ → ℕ) → all (lanesOf k) (λ j. eqb (f j) 0) ≡ all k (λ c. eqb (bitsIn f c) 0)
-unfolding lanesOf lastLane bitsIn
-row-cells k f =
-    let e : cellLanes * k ≡ k = omega arith in
-    ap (λ (i : ℕ). all i (λ j. eqb (f j) 0)) e ∙ all-same k _ _ (λ c l. ap (λ (j : ℕ). eqb (f j) 0) (omega arith))
+  pub bits-zero : (f : ℕ → ℕ) (c : ℕ) → eqb (bitsIn q f c) 0 ≡ true → f (lastLane q c) ≡ 0
+  bits-zero f c z = eqb-true (f (lastLane q c)) 0 (and-right (eqb (f (lanesOf q c)) 0) _ (sym (bits-none f c) ∙ z))
+
+  -- cell i of lanes that are those of a row from cell a on
+  pub bits-moved : (f g : ℕ → ℕ) (a i k : ℕ) → i < k → ((j : ℕ) → j < lanesOf q k → f j ≡ g (lanesOf q a + j)) → bitsIn q f i ≡ bitsIn q g (a + i)
+  unfolding bitsIn
+  bits-moved f g a i k l e =
+      ap₂ (λ (x y : ℕ). bitOr x y) (e (lanesOf q i) (first-inside i k l) ∙ ap g (lanes-added a i)) (e (lastLane q i) (last-inside i k l) ∙ ap g (last-added a i))
+
+  -- a column is zero where its cells are, and a row of lanes where its cells are
+  pub column-cells : (n : ℕ) (f : ℕ → ℕ → ℕ) (c : ℕ) → eqb (bitsIn q (λ j. merged n (λ w. f w j)) c) 0 ≡ all n (λ w. eqb (bitsIn q (λ j. f w j) c) 0)
+  column-cells n f c =
+      bits-none (λ j. merged n (λ w. f w j)) c
+      ∙ ap₂ (λ (x y : Bool). x && y) (merged-zero n (λ w. f w (lanesOf q c))) (merged-zero n (λ w. f w (lastLane q c)))
+      ∙ both-all n _ _ ∙ all-same n _ _ (λ w l. sym (bits-none (λ j. f w j) c))
+
+  pub row-cells : (k : ℕ) (f : ℕ → ℕ) → all (lanesOf q k) (λ j. eqb (f j) 0) ≡ all k (λ c. eqb (bitsIn q f c) 0)
+  row-cells k f =
+      same-test _ _
+      (λ t. each-all k _ (λ c l. bits-none f c ∙ and-both (all-each (lanesOf q k) (λ j. eqb (f j) 0) t _ (first-inside c k l)) (all-each (lanesOf q k) (λ j. eqb (f j) 0) t _ (last-inside c k l))))
+      (λ t. each-all (lanesOf q k) _ (λ j l. in-cell j l (λ c i. sym (bits-none f c) ∙ all-each k _ t c i)))
+    where
+      -- each lane is the first or the last one of its cell
+      in-cell : (j : ℕ) → j < lanesOf q k → ((c : ℕ) → c < k → (eqb (f (lanesOf q c)) 0 && eqb (f (lastLane q c)) 0) ≡ true) → eqb (f j) 0 ≡ true
+      in-cell j =
+          unfold lanesOf lastLane in
+          either-way h (λ u. j < u * k → ((c : ℕ) → c < k → (eqb (f (u * c)) 0 && eqb (f (u * c + (u - 1))) 0) ≡ true) → eqb (f j) 0 ≡ true) one two
+        where
+          one : j < 1 * k → ((c : ℕ) → c < k → (eqb (f (1 * c)) 0 && eqb (f (1 * c + (1 - 1))) 0) ≡ true) → eqb (f j) 0 ≡ true
+          one l g = let e : 1 * j ≡ j = omega arith in subst (λ (i : ℕ). eqb (f i) 0 ≡ true) e (and-left _ _ (g j (omega arith)))
+
+          two : j < 2 * k → ((c : ℕ) → c < k → (eqb (f (2 * c)) 0 && eqb (f (2 * c + (2 - 1))) 0) ≡ true) → eqb (f j) 0 ≡ true
+          two l g =
+              ⊎-elim
+              (λ (t : eqb (j % 2) 0 ≡ true).
+              let z = eqb-true (j % 2) 0 t in
+              let e : 2 * (j / 2) ≡ j = omega arith in
+              subst (λ (i : ℕ). eqb (f i) 0 ≡ true) e (and-left _ _ (g (j / 2) (omega arith))))
+              (λ (t : eqb (j % 2) 0 ≡ false).
+              let z = eqb-false (j % 2) 0 t in
+              let e : 2 * (j / 2) + (2 - 1) ≡ j = omega (arith, z) in
+              subst (λ (i : ℕ). eqb (f i) 0 ≡ true) e (and-right (eqb (f (2 * (j / 2))) 0) _ (g (j / 2) (omega arith)))) (way (eqb (j % 2) 0))
 
 -- ---- the cells of a record
 
--- the place of a cell is that of its first lane
-cell-place : (f : Shape) → f .width ≡ 2 * cellLanes → (w c : ℕ) → cellPlace f w c ≡ rowPlace (matrixOf f) w + 2 * lanesOf c
-unfolding lanesOf
-cell-place f e w c = ap (λ (x : ℕ). f .first + x * (w * columns f + c)) e ∙ place (f .first) w (columns f) c
-  where
-    place : (a w k c : ℕ) → a + 2 * cellLanes * (w * k + c) ≡ a + w * (2 * (cellLanes * k)) + 2 * (cellLanes * c)
-    place a w k c = let q : w * (2 * k) ≡ 2 * (w * k) = mul-left-comm w 2 k in omega arith
+-- a cell of two bytes has one lane, and one of four has two
+pub lanes-of-width : (f : Shape) → TwoOrFour (f .width) → OneOrTwo (cellLanes f) × (f .width ≡ 2 * cellLanes f)
+lanes-of-width f h =
+    ⊎-elim (λ (e : f .width ≡ 2). (inl (omega arith), omega arith)) (λ (e : f .width ≡ 4). (inr (omega arith), omega arith)) h
 
--- a cell is its first byte and its last, which is the upper byte of its last lane
-cell-bytes : (b : List ℕ) (w c : ℕ) →
-    let m = matrixOf (shapeOf b) in
-    cellAt b w c ≡ getD b (rowPlace m w + 2 * lastLane c) 0 * 256 + upperAt b m w (lastLane c)
-unfolding cellAt numberAt shapeOf lanesOf lastLane
-cell-bytes b w c =
-    let m = matrixOf (shapeOf b) in
-    let e : cellPlace (shapeOf b) w c ≡ rowPlace m w + 2 * lanesOf c = cell-place (shapeOf b) refl w c in
-    let high : getD b (cellPlace (shapeOf b) w c + 0) 0 ≡ getD b (rowPlace m w + 2 * lastLane c) 0 = ap (λ (i : ℕ). getD b i 0) (omega arith) in
-    let low : getD b (cellPlace (shapeOf b) w c + 1) 0 ≡ upperAt b m w (lastLane c) = ap (λ (i : ℕ). getD b i 0) (omega arith) in
-    omega arith
+module _ (b : List ℕ) where
+  abbrev f : Shape
+  f = shapeOf b
 
--- the cell is zero
-pub cell-zero : (b : List ℕ) (w c : ℕ) → eqb (cellAt b w c) 0 ≡ zeroCell b (matrixOf (shapeOf b)) w c
-unfolding bitsIn
-cell-zero b w c = same-test _ _ forth back
-  where
-    m : Matrix
-    m = matrixOf (shapeOf b)
+  abbrev m : Matrix
+  m = matrixOf f
 
-    forth : eqb (cellAt b w c) 0 ≡ true → eqb (laneAt b m w (lastLane c)) 0 ≡ true
-    forth h =
-        let z : cellAt b w c ≡ 0 = eqb-true (cellAt b w c) 0 h in
-        eq-eqb (laneAt b m w (lastLane c)) 0 (omega (arith, cell-bytes b w c, upper-byte b m w (lastLane c)))
+  abbrev q : ℕ
+  q = cellLanes f
 
-    back : eqb (laneAt b m w (lastLane c)) 0 ≡ true → eqb (cellAt b w c) 0 ≡ true
-    back h =
-        let z : laneAt b m w (lastLane c) ≡ 0 = eqb-true (laneAt b m w (lastLane c)) 0 h in
-        eq-eqb (cellAt b w c) 0 (omega (arith, cell-bytes b w c, upper-byte b m w (lastLane c)))
+  pub one-or-two : OneOrTwo q
+  unfolding shapeOf
+  one-or-two = lanes-of-width f (widths (getD b 0 0)) .0
 
--- a low bit of the cell, own or control
-pub cell-bit : (b : List ℕ) (i h w c : ℕ) → 2 ^ (suc h + i) ≡ 256 → bit i (cellAt b w c) ≡ bitIn b (matrixOf (shapeOf b)) i (lastLane c) w
-cell-bit b i h w c e =
-    let m = matrixOf (shapeOf b) in
-    let hi = getD b (rowPlace m w + 2 * lastLane c) 0 in
-    ap (bit i) (cell-bytes b w c) ∙ ap (λ (x : ℕ). bit i (hi * x + upperAt b m w (lastLane c))) (sym e) ∙ bit-low i h hi (upperAt b m w (lastLane c))
+  twice : f .width ≡ 2 * q
+  unfolding shapeOf
+  twice = lanes-of-width f (widths (getD b 0 0)) .1
 
--- the record's bytes are its header and its rows
-pub rows-size : (b : List ℕ) → sizeOf (shapeOf b) ≡ rowPlace (matrixOf (shapeOf b)) (shapeOf b .n)
-unfolding shapeOf lanesOf
-rows-size b =
-    let f = shapeOf b in
-    let k = columns f in
-    let e : cellPlace f (f .n) 0 ≡ rowPlace (matrixOf f) (f .n) + 2 * lanesOf 0 = cell-place f refl (f .n) 0 in
-    ap (λ (x : ℕ). f .first + f .width * x) (omega arith) ∙ e ∙ omega arith
+  -- the place of a cell is that of its first lane
+  cell-place : (w c : ℕ) → cellPlace f w c ≡ rowPlace m w + 2 * lanesOf q c
+  unfolding lanesOf
+  cell-place w c =
+      ap (λ (x : ℕ). f .first + x * (w * columns f + c)) twice
+      ∙ either-way one-or-two (λ u. f .first + 2 * u * (w * columns f + c) ≡ f .first + w * (2 * (u * columns f)) + 2 * (u * c)) (place 1) (place 2)
+    where
+      place : (u : ℕ) → f .first + 2 * u * (w * columns f + c) ≡ f .first + w * (2 * (u * columns f)) + 2 * (u * c)
+      place u = omega arith
+
+  -- the places of its first lane, of its last lane and of its last byte
+  first-place : (w c : ℕ) → rowPlace m w + 2 * lanesOf q c ≡ cellPlace f w c
+  first-place w c = sym (cell-place w c)
+
+  last-place : (w c : ℕ) → rowPlace m w + 2 * lastLane q c ≡ cellPlace f w c + (f .width - 2)
+  unfolding lanesOf lastLane
+  last-place w c = omega (arith, cell-place w c, twice, lanes-some one-or-two)
+
+  byte-place : (w c : ℕ) → rowPlace m w + (2 * lastLane q c + 1) ≡ cellPlace f w c + (f .width - 1)
+  byte-place w c = omega (arith, last-place w c, twice, lanes-some one-or-two)
+
+  -- two bytes are zero as a number and as a lane
+  lane-none : (at : ℕ) → eqb (numberAt b at 2) 0 ≡ eqb (laneIn b at) 0
+  lane-none at =
+      same-test _ _ (λ t. eq-eqb (laneIn b at) 0 (omega (arith, eqb-true (numberAt b at 2) 0 t, two-read b at)))
+      (λ t. eq-eqb (numberAt b at 2) 0 (omega (arith, eqb-true (laneIn b at) 0 t, two-read b at)))
+
+  -- the cell is zero where its lanes are
+  number-none : (at : ℕ) → eqb (numberAt b at (f .width)) 0 ≡ (eqb (laneIn b at) 0 && eqb (laneIn b (at + (f .width - 2))) 0)
+  number-none at = ⊎-elim one two width-is
+    where
+      width-is : TwoOrFour (f .width)
+      width-is = unfold shapeOf in widths (getD b 0 0)
+
+      Claim : ℕ → Type 0
+      Claim w = eqb (numberAt b at w) 0 ≡ (eqb (laneIn b at) 0 && eqb (laneIn b (at + (w - 2))) 0)
+
+      twofold : (t : Bool) → t ≡ (t && t)
+      twofold true = refl
+      twofold false = refl
+
+      one : f .width ≡ 2 → Claim (f .width)
+      one e =
+          let z : at + (2 - 2) ≡ at = omega arith in
+          subst Claim (sym e) (lane-none at ∙ twofold _ ∙ ap (λ (i : ℕ). eqb (laneIn b at) 0 && eqb (laneIn b i) 0) (sym z))
+
+      parts : (x y : ℕ) → eqb (x * 65536 + y) 0 ≡ (eqb x 0 && eqb y 0)
+      parts x y =
+          same-test _ _ (λ t. let z = eqb-true (x * 65536 + y) 0 t in and-both (eq-eqb x 0 (omega arith)) (eq-eqb y 0 (omega arith)))
+          (λ t. eq-eqb (x * 65536 + y) 0 (omega (arith, eqb-true x 0 (and-left _ _ t), eqb-true y 0 (and-right (eqb x 0) _ t))))
+
+      two : f .width ≡ 4 → Claim (f .width)
+      two e =
+          subst Claim (sym e)
+          (ap (λ (x : ℕ). eqb x 0) (four-read b at) ∙ parts (numberAt b at 2) (numberAt b (at + 2) 2) ∙ ap₂ (λ (x y : Bool). x && y) (lane-none at) (lane-none (at + 2)))
+
+  pub cell-zero : (w c : ℕ) → eqb (cellAt b w c) 0 ≡ zeroCell q b m w c
+  unfolding cellAt
+  cell-zero w c =
+      number-none (cellPlace f w c)
+      ∙ ap₂ (λ (x y : ℕ). eqb (laneIn b x) 0 && eqb (laneIn b y) 0) (sym (first-place w c)) (sym (last-place w c))
+      ∙ sym (bits-none one-or-two (λ j. laneAt b m w j) c)
+
+  -- a low bit of the cell, own or control
+  pub cell-bit : (i h w c : ℕ) → 2 ^ (suc h + i) ≡ 256 → bit i (cellAt b w c) ≡ bitIn b m i (lastLane q c) w
+  unfolding cellAt
+  cell-bit i h w c e =
+      let more : f .width ≡ suc (f .width - 1) = omega (arith, twice, lanes-some one-or-two) in
+      ap (λ (k : ℕ). bit i (numberAt b (cellPlace f w c) k)) more ∙ last (cellPlace f w c) (f .width - 1) ∙ ap (λ (k : ℕ). bit i (getD b k 0)) (sym (byte-place w c))
+    where
+      last : (at k : ℕ) → bit i (numberAt b at (suc k)) ≡ bit i (getD b (at + k) 0)
+      last at k = unfold numberAt in subst (λ (x : ℕ). bit i (numberAt b at k * x + getD b (at + k) 0) ≡ bit i (getD b (at + k) 0)) e (bit-low i h (numberAt b at k) (getD b (at + k) 0))
+
+  -- the record's bytes are its header and its rows
+  pub rows-size : sizeOf f ≡ rowPlace m (f .n)
+  unfolding lanesOf
+  rows-size =
+      ap (λ (x : ℕ). f .first + x * (f .n * columns f)) twice
+      ∙ either-way one-or-two (λ u. f .first + 2 * u * (f .n * columns f) ≡ f .first + f .n * (2 * (u * columns f))) (omega arith) (omega arith)

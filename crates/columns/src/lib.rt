@@ -1,4 +1,4 @@
-// Tests of each column of a record, over the lists that the passes over its lanes have filled.
+// Tests of each column of a record. Its cells are lanes, q each: one in version 1, two in version 2.
 ghost use mathlib.Core.Path.{_≡_};
 ghost use mathlib.Core.Bool.{not, _&&_};
 ghost use Prim.Native.Nat.{_+_, _*_, _≤_, _<_};
@@ -6,46 +6,41 @@ ghost use lib.Dec.{eqb};
 ghost use lib.ListN.{length, getD};
 ghost use Rattle.matrix.specs.Bounded.{all};
 ghost use Rattle.matrix.specs.Bytes.{bit};
-ghost use Rattle.matrix.specs.Shape.{mostSubjects, mostPlain, columns};
+ghost use Rattle.matrix.specs.Shape.{mostSubjects};
+ghost use Rattle.lanes.specs.Lanes.{seenAt};
 ghost use Rattle.lanes.specs.Lists.{Stored};
-ghost use Rattle.columns.specs.Cells.{mostRow, mostCounted, lanesOf, lastLane, bitsIn};
-ghost use Rattle.columns.specs.Checks.{present, zeroFrom, rootCounts, otherCounts, countTest, subjectAt, subjectTest, plainTest, plainWrong, Celled, Placed, Lists};
+ghost use Rattle.columns.specs.Cells.{OneOrTwo, mostColumns, mostCounted, lanesOf, lastLane, bitsIn};
+ghost use Rattle.columns.specs.Checks.{present, zeroFrom, rootCounts, otherCounts, countTest, subjectAt, subjectTest, Celled, Placed, Lists};
 use lanes::Matrix;
-use lanes::UPPER;
-use matrix::MOST_COLUMNS;
 use matrix::MOST_SUBJECTS;
-use matrix::Shape;
 
-// The lanes of a cell.
-const CELL_LANES: usize = 1;
+// The most lanes of a cell, and so those of the most subjects' columns.
+const MOST_LANES: usize = 2;
 
-// The lanes of the longest row, and of the most subjects' columns.
-pub const ROW: usize = CELL_LANES * MOST_COLUMNS;
-
-pub const COUNTED: usize = CELL_LANES * MOST_SUBJECTS;
+pub const COUNTED: usize = MOST_LANES * MOST_SUBJECTS;
 
 // The lanes of k cells.
-pub fn lanes_of(k: usize) -> usize
-    requires { ⌜ k ≤ mostSubjects + mostPlain ⌝ }
-    ensures { λ r. ⌜ r ≡ lanesOf k ⌝ }
+pub fn lanes_of(q: usize, k: usize) -> usize
+    requires { ⌜ OneOrTwo q × (k ≤ mostColumns) ⌝ }
+    ensures { λ r. ⌜ r ≡ lanesOf q k ⌝ }
 {
-    CELL_LANES * k
+    q * k
 }
 
 // The last lane of cell c, which has own and control.
-fn last_lane(c: usize) -> usize
-    requires { ⌜ c < mostSubjects + mostPlain ⌝ }
-    ensures { λ r. ⌜ r ≡ lastLane c ⌝ }
+pub fn last_lane(q: usize, c: usize) -> usize
+    requires { ⌜ OneOrTwo q × (c < mostColumns) ⌝ }
+    ensures { λ r. ⌜ r ≡ lastLane q c ⌝ }
 {
-    CELL_LANES * c + (CELL_LANES - 1)
+    q * c + (q - 1)
 }
 
-// The bits that are seen in column c.
-fn bits_of(seen: &[u16; ROW], c: usize) -> u16
-    requires { ⌜ (c < mostSubjects + mostPlain) × (length (now seen) ≡ mostRow) ⌝ }
-    ensures { λ r. ⌜ r ≡ bitsIn (λ j. getD (now (seen .entry)) j 0) c ⌝ }
+// The bits that are seen in cell c: those of its first lane and of its last, which may be the same one.
+pub fn bits_of(seen: &[u16], q: usize, c: usize) -> u16
+    requires { ⌜ OneOrTwo q × (c < mostColumns) × (lastLane q c < length (now seen)) ⌝ }
+    ensures { λ r. ⌜ r ≡ bitsIn q (λ j. getD (now (seen .entry)) j 0) c ⌝ }
 {
-    seen[last_lane(c)]
+    seen[lanes_of(q, c)] | seen[last_lane(q, c)]
 }
 
 // The upper byte of a cell's last lane has control.
@@ -56,24 +51,25 @@ fn controls(upper: u8) -> bool
 }
 
 // Subject s, whose row begins at `at`, exists: its own cell has control.
-fn exists(b: &[u8], s: usize, at: usize) -> bool
-    requires { ⌜ (s < mostSubjects) × (at + (2 * lastLane s + 1) < length (now b)) ⌝ }
-    ensures { λ r. ⌜ r ≡ bit 1 (getD (now (b .entry)) (at + (2 * lastLane s + 1)) 0) ⌝ }
+fn exists(b: &[u8], q: usize, s: usize, at: usize) -> bool
+    requires { ⌜ OneOrTwo q × (s < mostSubjects) × (at + (2 * lastLane q s + 1) < length (now b)) ⌝ }
+    ensures { λ r. ⌜ r ≡ bit 1 (getD (now (b .entry)) (at + (2 * lastLane q s + 1)) 0) ⌝ }
 {
-    controls(b[at + (2 * last_lane(s) + 1)])
+    controls(b[at + (2 * last_lane(q, s) + 1)])
 }
 
-// Every subject exists.
-pub fn all_present(b: &[u8], m: Matrix) -> bool
-    requires { ⌜ Celled (now b) m ⌝ }
-    ensures { λ r. ⌜ r ≡ all m.rows (present (now (b .entry)) m) ⌝ }
+// Every subject exists. The byte of its own cell that has control is at `at`, and that of the next one a row and a cell further.
+fn all_present(b: &[u8], m: Matrix, q: usize) -> bool
+    requires { ⌜ Celled q (now b) m ⌝ }
+    ensures { λ r. ⌜ r ≡ all m.rows (present q (now (b .entry)) m) ⌝ }
 {
     let rows = m.rows;
+    let step = 2 * m.lanes + 2 * q;
     let mut missing: u8 = 0;
-    let mut at = m.first;
+    let mut at = m.first + (2 * last_lane(q, 0) + 1);
     for s in 0..rows {
-        missing = missing | lanes::fault(exists(b, s, at));
-        at += 2 * m.lanes;
+        missing = missing | lanes::fault(controls(b[at]));
+        at += step;
     }
     missing == 0
 }
@@ -110,31 +106,31 @@ fn other_counts(tally: u8, odd: u8) -> bool
 }
 
 // The counts of the n subjects, where all exist. Those after U are all looked at, so that the compiler may take many at once.
-fn counts_fit(tally: &[u8; COUNTED], odd: &[u8; COUNTED], n: usize) -> bool
-    requires { ⌜ (1 ≤ n) × (n ≤ mostSubjects) × (length (now tally) ≡ mostCounted) × (length (now odd) ≡ mostCounted) ⌝ }
-    ensures { λ r. ⌜ r ≡ all n (countTest (now (tally .entry)) (now (odd .entry))) ⌝ }
+fn counts_fit(tally: &[u8; COUNTED], odd: &[u8; COUNTED], q: usize, n: usize) -> bool
+    requires { ⌜ OneOrTwo q × (1 ≤ n) × (n ≤ mostSubjects) × (length (now tally) ≡ mostCounted) × (length (now odd) ≡ mostCounted) ⌝ }
+    ensures { λ r. ⌜ r ≡ all n (countTest q (now (tally .entry)) (now (odd .entry))) ⌝ }
 {
-    let root = last_lane(0);
+    let root = last_lane(q, 0);
     if !root_counts(tally[root], odd[root]) {
         return false;
     }
     let mut wrong: u8 = 0;
     for s in 1..n {
-        let j = last_lane(s);
+        let j = last_lane(q, s);
         wrong = wrong | lanes::fault(other_counts(tally[j], odd[j]));
     }
     wrong == 0
 }
 
 // An absent subject is not U, and its column and row are zero.
-fn absent(b: &[u8], seen: &[u16; ROW], s: usize, at: usize, bytes: usize) -> bool
-    requires { ⌜ Placed (now b) (now seen) s at bytes ⌝ }
-    ensures { λ r. ⌜ r ≡ (not (eqb s 0) && (eqb (bitsIn (λ j. getD (now (seen .entry)) j 0) s) 0 && zeroFrom (now (b .entry)) at bytes)) ⌝ }
+fn absent(b: &[u8], seen: &[u16; COUNTED], q: usize, s: usize, at: usize, bytes: usize) -> bool
+    requires { ⌜ Placed q (now b) (now seen) s at bytes ⌝ }
+    ensures { λ r. ⌜ r ≡ (not (eqb s 0) && (eqb (bitsIn q (λ j. getD (now (seen .entry)) j 0) s) 0 && zeroFrom (now (b .entry)) at bytes)) ⌝ }
 {
     if s == 0 {
         return false;
     }
-    if bits_of(seen, s) == 0 {
+    if bits_of(seen, q, s) == 0 {
         zero_from(b, at, bytes)
     } else {
         false
@@ -144,20 +140,21 @@ fn absent(b: &[u8], seen: &[u16; ROW], s: usize, at: usize, bytes: usize) -> boo
 // Subject s, whose row of `bytes` bytes begins at `at`.
 fn subject(
     b: &[u8],
-    seen: &[u16; ROW],
+    seen: &[u16; COUNTED],
     tally: &[u8; COUNTED],
     odd: &[u8; COUNTED],
+    q: usize,
     s: usize,
     at: usize,
     bytes: usize,
 ) -> bool
-    requires { ⌜ Placed (now b) (now seen) s at bytes × (length (now tally) ≡ mostCounted) × (length (now odd) ≡ mostCounted) ⌝ }
-    ensures { λ r. ⌜ r ≡ subjectAt (now (b .entry)) bytes (now (seen .entry)) (now (tally .entry)) (now (odd .entry)) s at ⌝ }
+    requires { ⌜ Placed q (now b) (now seen) s at bytes × (length (now tally) ≡ mostCounted) × (length (now odd) ≡ mostCounted) ⌝ }
+    ensures { λ r. ⌜ r ≡ subjectAt q (now (b .entry)) bytes (λ j. getD (now (seen .entry)) j 0) (now (tally .entry)) (now (odd .entry)) s at ⌝ }
 {
-    if !exists(b, s, at) {
-        return absent(b, seen, s, at, bytes);
+    if !exists(b, q, s, at) {
+        return absent(b, seen, q, s, at, bytes);
     }
-    let j = last_lane(s);
+    let j = last_lane(q, s);
     if s == 0 {
         root_counts(tally[j], odd[j])
     } else {
@@ -168,18 +165,19 @@ fn subject(
 // The subjects one after another, each with its row.
 fn each_subject(
     b: &[u8],
-    seen: &[u16; ROW],
+    seen: &[u16; COUNTED],
     tally: &[u8; COUNTED],
     odd: &[u8; COUNTED],
     m: Matrix,
+    q: usize,
 ) -> bool
-    requires { ⌜ Celled (now b) m × Lists (now seen) (now tally) (now odd) ⌝ }
-    ensures { λ r. ⌜ r ≡ all m.rows (subjectTest (now (b .entry)) m (now (seen .entry)) (now (tally .entry)) (now (odd .entry))) ⌝ }
+    requires { ⌜ Celled q (now b) m × Lists (now tally) (now odd) × (length (now seen) ≡ mostCounted) ⌝ }
+    ensures { λ r. ⌜ r ≡ all m.rows (subjectTest q (now (b .entry)) m (λ j. getD (now (seen .entry)) j 0) (now (tally .entry)) (now (odd .entry))) ⌝ }
 {
     let rows = m.rows;
     let mut at = m.first;
     for s in 0..rows {
-        if !subject(b, seen, tally, odd, s, at, 2 * m.lanes) {
+        if !subject(b, seen, tally, odd, q, s, at, 2 * m.lanes) {
             return false;
         }
         at += 2 * m.lanes;
@@ -187,57 +185,48 @@ fn each_subject(
     true
 }
 
-// The subjects. Where all exist, only their counts are to be tested.
-pub fn subjects(
-    b: &[u8],
-    seen: &[u16; ROW],
-    tally: &[u8; COUNTED],
-    odd: &[u8; COUNTED],
-    m: Matrix,
-    full: bool,
-) -> bool
-    requires { ⌜ Celled (now b) m × Lists (now seen) (now tally) (now odd) × (full ≡ all m.rows (present (now b) m)) ⌝ }
-    ensures { λ r. ⌜ r ≡ all m.rows (subjectTest (now (b .entry)) m (now (seen .entry)) (now (tally .entry)) (now (odd .entry))) ⌝ }
+// The subjects where some are absent: what is seen in their columns is needed too.
+fn with_absent(b: &[u8], tally: &[u8; COUNTED], odd: &[u8; COUNTED], m: Matrix, q: usize) -> bool
+    requires { ⌜ Celled q (now b) m × Lists (now tally) (now odd) ⌝ }
+    ensures { λ r. ⌜ r ≡ all m.rows (subjectTest q (now (b .entry)) m (seenAt (now (b .entry)) m) (now (tally .entry)) (now (odd .entry))) ⌝ }
 {
-    if full {
-        counts_fit(tally, odd, m.rows)
+    let mut seen = [0u16; COUNTED];
+    merging::merge(&mut seen, b, m, 0, lanes_of(q, m.rows));
+    each_subject(b, &seen, tally, odd, m, q)
+}
+
+// The subjects. Where all exist, only their counts are to be tested. Each number of lanes has a call of its own, so that the compiler knows it.
+pub fn subjects(b: &[u8], tally: &[u8; COUNTED], odd: &[u8; COUNTED], m: Matrix, q: usize) -> bool
+    requires { ⌜ Celled q (now b) m × Lists (now tally) (now odd) ⌝ }
+    ensures { λ r. ⌜ r ≡ all m.rows (subjectTest q (now (b .entry)) m (seenAt (now (b .entry)) m) (now (tally .entry)) (now (odd .entry))) ⌝ }
+{
+    if !all_present(b, m, q) {
+        return with_absent(b, tally, odd, m, q);
+    }
+    if q == 1 {
+        counts_fit(tally, odd, 1, m.rows)
     } else {
-        each_subject(b, seen, tally, odd, m)
+        counts_fit(tally, odd, 2, m.rows)
     }
 }
 
-// What is wrong with plain column c: it is owned and controlled by nobody, or zero.
-fn plain_wrong(seen: &[u16; ROW], c: usize) -> u16
-    requires { ⌜ (c < mostSubjects + mostPlain) × (length (now seen) ≡ mostRow) ⌝ }
-    ensures { λ r. ⌜ r ≡ plainWrong (now (seen .entry)) c ⌝ }
-{
-    if seen[last_lane(c)] / UPPER % 4 == 1 {
-        0
-    } else {
-        bits_of(seen, c)
-    }
-}
-
-// The plain columns, after those of the subjects. All of them are looked at, so that the compiler may take many at once.
-pub fn plains(seen: &[u16; ROW], f: Shape) -> bool
-    requires { ⌜ (columns f ≤ mostSubjects + mostPlain) × (length (now seen) ≡ mostRow) ⌝ }
-    ensures { λ r. ⌜ r ≡ all f.p (λ i. plainTest (now (seen .entry)) (f.n + i)) ⌝ }
-{
-    let n = f.n;
-    let p = f.p;
-    let mut wrong: u16 = 0;
-    for i in 0..p {
-        wrong = wrong | plain_wrong(seen, n + i);
-    }
-    wrong == 0
-}
-
-// A list that has the owner of each of the n subjects at the last lane of its column: each is put at the subject's own place.
-pub fn owners(marks: &mut [u8; COUNTED], n: usize)
-    requires { ⌜ (n ≤ mostSubjects) × (length (now marks) ≡ mostCounted) ⌝ }
-    ensures { λ _. ⌜ Stored n (λ s. getD (now (marks .entry)) (lastLane s) 0) (now (marks .entry)) (now (marks .exit)) ⌝ }
+// The owner of each of the n subjects, which stands at the last lane of its column, at the subject's own place.
+fn put_owners(owners: &mut [u8; MOST_SUBJECTS], marks: &[u8; COUNTED], q: usize, n: usize)
+    requires { ⌜ OneOrTwo q × (n ≤ mostSubjects) × (length (now owners) ≡ mostSubjects) × (length (now marks) ≡ mostCounted) ⌝ }
+    ensures { λ _. ⌜ Stored n (λ s. getD (now (marks .entry)) (lastLane q s) 0) (now (owners .entry)) (now (owners .exit)) ⌝ }
 {
     for s in 0..n {
-        marks[s] = marks[last_lane(s)];
+        owners[s] = marks[last_lane(q, s)];
+    }
+}
+
+pub fn owners(owners: &mut [u8; MOST_SUBJECTS], marks: &[u8; COUNTED], q: usize, n: usize)
+    requires { ⌜ OneOrTwo q × (n ≤ mostSubjects) × (length (now owners) ≡ mostSubjects) × (length (now marks) ≡ mostCounted) ⌝ }
+    ensures { λ _. ⌜ Stored n (λ s. getD (now (marks .entry)) (lastLane q s) 0) (now (owners .entry)) (now (owners .exit)) ⌝ }
+{
+    if q == 1 {
+        put_owners(owners, marks, 1, n);
+    } else {
+        put_owners(owners, marks, 2, n);
     }
 }

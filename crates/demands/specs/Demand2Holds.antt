@@ -8,7 +8,7 @@ use mathlib.Core.List.{List}
 use lib.Dec.{eqb}
 use lib.ListN.{take}
 use lib.Seq.{take-at}
-use borrow.Author.Tests.{eqb-true, eq-eqb, lt-ltb, le-ltb}
+use borrow.Author.Tests.{eqb-true, lt-ltb, le-ltb}
 use Rattle.matrix.specs.declared.Name.{Name}
 use Rattle.matrix.specs.declared.Name.the-variants.{Subject, Plain}
 use Rattle.matrix.specs.declared.Right.the-variants.{Own, Control, Basic}
@@ -46,20 +46,12 @@ use Rattle.frame.specs.Answers.{links-only, links-only-three, links-only-subjec
 use Rattle.demands.specs.First.{NoneHolds}
 use Rattle.demands.specs.Printed.{runConditions}
 use Rattle.demands.specs.Refusals.{run-numbered}
-use Rattle.demands.specs.Records.{Sound, sound-record, content-read, bytes-pass, bytes-octets, sound-next, sound-run}
+use Rattle.demands.specs.Records.{passes, valid-so, Sound, sound-record, content-read, bytes-pass, bytes-octets, sound-next, sound-run}
 use Rattle.demands.specs.Turns.{run-valid}
 use Rattle.demands.specs.Demand1Holds.{command-number}
 use Rattle.demands.specs.Demand2.{cellBytes, Unnamed, NextRight, Allowed, refusalFor, linksFor, RunLeaves, Demand2}
 
 -- ---- records and what they hold
-
-passes : (b : List ℕ) → validAnswer limits b ≡ true → recordRefusal limits b ≡ 0
-unfolding validAnswer
-passes b h = eqb-true (recordRefusal limits b) 0 h
-
-valid-so : (b : List ℕ) → recordRefusal limits b ≡ 0 → validAnswer limits b ≡ true
-unfolding validAnswer
-valid-so b h = eq-eqb (recordRefusal limits b) 0 h
 
 written-same : (b : List ℕ) → Octets b → validAnswer limits b ≡ true → bytesOf (contentOf b) ≡ b
 written-same b octets valid = read-write b (record-shaped b (passes b valid)) octets

@@ -1,4 +1,5 @@
--- The three demands, as theorems about the answers and the bytes of the public calls, and the sheet of the thirteen commands.
+-- The three demands, as theorems about the answers and the bytes of the public calls, the sheet of the thirteen commands, the change of the limits, and
+-- the two conversions.
 pub mod Row
 pub mod Sheet
 pub mod SheetHolds
@@ -21,3 +22,5 @@ pub mod Demand3
 pub mod Demand3Holds
 pub mod Limits
 pub mod LimitsHold
+pub mod Conversions
+pub mod ConversionsHold

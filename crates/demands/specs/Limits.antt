@@ -7,6 +7,7 @@ use mathlib.Core.List.{List}
 use Rattle.matrix.specs.declared.Fields.{Fields}
 use Rattle.matrix.specs.Shape.{Limits, limits, shapeOf}
 use Rattle.matrix.specs.Calls.{validAnswer, heldAnswer, heldResult, commandAnswer, commandResult, commandBytes, runAnswer, runResult, runBytes}
+use Rattle.matrix.specs.Converting.{convertResult, convertOutput}
 use Rattle.question.specs.declared.Safety.{Safety}
 use Rattle.question.specs.Asked.{safetyRefusal, Answers}
 
@@ -31,6 +32,8 @@ pub record SameCalls (most other : Limits) (b : List ℕ) : Type 0 where
   pub run : (l : List ℕ) → runAnswer most b l ≡ runAnswer other b l
   pub run-result : (l : List ℕ) → runResult most b l ≡ runResult other b l
   pub run-bytes : (l : List ℕ) → runBytes most b l ≡ runBytes other b l
+  pub convert-result : (v : ℕ) (out : List ℕ) → convertResult most v b out ≡ convertResult other v b out
+  pub convert-output : (v : ℕ) (out : List ℕ) → convertOutput most v b out ≡ convertOutput other v b out
   pub safety : (mask s o right : ℕ) (out out′ : List ℕ) (r : Safety)
       → Answers most b mask s o right out out′ r ↔ Answers other b mask s o right out out′ r
 

@@ -1,5 +1,5 @@
 -- The conditions of the refusals as the manual prints them (Manual 7), each with its number, and the conditions of each call in their order.
-use Prim.Native.Nat.{ℕ, _+_, _<_}
+use Prim.Native.Nat.{ℕ, _+_, _*_, _<_}
 use mathlib.Core.Path.{_≡_}
 use mathlib.Core.Logic.{_⊎_}
 use mathlib.Core.Bool.{Bool, true, false, cond, not, _&&_, _||_}
@@ -8,6 +8,7 @@ use lib.Dec.{eqb, ltb}
 use lib.ListN.{length}
 use Rattle.matrix.specs.declared.Name.{Name}
 use Rattle.matrix.specs.declared.Name.the-variants.{Subject}
+use Rattle.matrix.specs.declared.Form.{Form}
 use Rattle.matrix.specs.declared.Form.the-variants.{Starred}
 use Rattle.matrix.specs.declared.Fields.{Fields}
 use Rattle.matrix.specs.Names.{isSubject, nameOf}
@@ -115,3 +116,20 @@ safetyConditions b mask s o right room =
     recordConditions b
     ++ (condition 7 ((questionFits (shapeOf b) s o right && trustFits (shapeOf b) mask) ≡ false) ∷
     condition 15 (room < listRoom (shapeOf b .n + 2)) ∷ [])
+
+-- 18: in the cell of some row and column a basic right above 6 is set, plain or starred
+abbrev pub HighRight : Shape → State → Type 0
+HighRight f S =
+    (w : ℕ) × (c : ℕ) × (k : ℕ) × (form : Form) × (w < f .n) × (c < f .n + f .p) × (6 < k) × (S .basic k form w (nameOf (f .n) c) ≡ true)
+
+-- the bytes of a record with n and p of a shape, in which a cell has so many
+abbrev pub recordBytes : ℕ → Shape → ℕ
+recordBytes width f = 7 + width * (f .n * (f .n + f .p))
+
+-- a conversion with an output of so many bytes: to version 1, and there 18 stands before 15; to version 2
+abbrev pub version1Conditions : List ℕ → ℕ → List Condition
+version1Conditions b room =
+    recordConditions b ++ (condition 18 (HighRight (shapeOf b) (stateOf b)) ∷ condition 15 (room < recordBytes 2 (shapeOf b)) ∷ [])
+
+abbrev pub version2Conditions : List ℕ → ℕ → List Condition
+version2Conditions b room = recordConditions b ++ (condition 15 (room < recordBytes 4 (shapeOf b)) ∷ [])

@@ -2,9 +2,10 @@
 use Prim.Native.Nat.{ℕ, _≤_}
 use native.Mathlib.Omega.{arith}
 use mathlib.Core.Path.{_≡_, sym, _∙_, ap, subst}
-use mathlib.Core.Bool.{cond, _&&_}
+use mathlib.Core.Bool.{true, cond, _&&_}
 use mathlib.Core.List.{List}
 use lib.Dec.{eqb}
+use borrow.Author.Tests.{eqb-true, eq-eqb}
 use Rattle.matrix.specs.declared.Fields.{Fields}
 use Rattle.matrix.specs.declared.Answer.{Answer}
 use Rattle.matrix.specs.Step.{answer}
@@ -14,13 +15,22 @@ use Rattle.matrix.specs.Shaped.{Within, Octets}
 use Rattle.matrix.specs.Reading.{Content, stateOf, content, contentOf, bytesOf}
 use Rattle.matrix.specs.Record.{recordRefusal}
 use Rattle.matrix.specs.CommandList.{commandsOf}
-use Rattle.matrix.specs.Calls.{refusalOn, linksOn, nextOn, commandAnswer, commandBytes, ranOn}
+use Rattle.matrix.specs.Calls.{validAnswer, refusalOn, linksOn, nextOn, commandAnswer, commandBytes, ranOn}
 use Rattle.codec.specs.ShapeRight.{ShapeRight}
 use Rattle.codec.specs.Written.{shape-write, shaped-write, octets-write}
 use Rattle.codec.specs.RoundTrip.{shape-right, within-read, write-read}
 use Rattle.owners.specs.Read.{record-shaped, valid-record, record-valid}
 use Rattle.kept.specs.Keeps.{on-keeps, run-keeps}
 use Rattle.frame.specs.Stays.{within-next, within-run}
+
+-- a record that is not turned down, by the answer of the validity call
+pub passes : (b : List ℕ) → validAnswer limits b ≡ true → recordRefusal limits b ≡ 0
+unfolding validAnswer
+passes b h = eqb-true (recordRefusal limits b) 0 h
+
+pub valid-so : (b : List ℕ) → recordRefusal limits b ≡ 0 → validAnswer limits b ≡ true
+unfolding validAnswer
+valid-so b h = eq-eqb (recordRefusal limits b) 0 h
 
 -- what a record that is not turned down holds
 pub record Sound (m : Content) : Type 0 where

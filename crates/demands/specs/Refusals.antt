@@ -7,7 +7,7 @@ use mathlib.Core.Bool.{Bool, true, false, cond, not, _&&_}
 use mathlib.Core.List.{List, [], _∷_, _++_}
 use lib.Dec.{eqb, leb}
 use lib.ListN.{length, drop}
-use borrow.Author.Tests.{leb-true, leb-false, eqb-true}
+use borrow.Author.Tests.{leb-true, leb-false, eqb-true, not-true, not-false}
 use Rattle.matrix.specs.declared.Fields.{Fields}
 use Rattle.matrix.specs.Names.{nameOf, columnOf}
 use Rattle.matrix.specs.State.{State, exists}
@@ -21,16 +21,20 @@ use Rattle.matrix.specs.Reading.{stateOf}
 use Rattle.matrix.specs.Record.{validMatrix, recordRefusal}
 use Rattle.matrix.specs.CommandList.{wellFormed}
 use Rattle.matrix.specs.Calls.{questionFits, heldRefusal, namesFit, rawOf, refusalOn, runRefusal}
+use Rattle.matrix.specs.Converting.{basicFrom, convertRefusal}
 use Rattle.laws.specs.Tests.{way, clash}
+use Rattle.laws.specs.Basics.{SetFrom, basic-found, basic-hit, basic-none}
 use Rattle.laws.specs.Range.{Ranged, ranged}
 use Rattle.codec.specs.Columns.{columnOf-nameOf}
+use Rattle.codec.specs.ShapeRight.{TwoOrFour, widths}
 use Rattle.codec.specs.RoundTrip.{within-read}
+use Rattle.codec.specs.InVersion.{basic-room}
 use Rattle.owners.specs.Test.{valid-of-test, test-of-valid}
 use Rattle.owners.specs.Read.{recordTests}
 use Rattle.question.specs.Asked.{trustFits, listRoom, safetyRefusal}
 use Rattle.demands.specs.First.{Condition, condition, Numbered}
 use Rattle.demands.specs.FirstLaws.{Against, AllAgainst, numbered, numbered-then}
-use Rattle.demands.specs.Printed.{OutOfRange, recordConditions, fieldsRight, commandConditions, heldConditions, runConditions, safetyConditions}
+use Rattle.demands.specs.Printed.{OutOfRange, recordConditions, fieldsRight, commandConditions, heldConditions, runConditions, safetyConditions, HighRight, recordBytes, version1Conditions, version2Conditions}
 use Rattle.demands.specs.Codes.{Agrees, agrees}
 
 -- a test, and the condition that it fails
@@ -41,6 +45,11 @@ fails-test m t some = record { number = refl; some = some; failed = λ e. e; pas
 opposite : (m : ℕ) (t u : Bool) → m ≢ 0 → t ≡ not u → Against (test m t) (condition m (u ≡ true))
 opposite m t true some e = record { number = refl; some = some; failed = λ h. refl; passed = λ h g. clash h e }
 opposite m t false some e = record { number = refl; some = some; failed = λ h. absurd (clash e h); passed = λ h g. clash g refl }
+
+-- a test that a number is at least another, and the condition that it is below it
+below-test : (m least given : ℕ) → m ≢ 0 → Against (test m (leb least given)) (condition m (given < least))
+below-test m least given some =
+    record { number = refl; some = some; failed = λ e. leb-false least given e; passed = λ e h. let l = leb-true least given e in omega arith }
 
 -- ---- 1 to 5
 
@@ -65,12 +74,8 @@ pub record-numbered : (b : List ℕ) → Numbered (recordConditions b) (recordRe
 unfolding recordRefusal
 record-numbered b =
     numbered (recordTests b) (recordConditions b)
-    (short, λ a. (fails-test 2 _ (omega arith), λ c. (range, λ d. (fails-test 4 _ (omega arith), λ e. (matrix, λ f. tt)))))
+    (below-test 1 headerBytes (length b) (omega arith), λ a. (fails-test 2 _ (omega arith), λ c. (range, λ d. (fails-test 4 _ (omega arith), λ e. (matrix, λ f. tt)))))
   where
-    short : Against (test 1 (leb headerBytes (length b))) (condition 1 (length b < headerBytes))
-    short =
-        record { number = refl; some = omega arith; failed = λ e. leb-false headerBytes (length b) e; passed = λ e h. let l = leb-true headerBytes (length b) e in omega arith }
-
     range : Against (test 3 (inRange limits (shapeOf b))) (condition 3 (OutOfRange (shapeOf b)))
     range = record { number = refl; some = omega arith; failed = out-of-range (shapeOf b); passed = λ e. within-range (shapeOf b) e }
 
@@ -160,13 +165,57 @@ module _ (b : List ℕ) where
   safety-numbered mask s o right room =
       then-numbered _ _
       (numbered (test 7 (questionFits (shapeOf b) s o right && trustFits (shapeOf b) mask) ∷ test 15 (leb (listRoom (shapeOf b .n + 2)) room) ∷ []) _
-      (fails-test 7 _ (omega arith), λ e. (short, λ e. tt)))
+      (fails-test 7 _ (omega arith), λ e. (below-test 15 (listRoom (shapeOf b .n + 2)) room (omega arith), λ e. tt)))
+
+  -- a basic right above 6 is found exactly where the printed condition holds
+  high-test : Against (test 18 (not (basicFrom 7 (shapeOf b) (stateOf b)))) (condition 18 (HighRight (shapeOf b) (stateOf b)))
+  high-test =
+      record {
+        number = refl;
+        some = omega arith;
+        failed = λ e. let s = basic-found 7 f S (not-false (basicFrom 7 f S) e) in (s .w, s .c, s .k, s .form, s .row, s .column, omega (arith, s .high), s .set);
+        passed = λ e h. clash (basic-hit 7 f S (found h)) (not-true (basicFrom 7 f S) e);
+      }
     where
-      short : Against (test 15 (leb (listRoom (shapeOf b .n + 2)) room)) (condition 15 (room < listRoom (shapeOf b .n + 2)))
-      short =
+      f : Shape
+      f = shapeOf b
+
+      S : State
+      S = stateOf b
+
+      found : HighRight f S → SetFrom 7 f S
+      found h =
           record {
-            number = refl;
-            some = omega arith;
-            failed = λ e. leb-false (listRoom (shapeOf b .n + 2)) room e;
-            passed = λ e h. let l = leb-true (listRoom (shapeOf b .n + 2)) room e in omega arith;
+            w = h .0;
+            c = h .1;
+            k = h .2;
+            form = h .3;
+            row = h .4;
+            column = h .5;
+            room = basic-room f S (within-read b) (h .2) (h .3) (h .0) (nameOf (f .n) (h .1)) (h .7);
+            high = omega (arith, h .6);
+            set = h .7;
           }
+
+  pub version1-numbered : (room : ℕ) → Numbered (version1Conditions b room) (convertRefusal limits 1 b room)
+  unfolding convertRefusal firstFailed
+  version1-numbered room =
+      then-numbered _ _
+      (numbered (test 18 (not (basicFrom 7 (shapeOf b) (stateOf b))) ∷ test 15 (leb (recordBytes 2 (shapeOf b)) room) ∷ []) _
+      (high-test, λ e. (below-test 15 (recordBytes 2 (shapeOf b)) room (omega arith), λ e. tt)))
+
+  -- version 2 has room for the basic rights of both versions
+  none-above : basicFrom 15 (shapeOf b) (stateOf b) ≡ false
+  unfolding shapeOf
+  none-above = basic-none 15 (shapeOf b) (stateOf b) (λ s. too-high s (widths (shapeOf b .version)))
+    where
+      too-high : SetFrom 15 (shapeOf b) (stateOf b) → TwoOrFour (shapeOf b .width) → ⊥
+      too-high s (inl e) = omega arith
+      too-high s (inr e) = omega arith
+
+  pub version2-numbered : (room : ℕ) → Numbered (version2Conditions b room) (convertRefusal limits 2 b room)
+  unfolding convertRefusal firstFailed
+  version2-numbered room =
+      rw none-above
+      (then-numbered _ _
+      (numbered (test 15 (leb (recordBytes 4 (shapeOf b)) room) ∷ []) _ (below-test 15 (recordBytes 4 (shapeOf b)) room (omega arith), λ e. tt)))

@@ -3,6 +3,7 @@
 use libc::STDOUT_FILENO;
 use matrix::Answer;
 use matrix::Holding;
+use matrix::Numbers;
 
 pub fn say(text: &[u8]) {
     io::write_all(STDOUT_FILENO, text);
@@ -17,13 +18,18 @@ pub fn next(number: u8) {
     report(b" ", number as u64);
 }
 
-// Whether all bytes of a record after a call are those before it.
+// Whether all bytes of a record or an output after a call are those before it.
 pub fn compare(before: &[u8], after: &[u8]) {
     if check::same(before, after) {
         say(b", bytes unchanged");
     } else {
         say(b", bytes changed");
     }
+}
+
+pub fn say_numbers(a: Numbers) {
+    report(b": refusal ", a.refusal);
+    report(b", value ", a.value);
 }
 
 pub fn say_answer(a: Answer) {

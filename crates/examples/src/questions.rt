@@ -1,10 +1,11 @@
-// Row 15 of the refusal table, and safety questions of stations A and B. Each is told by the trust mask, s, o, the right's code and the
+// Row 15 of the refusal table, and safety questions of stations A, A2 and B. Each is told by the trust mask, s, o, the right's code and the
 // number of bytes in the buffer.
 use crate::lines::next;
 use crate::lines::report;
 use crate::lines::say;
 use crate::records::record;
 use crate::records::say_record;
+use crate::records::version;
 use question::Safety;
 ghost use Prim.Native.Nat.{_≤_};
 ghost use Rattle.io.specs.Counts.{Counts};
@@ -38,17 +39,17 @@ fn buffer(room: usize) -> [u8; 35]
 }
 
 fn question(row: u8, len: usize, trust: u8, s: u8, o: u8, right: u8, room: usize)
-    requires { ⌜ len ≤ 32 ⌝ }
+    requires { ⌜ len ≤ 55 ⌝ }
     requires { ⌜ room ≤ 35 ⌝ }
 {
-    let b = record(len, 0, 1);
+    let b = record(len, 0, version(len));
     let mut out = buffer(room);
-    say_record(row, len, 0, 1);
+    say_record(row, len, 0, version(len));
     ask(&b[..len], trust, s, o, right, &mut out[..room]);
 }
 
 pub fn all() {
-    // 34 bytes and 35 bytes; and the lower of two numbers, where bit 3 of the mask is set
+    // 34 bytes and 35 bytes; and the first of two tests that fail, where bit 3 of the mask is set
     question(15, 31, 7, 1, 3, 2, 34);
     question(0, 31, 7, 1, 3, 2, 35);
     question(7, 31, 8, 1, 3, 2, 34);
@@ -64,4 +65,9 @@ pub fn all() {
     question(0, 31, 6, 2, 1, 0, 35);
     question(0, 19, 0, 1, 2, 3, 35);
     question(0, 19, 1, 1, 2, 3, 35);
+    // basic right 14, which version 2 alone has; the codes beyond are out of bounds there too
+    question(7, 31, 5, 1, 3, 30, 35);
+    question(0, 55, 5, 1, 3, 30, 35);
+    question(0, 55, 7, 1, 3, 30, 35);
+    question(7, 55, 5, 1, 3, 32, 35);
 }

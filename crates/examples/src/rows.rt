@@ -33,8 +33,8 @@ fn ask_all(before: &[u8], b: &mut [u8], code: u8, i: u8, s: u8, o: u8, k: u8, ri
 }
 
 fn row(row: u8, len: usize, at: usize, v: u8, code: u8, i: u8, s: u8, o: u8, k: u8, right: u8)
-    requires { ⌜ at < 32 ⌝ }
-    requires { ⌜ len ≤ 32 ⌝ }
+    requires { ⌜ at < 55 ⌝ }
+    requires { ⌜ len ≤ 55 ⌝ }
 {
     let before = record(len, at, v);
     let mut b = before;
@@ -46,13 +46,17 @@ fn row(row: u8, len: usize, at: usize, v: u8, code: u8, i: u8, s: u8, o: u8, k: 
 fn rows_1_to_5() {
     row(0, 31, 0, 1, 4, 1, 1, 2, 0, 2);
     row(1, 6, 0, 1, 4, 1, 1, 2, 0, 2);
-    row(2, 31, 0, 2, 4, 1, 1, 2, 0, 2);
+    row(2, 31, 0, 0, 4, 1, 1, 2, 0, 2);
     row(3, 31, 5, 0, 4, 1, 1, 2, 0, 2);
     row(4, 32, 0, 1, 4, 1, 1, 2, 0, 2);
     row(5, 31, 8, 0, 4, 1, 1, 2, 0, 2);
-    // the lower of two numbers: n and L wrong, L and the matrix wrong
+    // the first of two tests that fail: n and L wrong, L and the matrix wrong
     row(3, 32, 5, 0, 4, 1, 1, 2, 0, 2);
     row(4, 32, 8, 0, 4, 1, 1, 2, 0, 2);
+    // the other version's number, for which L is wrong; and the number of no version
+    row(4, 31, 0, 2, 4, 1, 1, 2, 0, 2);
+    row(4, 55, 0, 1, 4, 1, 1, 2, 0, 2);
+    row(2, 55, 0, 3, 4, 1, 1, 2, 0, 2);
 }
 
 // One subject name, and one plain name, more than the limits allow; and as many as they allow, with an L that is wrong for them.
@@ -81,8 +85,8 @@ fn further() {
     // s and right out of bounds
     row(7, 31, 0, 1, 4, 1, 3, 2, 0, 2);
     row(7, 31, 0, 1, 4, 1, 1, 2, 0, 16);
-    // the lowest of several numbers: code 14 with i = 255, code 3 over an absent log, an absent i creating an existing s, and a
-    // walk that would meet o where i does not own o
+    // the first of several tests that fail: code 14 with i = 255, code 3 over an absent log, an absent i creating an existing s, and
+    // a walk that would meet o where i does not own o
     row(6, 31, 0, 1, 14, 255, 0, 0, 0, 0);
     row(10, 31, 30, 0, 3, 1, 1, 3, 0, 0);
     row(8, 19, 0, 1, 12, 1, 0, 0, 0, 1);
@@ -105,6 +109,23 @@ fn further() {
     row(12, 31, 21, 0x40, 3, 0, 1, 3, 0, 15);
 }
 
+// Rights that version 2 alone has: on A out of bounds, as k and as a code; on A2 given, and held by its code.
+fn versions() {
+    row(7, 31, 0, 1, 4, 2, 2, 3, 0, 16);
+    row(0, 55, 0, 2, 4, 2, 2, 3, 0, 16);
+    row(7, 31, 0, 1, 4, 1, 1, 2, 7, 15);
+    row(0, 55, 0, 2, 4, 1, 1, 2, 7, 16);
+    row(7, 31, 0, 1, 5, 1, 1, 2, 14, 31);
+    row(0, 55, 0, 2, 5, 1, 1, 2, 14, 31);
+    row(7, 55, 0, 2, 4, 1, 1, 2, 15, 32);
+    // in the cell's first byte the highest basic right: by r* it holds r, by r not r*
+    row(12, 55, 35, 0x80, 3, 0, 1, 3, 0, 30);
+    row(12, 55, 35, 0x40, 3, 0, 1, 3, 0, 31);
+    // on A2 the walk meets o, and log 3 goes from 2 to 1
+    row(13, 55, 0, 2, 3, 0, 2, 1, 0, 0);
+    row(0, 55, 0, 2, 3, 2, 1, 3, 0, 0);
+}
+
 // A number that a byte cannot hold is not cut: with i = 0 the command would be accepted.
 fn ask_large(before: &[u8], b: &mut [u8]) {
     say(b"row 7: A, command 4 256 1 1 0");
@@ -124,5 +145,6 @@ pub fn all() {
     limits();
     rows_6_to_14();
     further();
+    versions();
     large();
 }

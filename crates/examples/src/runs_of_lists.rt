@@ -40,7 +40,7 @@ fn say_list(row: u8, len: usize, l: u8, at: usize, v: u8) {
     report(b"row ", row as u64);
     report(b": A, list of ", len as u64);
     report(b" bytes, L = ", l as u64);
-    say_byte(at, v);
+    say_byte(1, at, v);
 }
 
 fn ask(before: &[u8], b: &mut [u8], l: &[u8]) {

@@ -3,13 +3,8 @@
 use crate::lines::next;
 use crate::lines::report;
 use crate::lines::say;
+use crate::lines::say_numbers;
 use history::WINDOW_BYTES;
-use matrix::Numbers;
-
-fn say_numbers(a: Numbers) {
-    report(b": refusal ", a.refusal);
-    report(b", value ", a.value);
-}
 
 // So many entries of one kind.
 fn put_some(w: &mut [u8], times: usize, initiator: u8, outcome: u8) {

@@ -1,4 +1,4 @@
--- The bytes of stations A and B, and the command that their rows give.
+-- The bytes of stations A, A2 and B, and the command that their rows give.
 use Prim.Native.Nat.{ℕ}
 use mathlib.Core.List.{List, [], _∷_}
 use Rattle.matrix.specs.declared.Fields.{Fields}
@@ -22,6 +22,22 @@ A-ends-00 = stationA 0x00 0x00
 -- A with log 3 handed from 2 to 1
 unfoldable pub A-handed : List ℕ
 A-handed = stationA 0x01 0x00
+
+-- Station A2, which is A in version 2 (Manual 11.1): each cell of A with 0000 before it. The second byte of the last cell, in which are the rights
+-- r7 to r10 of subject 2 over log 3, is a parameter.
+abbrev stationA2 : ℕ → List ℕ
+stationA2 high =
+    0x02 ∷ 0x00 ∷ 0x00 ∷ 0x00 ∷ 0x32 ∷ 0x03 ∷ 0x01 ∷
+    0x00 ∷ 0x00 ∷ 0x00 ∷ 0x02 ∷ 0x00 ∷ 0x00 ∷ 0x00 ∷ 0x01 ∷ 0x00 ∷ 0x00 ∷ 0x00 ∷ 0x00 ∷ 0x00 ∷ 0x00 ∷ 0x00 ∷ 0x00 ∷
+    0x00 ∷ 0x00 ∷ 0x00 ∷ 0x00 ∷ 0x00 ∷ 0x00 ∷ 0x00 ∷ 0x02 ∷ 0x00 ∷ 0x00 ∷ 0x00 ∷ 0x01 ∷ 0x00 ∷ 0x00 ∷ 0x00 ∷ 0x00 ∷
+    0x00 ∷ 0x00 ∷ 0x00 ∷ 0x00 ∷ 0x00 ∷ 0x00 ∷ 0x00 ∷ 0x00 ∷ 0x00 ∷ 0x00 ∷ 0x00 ∷ 0x02 ∷ 0x00 ∷ high ∷ 0x00 ∷ 0x01 ∷ []
+
+unfoldable pub A2 : List ℕ
+A2 = stationA2 0x00
+
+-- A2 with the last cell 00010001: subject 2 has r7 over log 3
+unfoldable pub A2-high : List ℕ
+A2-high = stationA2 0x01
 
 -- station B (Manual 11.1)
 unfoldable pub B : List ℕ

@@ -1,9 +1,12 @@
--- The rows of Manual 11.2 about validity and commands, as theorems about the definitions.
+-- The rows of Manual 11.2 about validity, conversions, held questions and commands, as theorems about the definitions.
 use mathlib.Core.Path.{_≡_, refl}
 use mathlib.Core.Bool.{true, false}
-use lib.ListN.{set}
+use mathlib.Core.List.{[]}
+use lib.ListN.{set, replicate}
 use Rattle.matrix.specs.declared.Name.the-variants.{Plain}
 use Rattle.matrix.specs.declared.Answer.the-variants.{Accepted, Refused}
+use Rattle.matrix.specs.declared.Holding.{Holding}
+use Rattle.matrix.specs.Numbers.{numbers}
 use Rattle.matrix.specs.Bounded.{any, all, count, least}
 use Rattle.matrix.specs.State.{existsName}
 use Rattle.matrix.specs.Owners.{walkFrom}
@@ -13,8 +16,9 @@ use Rattle.matrix.specs.Bytes.{numberAt, bytesOfNumber, bit, fromBits, joined}
 use Rattle.matrix.specs.Shape.{limits, shapeOf}
 use Rattle.matrix.specs.Reading.{cellAt, bitAt, stateOf, bytesOf}
 use Rattle.matrix.specs.Record.{climb, validMatrix, recordRefusal}
-use Rattle.matrix.specs.Calls.{validAnswer, refusalOn, linksOn, nextOn, commandAnswer, commandBytes}
-use Rattle.frame.specs.StationBytes.{A, A-ends-00, A-handed, B, transferOwn}
+use Rattle.matrix.specs.Calls.{validAnswer, refusalOn, linksOn, nextOn, commandAnswer, commandBytes, heldRefusal, heldAnswer}
+use Rattle.matrix.specs.Converting.{basicFrom, convertRefusal, converted, convertResult, convertOutput}
+use Rattle.frame.specs.StationBytes.{A, A2, A2-high, A-ends-00, A-handed, B, transferOwn}
 
 -- The rows, under one proof.
 pub record Stations : Type 0 where
@@ -24,6 +28,21 @@ pub record Stations : Type 0 where
   pub a-ends-00-valid : validAnswer limits A-ends-00 ≡ true
   pub log-there : existsName (stateOf A) (Plain 3) ≡ true
   pub log-absent : existsName (stateOf A-ends-00) (Plain 3) ≡ false
+  -- A with byte 0 = 00 is of no version. With byte 0 = 02 it is read as one of version 2, and its L is wrong.
+  pub version-0 : commandAnswer limits (set A 0 0) (transferOwn 1 1 2) ≡ Refused 2 0
+  pub version-2 : commandAnswer limits (set A 0 2) (transferOwn 1 1 2) ≡ Refused 4 0
+  -- A2 is valid.
+  pub a2-valid : validAnswer limits A2 ≡ true
+  -- To version 2 A becomes A2, of 55 bytes, and to version 1 A2 becomes A, of 31 bytes.
+  pub a-to-2 : convertResult limits 2 A (replicate 55 0) ≡ numbers 0 55
+  pub a-to-2-output : convertOutput limits 2 A (replicate 55 0) ≡ A2
+  pub a2-to-1 : convertResult limits 1 A2 (replicate 31 0) ≡ numbers 0 31
+  pub a2-to-1-output : convertOutput limits 1 A2 (replicate 31 0) ≡ A
+  -- With r7 set in its last cell A2 does not become a record of version 1: 18, also where there is no output at all.
+  pub a2-high-to-1 : convertResult limits 1 A2-high [] ≡ numbers 18 0
+  -- Right 16 is r7: on A2 subject 2 does not hold it over log 3, and on A it is out of bounds.
+  pub a2-held : heldAnswer limits A2 2 3 16 ≡ Holding.No
+  pub a-held : heldAnswer limits A 2 3 16 ≡ Holding.Refused 7
   -- On A code 3 (0, 2, 1) is refused by 13, with 1 link, and no byte changes.
   pub walk-meets : commandAnswer limits A (transferOwn 0 2 1) ≡ Refused 13 1
   pub walk-meets-bytes : commandBytes limits A (transferOwn 0 2 1) ≡ A
@@ -44,13 +63,23 @@ pub record Stations : Type 0 where
   pub b-valid : validAnswer limits B ≡ true
 
 pub stations : Stations
-unfolding A A-ends-00 A-handed B any all count least walkFrom firstFailed refusalOf refusal links next numberAt bytesOfNumber bit fromBits joined shapeOf cellAt bitAt stateOf bytesOf climb validMatrix recordRefusal validAnswer refusalOn linksOn nextOn commandAnswer commandBytes
+unfolding A A2 A2-high A-ends-00 A-handed B any all count least walkFrom firstFailed refusalOf refusal links next numberAt bytesOfNumber bit fromBits joined shapeOf cellAt bitAt stateOf bytesOf climb validMatrix recordRefusal validAnswer refusalOn linksOn nextOn commandAnswer commandBytes heldRefusal heldAnswer basicFrom convertRefusal converted convertResult convertOutput
 stations =
     record {
       a-valid = refl;
       a-ends-00-valid = refl;
       log-there = refl;
       log-absent = refl;
+      version-0 = refl;
+      version-2 = refl;
+      a2-valid = refl;
+      a-to-2 = refl;
+      a-to-2-output = refl;
+      a2-to-1 = refl;
+      a2-to-1-output = refl;
+      a2-high-to-1 = refl;
+      a2-held = refl;
+      a-held = refl;
       walk-meets = refl;
       walk-meets-bytes = refl;
       to-itself = refl;

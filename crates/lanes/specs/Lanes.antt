@@ -72,10 +72,14 @@ pub record Laid (b : List ℕ) (m : Matrix) : Type 0 where
   pub some : 1 ≤ m .rows
   pub holds : rowPlace m (m .rows) ≤ length b
 
--- The bits that are seen in each lane from `from` on, after r rows, in a list of `room` places.
-pub record Seen (room : ℕ) (b : List ℕ) (m : Matrix) (r from : ℕ) (seen : List ℕ) : Type 0 where
+-- the bits that are seen in lane j, over all rows
+abbrev pub seenAt : List ℕ → Matrix → ℕ → ℕ
+seenAt b m j = merged (m .rows) (λ v. laneAt b m v j)
+
+-- a list of `room` places of which the first k have what is seen in k lanes from lane c on
+pub record Seen (b : List ℕ) (m : Matrix) (c k room : ℕ) (seen : List ℕ) : Type 0 where
   pub size : length seen ≡ room
-  pub value : (j : ℕ) → from ≤ j → j < m .lanes → getD seen j 0 ≡ merged r (λ v. laneAt b m v j)
+  pub value : (j : ℕ) → j < k → getD seen j 0 ≡ seenAt b m (c + j)
 
 -- Of each lane below `upto`, in lists of `room` places: the low two bits of its upper byte added up, which is how many rows have the lower one
 -- and twice how many have the other; the bits that an odd number of rows have; and the row that has the lowest bit, where just one has it, or

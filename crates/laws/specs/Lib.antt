@@ -1,6 +1,7 @@
 pub mod Tests
 pub mod Same
 pub mod Bounded
+pub mod Basics
 pub mod Counting
 pub mod Passed
 pub mod Changed

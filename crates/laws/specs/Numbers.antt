@@ -18,6 +18,12 @@ use Rattle.matrix.specs.Reading.{stateOf}
 use Rattle.matrix.specs.Record.{recordRefusal}
 use Rattle.matrix.specs.Calls.{heldRefusal, holdsOn, heldAnswer, heldResult, refusalOn, linksOn, commandAnswer, commandResult, runRefusal, runAnswer, runResult}
 use Rattle.laws.specs.Tests.{way}
+use mir.Val.{boolByte}
+
+-- a test as a number, in the definitions and in the code
+pub digit : (t : Bool) → truth t ≡ boolByte t
+digit true = refl
+digit false = refl
 
 pub answer-numbers : (number links : ℕ) → commandNumbers (answer number links) ≡ numbers number links
 answer-numbers number links =

@@ -19,3 +19,4 @@ pub mod Shaped
 pub mod Record
 pub mod CommandList
 pub mod Calls
+pub mod Converting

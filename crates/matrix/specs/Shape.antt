@@ -1,15 +1,17 @@
 -- The record's layout (Manual 2.1): the version, L, n and p in the first 7 bytes, then the cells, row after row. What the version and the bytes 5
 -- and 6 fix is a Shape, which the source declares: version, n and p, the bytes of a cell (`width`), and the place of the first cell (`first`).
+-- A version differs from another in the bytes of its cells alone, and with them in the number of its basic rights.
 use Prim.Native.Nat.{ℕ, _+_, _-_, _*_}
-use mathlib.Core.Bool.{Bool, _&&_}
+use mathlib.Core.Bool.{Bool, cond, _&&_, _||_}
 use mathlib.Core.List.{List}
 use lib.Dec.{eqb, leb}
 use lib.ListN.{length, getD}
 use Rattle.matrix.specs.declared.Shape.{Shape}
 use Rattle.matrix.specs.Bytes.{numberAt}
 
+-- the versions that are read; refusal 2 for any other
 abbrev pub knownVersion : ℕ → Bool
-knownVersion v = eqb v 1
+knownVersion v = eqb v 1 || eqb v 2
 
 -- The limits of records: the most subject names and the most plain names. Refusal 3, and so each call's answer, has them as an argument, since
 -- what is promised of a change of the limits compares the answers under the old ones and the new (Manual 2.3).
@@ -31,17 +33,22 @@ limits = record { subjects = mostSubjects; plain = mostPlain }
 abbrev pub headerBytes : ℕ
 headerBytes = 7
 
--- the bytes of a cell, and the place of the first cell, in a version
+-- the bytes of a cell, 2 in version 1 and 4 in version 2, and the place of the first cell
 abbrev pub widthOf : ℕ → ℕ
-widthOf v = 2
+widthOf v = cond (eqb v 1) 2 4
 
 abbrev pub firstOf : ℕ → ℕ
 firstOf v = headerBytes
 
-unfoldable pub shapeOf : List ℕ → Shape
-shapeOf b = record { version = getD b 0 0; n = getD b 5 0; p = getD b 6 0; width = widthOf (getD b 0 0); first = firstOf (getD b 0 0) }
+-- the shape of a version with n subject names and p plain names, and the one that a record's bytes say
+abbrev pub shapeIn : ℕ → ℕ → ℕ → Shape
+shapeIn v n p = record { version = v; n = n; p = p; width = widthOf v; first = firstOf v }
 
--- a cell's bits, and the number of basic rights that they have room for: own, control and two for each basic right
+unfoldable pub shapeOf : List ℕ → Shape
+shapeOf b = shapeIn (getD b 0 0) (getD b 5 0) (getD b 6 0)
+
+-- a cell's bits, and the number of basic rights that they have room for: own, control and two for each basic right. So version 1 has 16 right
+-- codes and 7 basic rights, version 2 has 32 and 15.
 abbrev pub bitsOf : Shape → ℕ
 bitsOf f = 8 * f .width
 

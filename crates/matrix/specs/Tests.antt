@@ -1,4 +1,4 @@
--- When a command is turned down: the tests 8 to 14 on a decoded command, in number order (Manual 7.1).
+-- When a command is turned down: the tests on a decoded command, in this order: 8, 9, 10, 11, 12, 13, 14 (Manual 7.3).
 use Prim.Native.Nat.{ℕ}
 use mathlib.Core.Bool.{Bool, true, false, cond, not, _&&_, _||_}
 use mathlib.Core.List.{List, [], _∷_}

@@ -5,7 +5,7 @@ use matrix::Shape;
 ghost use mathlib.Core.Path.{_≡_};
 ghost use Prim.Native.Nat.{_≤_, _<_};
 ghost use lib.ListN.{length, getD};
-ghost use Rattle.matrix.specs.Shape.{headerBytes, widthOf, firstOf, shapeOf};
+ghost use Rattle.matrix.specs.Shape.{headerBytes, widthOf, firstOf, shapeIn, shapeOf};
 
 // The byte at a place, as a number.
 pub fn byte(b: &[u8], j: usize) -> usize
@@ -19,7 +19,7 @@ pub fn byte(b: &[u8], j: usize) -> usize
 fn width_of(version: usize) -> usize
     ensures { λ w. ⌜ w ≡ widthOf version ⌝ }
 {
-    2
+    if version == 1 { 2 } else { 4 }
 }
 
 // The place of the first cell in a version.
@@ -29,17 +29,23 @@ fn first_of(version: usize) -> usize
     HEADER_BYTES
 }
 
+// The shape of a version with n subject names and p plain names.
+pub fn shape_in(version: usize, n: usize, p: usize) -> Shape
+    ensures { λ f. ⌜ f ≡ shapeIn version n p ⌝ }
+{
+    Shape {
+        version,
+        n,
+        p,
+        width: width_of(version),
+        first: first_of(version),
+    }
+}
+
 // The shape that a record's bytes say.
 pub fn shape(b: &[u8]) -> Shape
     requires { ⌜ headerBytes ≤ length (now b) ⌝ }
     ensures { λ f. ⌜ f ≡ shapeOf (now (b .entry)) ⌝ }
 {
-    let version = byte(b, 0);
-    Shape {
-        version,
-        n: byte(b, 5),
-        p: byte(b, 6),
-        width: width_of(version),
-        first: first_of(version),
-    }
+    shape_in(byte(b, 0), byte(b, 5), byte(b, 6))
 }

@@ -17,7 +17,7 @@ use Rattle.matrix.specs.State.{State, exists}
 use Rattle.matrix.specs.Shape.{mostSubjects, basicsOf}
 use Rattle.matrix.specs.Reading.{stateOf}
 use Rattle.codec.specs.Columns.{named-below}
-use Rattle.codec.specs.ShapeRight.{ShapeRight, width-some, width-most}
+use Rattle.codec.specs.ShapeRight.{ShapeRight, width-some}
 use Rattle.cells.specs.Station.{right-shape}
 use Rattle.states.specs.Needs.{RightIn}
 use Rattle.question.specs.declared.Safety.{Safety}
@@ -102,7 +102,7 @@ module _ {b : List ℕ} {f : Shape} {s : ℕ} {x : Name} {y : Right} {w : Way} {
         by = omega (arith, few);
         to = omega (arith, few);
         over = columns-few;
-        number = omega (arith, number-in y shape (q .bit .right), width-most f shape);
+        number = omega (arith, number-in y shape (q .bit .right), shape .width-most);
       }
 
   pub head-of : {mid : List ℕ} {k : ℕ} → k ≤ f .n + 2 → length mid ≡ length out → HeadRoom mid k

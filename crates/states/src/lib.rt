@@ -78,7 +78,7 @@ pub fn has_bit(b: &[u8], f: Shape, y: Right, w: usize, x: Name) -> bool
 {
     let c = column_of(x);
     let j = code_of(y);
-    cells::bit_of(cells::cell(b, f, w, c), j)
+    cells::has(b, f, w, c, j)
 }
 
 // Whether subject s exists.

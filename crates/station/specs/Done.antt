@@ -5,12 +5,14 @@ use mathlib.Core.Logic.{⊎-elim}
 use mathlib.Core.Bool.{Bool, true, false, cond}
 use mathlib.Core.List.{List}
 use lib.Dec.{eqb}
+use lib.ListN.{length}
 use borrow.Author.Tests.{ne-eqb}
 use Rattle.matrix.specs.declared.Fields.{Fields}
 use Rattle.matrix.specs.declared.Answer.{Answer}
 use Rattle.matrix.specs.declared.Answer.the-variants.{Refused}
 use Rattle.matrix.specs.declared.Outcome.{Outcome}
 use Rattle.matrix.specs.declared.Shape.{Shape}
+use Rattle.matrix.specs.Numbers.{numbers}
 use Rattle.matrix.specs.State.{State}
 use Rattle.matrix.specs.Tests.{firstFailed}
 use Rattle.matrix.specs.Step.{refusal, next}
@@ -19,6 +21,7 @@ use Rattle.matrix.specs.Reading.{stateOf, content, bytesOf}
 use Rattle.matrix.specs.Record.{recordRefusal}
 use Rattle.matrix.specs.CommandList.{wellFormed}
 use Rattle.matrix.specs.Calls.{validAnswer, heldAnswer, refusalOn, nextOn, commandAnswer, commandBytes, runRefusal, runAnswer, runBytes}
+use Rattle.matrix.specs.Converting.{convertRefusal, convertResult, convertOutput}
 use Rattle.laws.specs.Tests.{way}
 use Rattle.codec.specs.RoundTrip.{read-write}
 use Rattle.cells.specs.Station.{Station}
@@ -71,6 +74,14 @@ module _ (b : List ℕ) {m : ℕ} (number : m ≡ recordRefusal limits b) (turne
 
   pub held-turned-down : (s o right : ℕ) → Rattle.matrix.specs.declared.Holding.the-variants.Refused m ≡ heldAnswer limits b s o right
   held-turned-down s o right = ap (λ (m : ℕ). Rattle.matrix.specs.declared.Holding.the-variants.Refused m) number ∙ held-refused b s o right (λ e. turned (number ∙ e))
+
+  convert-refusal : (v room : ℕ) → convertRefusal limits v b room ≡ recordRefusal limits b
+  unfolding convertRefusal firstFailed
+  convert-refusal v room = rw not-zero refl
+
+  pub convert-turned-down : (v : ℕ) (out : List ℕ) → (numbers m 0 ≡ convertResult limits v b out) × (out ≡ convertOutput limits v b out)
+  unfolding convertResult convertOutput
+  convert-turned-down v out = (rw (convert-refusal v (length out), not-zero) (ap (λ (m : ℕ). numbers m 0) number), rw (convert-refusal v (length out), not-zero) refl)
 
   run-refusal : (l : List ℕ) → runRefusal limits b l ≡ recordRefusal limits b
   unfolding runRefusal firstFailed

@@ -4,12 +4,15 @@ use matrix::Answer;
 use matrix::Fields;
 use matrix::Holding;
 use matrix::MOST_SUBJECTS;
+use matrix::Numbers;
 use matrix::Outcome;
 use question::Safety;
 ghost use mathlib.Core.Path.{_≡_};
 ghost use Rattle.matrix.specs.Numbers.{heldNumbers, commandNumbers, runNumbers};
-ghost use Rattle.matrix.specs.Shape.{limits};
+ghost use mathlib.Core.Bool.{true};
+ghost use Rattle.matrix.specs.Shape.{limits, knownVersion};
 ghost use Rattle.matrix.specs.Calls.{validAnswer, heldAnswer, heldResult, commandAnswer, commandResult, commandBytes, runAnswer, runResult, runBytes};
+ghost use Rattle.matrix.specs.Converting.{convertResult, convertOutput};
 ghost use Rattle.question.specs.Asked.{Answers};
 ghost use Rattle.station.specs.Given.{fieldsOf};
 
@@ -76,6 +79,39 @@ pub fn run(b: &mut [u8], l: &[u8]) -> Outcome
     }
     let f = opening::shape(b);
     runs::run_on(b, f, &mut owners, l)
+}
+
+// The record in a version, which is one that is read, at the start of `out`.
+fn convert(b: &[u8], version: usize, out: &mut [u8]) -> Numbers
+    requires { ⌜ knownVersion version ≡ true ⌝ }
+    ensures result { λ r. ⌜ r ≡ convertResult limits version (now (b .entry)) (now (out .entry)) ⌝ }
+    ensures output { λ r. ⌜ now (out .exit) ≡ convertOutput limits version (now (b .entry)) (now (out .entry)) ⌝ }
+{
+    let turned = validity::refusal(b);
+    if turned != 0 {
+        return Numbers {
+            refusal: turned as u64,
+            value: 0,
+        };
+    }
+    let f = opening::shape(b);
+    converting::convert(b, f, version, out)
+}
+
+// The record in version 1 at the start of `out`: refusal 0 and the bytes of the new record, or the refusal and 0.
+pub fn to_version_1(b: &[u8], out: &mut [u8]) -> Numbers
+    ensures result { λ r. ⌜ r ≡ convertResult limits 1 (now (b .entry)) (now (out .entry)) ⌝ }
+    ensures output { λ r. ⌜ now (out .exit) ≡ convertOutput limits 1 (now (b .entry)) (now (out .entry)) ⌝ }
+{
+    convert(b, 1, out)
+}
+
+// The record in version 2 at the start of `out`.
+pub fn to_version_2(b: &[u8], out: &mut [u8]) -> Numbers
+    ensures result { λ r. ⌜ r ≡ convertResult limits 2 (now (b .entry)) (now (out .entry)) ⌝ }
+    ensures output { λ r. ⌜ now (out .exit) ≡ convertOutput limits 2 (now (b .entry)) (now (out .entry)) ⌝ }
+{
+    convert(b, 2, out)
 }
 
 // The safety question: safe, or leaks by a list that is written at the start of `out`, or refused by a number.

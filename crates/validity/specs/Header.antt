@@ -13,11 +13,11 @@ use Rattle.matrix.specs.Shape.{limits, headerBytes, mostSubjects, mostPlain, sh
 use Rattle.matrix.specs.Reading.{stateOf}
 use Rattle.matrix.specs.Tests.{firstFailed}
 use Rattle.matrix.specs.Record.{validMatrix, recordRefusal}
-use Rattle.codec.specs.ShapeRight.{ShapeRight}
+use Rattle.codec.specs.ShapeRight.{ShapeRight, two-or-four}
 use Rattle.cells.specs.Station.{Station, right-shape}
 use Rattle.lanes.specs.declared.Matrix.{Matrix}
 use Rattle.lanes.specs.Lanes.{rowPlace}
-use Rattle.columns.specs.Cells.{lanesOf, matrixOf, rows-size, lanes-more}
+use Rattle.columns.specs.Cells.{cellLanes, lanesOf, matrixOf, rows-size, lanes-more, lanes-of-width}
 use Rattle.columns.specs.Checks.{Celled}
 
 -- bytes with a header, with f the shape that they say, which passes the tests 2 and 3
@@ -27,17 +27,19 @@ pub record Headed (b : List ℕ) (f : Shape) : Type 0 where
   pub right : ShapeRight f
 
 -- the lanes of the cells of a record's bytes
-pub lanes-celled : (b : List ℕ) (f : Shape) (m : Matrix) → Station b f → m ≡ matrixOf f → Celled b m
+pub lanes-celled : (b : List ℕ) (f : Shape) (m : Matrix) → Station b f → m ≡ matrixOf f → Celled (cellLanes f) b m
 lanes-celled b f m s e =
     let h = right-shape s in
     let size : rowPlace m (m .rows) ≡ length b =
     ap (λ (x : Matrix). rowPlace x (x .rows)) (e ∙ ap matrixOf (s .shape)) ∙ sym (rows-size b) ∙ sym (s .shaped .size) in
     let rows : m .rows ≡ f .n = ap (λ (x : Matrix). x .rows) e in
-    let width : m .lanes ≡ lanesOf (columns f) = ap (λ (x : Matrix). x .lanes) e in
+    let cells = lanes-of-width f (two-or-four f h) .0 in
+    let width : m .lanes ≡ lanesOf (cellLanes f) (columns f) = ap (λ (x : Matrix). x .lanes) e in
     record {
       laid = record { some = omega (arith, h .low); holds = omega arith };
+      cells = cells;
       subjects = omega (arith, h .high);
-      inside = rw width (lanes-more (m .rows) (columns f) (omega arith));
+      inside = rw width (lanes-more cells (m .rows) (columns f) (omega arith));
     }
 
 -- the number of cells fits

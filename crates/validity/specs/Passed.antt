@@ -17,12 +17,12 @@ use Rattle.laws.specs.Counting.{some-count}
 use Rattle.laws.specs.BitOps.{bit-or}
 use Rattle.codec.specs.Bits.{bit-zero}
 use Rattle.lanes.specs.declared.Matrix.{Matrix}
-use Rattle.lanes.specs.Lanes.{merged, paired, rowBytes, rowPlace, laneAt, upperAt, Seen, Counted}
+use Rattle.lanes.specs.Lanes.{merged, paired, rowBytes, rowPlace, laneAt, upperAt, seenAt, Counted}
 use Rattle.lanes.specs.LaneLaws.{lows-counts, paired-bit, lane-bit}
 use Rattle.lanes.specs.Zeros.{row-zero}
-use Rattle.columns.specs.Cells.{mostRow, mostCounted, lanesOf, lastLane, bitsIn, ownBit, controlBit, zeroCell, lanes-more, last-inside, last-after, bits-same, column-cells, row-cells}
-use Rattle.columns.specs.Checks.{present, zeroFrom, judged, unseen, subjectTest, plainTest}
-use Rattle.columns.specs.Loops.{plain-bits}
+use Rattle.columns.specs.Cells.{OneOrTwo, mostCounted, lanesOf, lastLane, ownBit, controlBit, zeroCell, last-inside, column-cells, row-cells}
+use Rattle.columns.specs.Checks.{zeroFrom, judged, unseen, subjectTest}
+use Rattle.plains.specs.Checks.{plainTest, plain-bits}
 use Rattle.owner_table.specs.Followed.{followed, followed-same}
 use Rattle.owner_table.specs.Table.{reach, Inside}
 use Rattle.validity.specs.Fast.{subjectRight, plainRight, ownerMark, allAscend, testsPass}
@@ -75,53 +75,39 @@ merged-bit k zero f = bit-zero k
 merged-bit k (suc n) f = bit-or k (merged n f) (f n) ∙ ap (λ (t : Bool). t || bit k (f n)) (merged-bit k n f)
 
 -- the owner of subject s, as the pass has left it
-abbrev pub ownerAt : List ℕ → ℕ → ℕ
-ownerAt marks s = getD marks (lastLane s) 0
+abbrev pub ownerAt : ℕ → List ℕ → ℕ → ℕ
+ownerAt q marks s = getD marks (lastLane q s) 0
 
--- The tests of the lists' entries. Where not all subjects exist, the columns of subjects are merged too.
-module _ (b : List ℕ) (octets : Octets b) (m : Matrix) (k : ℕ) (full : Bool) (seen tally odd marks : List ℕ) (width : m .lanes ≡ lanesOf k)
-    (whole : full ≡ all (m .rows) (present b m)) (saw : Seen mostRow b m (m .rows) (cond full (lanesOf (m .rows)) 0) seen)
-    (kept : Counted mostCounted b m (lanesOf (m .rows)) tally odd marks) (inside : m .rows ≤ k) where
+-- The tests of the lists' entries, and of what is seen in the lanes.
+module _ (b : List ℕ) (octets : Octets b) (m : Matrix) (k : ℕ) {q : ℕ} (cells : OneOrTwo q) (tally odd marks : List ℕ) (width : m .lanes ≡ lanesOf q k)
+    (kept : Counted mostCounted b m (lanesOf q (m .rows)) tally odd marks) (inside : m .rows ≤ k) where
   abbrev n : ℕ
   n = m .rows
 
   abbrev O : ℕ → ℕ → Bool
-  O = ownBit b m
+  O = ownBit q b m
 
   abbrev C : ℕ → ℕ → Bool
-  C = controlBit b m
+  C = controlBit q b m
 
   abbrev Z : ℕ → ℕ → Bool
-  Z = zeroCell b m
-
-  -- the lanes of the columns that are merged
-  merged-from : (j : ℕ) → lanesOf (cond full n 0) ≤ j → cond full (lanesOf n) 0 ≤ j
-  merged-from j = go (way full)
-    where
-      go : (full ≡ true) ⊎ (full ≡ false) → lanesOf (cond full n 0) ≤ j → cond full (lanesOf n) 0 ≤ j
-      go (inl e) = rw e (λ h. h)
-      go (inr e) = rw e (λ h. omega arith)
-
-  seen-lane : (j : ℕ) → lanesOf (cond full n 0) ≤ j → j < lanesOf k → getD seen j 0 ≡ merged n (λ w. laneAt b m w j)
-  seen-lane j g l = saw .value j (merged-from j g) (rw width l)
+  Z = zeroCell q b m
 
   -- a column of the matrix is zero where nothing is seen in it
-  column-zero : (c : ℕ) → cond full n 0 ≤ c → c < k → unseen seen c ≡ all n (λ w. Z w c)
-  column-zero c g l =
-      ap (λ (x : ℕ). eqb x 0) (bits-same (λ j. getD seen j 0) (λ j. merged n (λ w. laneAt b m w j)) (cond full n 0) c k g l seen-lane)
-      ∙ column-cells n (λ w j. laneAt b m w j) c
+  column-zero : (c : ℕ) → unseen q (seenAt b m) c ≡ all n (λ w. Z w c)
+  column-zero c = column-cells cells n (λ w j. laneAt b m w j) c
 
   row-read : (s : ℕ) → zeroFrom b (rowPlace m s) (rowBytes m) ≡ all k (λ c. Z s c)
-  row-read s = row-zero b m s ∙ ap (λ (x : ℕ). all x (λ j. eqb (laneAt b m s j) 0)) width ∙ row-cells k (λ j. laneAt b m s j)
+  row-read s = row-zero b m s ∙ ap (λ (x : ℕ). all x (λ j. eqb (laneAt b m s j) 0)) width ∙ row-cells cells k (λ j. laneAt b m s j)
 
-  subject-passed : (s : ℕ) → s < n → subjectTest b m seen tally odd s ≡ subjectRight n k O C Z s
+  subject-passed : (s : ℕ) → s < n → subjectTest q b m (seenAt b m) tally odd s ≡ subjectRight n k O C Z s
   unfolding subjectTest subjectRight
   subject-passed s l =
-      (λ i. judged (C s s) s (tally-read i) (odd-read i) (unseen seen s && row-read s i))
+      (λ i. judged (C s s) s (tally-read i) (odd-read i) (unseen q (seenAt b m) s && row-read s i))
       ∙ go (way (C s s)) (way (eqb s 0))
     where
       uppers : ℕ → ℕ
-      uppers v = upperAt b m v (lastLane s)
+      uppers v = upperAt b m v (lastLane q s)
 
       owners : ℕ
       owners = count n (λ w. O w s)
@@ -132,73 +118,63 @@ module _ (b : List ℕ) (octets : Octets b) (m : Matrix) (k : ℕ) (full : Bool)
       zeros : Bool
       zeros = all k (λ c. Z s c)
 
-      tally-read : getD tally (lastLane s) 0 ≡ owners + 2 * controllers
-      tally-read = kept .sums .value (lastLane s) (last-inside s n l) ∙ lows-counts n uppers
+      tally-read : getD tally (lastLane q s) 0 ≡ owners + 2 * controllers
+      tally-read = kept .sums .value (lastLane q s) (last-inside cells s n l) ∙ lows-counts n uppers
 
-      odd-read : getD odd (lastLane s) 0 ≡ paired n uppers
-      odd-read = kept .parity .value (lastLane s) (last-inside s n l)
+      odd-read : getD odd (lastLane q s) 0 ≡ paired n uppers
+      odd-read = kept .parity .value (lastLane q s) (last-inside cells s n l)
 
       parity : bit 1 (paired n uppers) ≡ eqb (controllers % 2) 1
       parity = paired-bit 1 n uppers
 
-      -- an absent subject's column is merged
-      from-first : C s s ≡ false → cond full n 0 ≤ s
-      from-first e = let f : full ≡ false = whole ∙ all-fails n (present b m) s l e in rw f (omega arith)
-
       go : (C s s ≡ true) ⊎ (C s s ≡ false) → (eqb s 0 ≡ true) ⊎ (eqb s 0 ≡ false)
-          → judged (C s s) s (owners + 2 * controllers) (paired n uppers) (unseen seen s && zeros)
+          → judged (C s s) s (owners + 2 * controllers) (paired n uppers) (unseen q (seenAt b m) s && zeros)
           ≡ cond (C s s) (cond (eqb s 0) (eqb owners 0 && eqb controllers 1) (eqb owners 1 && leb controllers 2))
           (not (eqb s 0) && (all n (λ w. Z w s) && zeros))
       go (inl e) (inl z) = rw (e, z, parity) (root-tally owners controllers)
       go (inl e) (inr z) = rw (e, z, parity) (other-tally owners controllers (some-count n _ (any-hit n _ s l e)))
-      go (inr e) z = rw (e, column-zero s (from-first e) (omega arith)) refl
+      go (inr e) z = rw (e, column-zero s) refl
 
-  plain-passed : (c : ℕ) → n ≤ c → c < k → plainTest seen c ≡ plainRight n O C Z c
+  plain-passed : (c : ℕ) → plainTest q (seenAt b m) c ≡ plainRight n O C Z c
   unfolding plainRight
-  plain-passed c g l =
-      let f : cond full n 0 ≤ c = from (way full) in
-      let e : getD seen (lastLane c) 0 ≡ merged n (λ w. laneAt b m w (lastLane c)) = seen-lane (lastLane c) (last-after _ c f) (last-inside c k l) in
-      let p : bit 8 (getD seen (lastLane c) 0) ≡ any n (λ w. O w c) =
-      ap (bit 8) e ∙ merged-bit 8 n (λ w. laneAt b m w (lastLane c)) ∙ any-same n _ _ (λ w h. lane-bit b octets m 0 w (lastLane c)) in
-      let q : bit 9 (getD seen (lastLane c) 0) ≡ any n (λ w. C w c) =
-      ap (bit 9) e ∙ merged-bit 9 n (λ w. laneAt b m w (lastLane c)) ∙ any-same n _ _ (λ w h. lane-bit b octets m 1 w (lastLane c)) in
-      plain-bits seen c ∙ (λ i. cond (p i) (not (q i)) (column-zero c f l i))
-    where
-      from : (full ≡ true) ⊎ (full ≡ false) → cond full n 0 ≤ c
-      from (inl e) = rw e g
-      from (inr e) = rw e (omega arith)
+  plain-passed c =
+      let p : bit 8 (seenAt b m (lastLane q c)) ≡ any n (λ w. O w c) =
+      merged-bit 8 n (λ w. laneAt b m w (lastLane q c)) ∙ any-same n _ _ (λ w h. lane-bit b octets m 0 w (lastLane q c)) in
+      let q : bit 9 (seenAt b m (lastLane q c)) ≡ any n (λ w. C w c) =
+      merged-bit 9 n (λ w. laneAt b m w (lastLane q c)) ∙ any-same n _ _ (λ w h. lane-bit b octets m 1 w (lastLane q c)) in
+      plain-bits cells (seenAt b m) c ∙ (λ i. cond (p i) (not (q i)) (column-zero c i))
 
-  owner-marked : (s : ℕ) → s < n → ownerAt marks s ≡ ownerMark n O s
-  owner-marked s l = kept .owner .value (lastLane s) (last-inside s n l)
+  owner-marked : (s : ℕ) → s < n → ownerAt q marks s ≡ ownerMark n O s
+  owner-marked s l = kept .owner .value (lastLane q s) (last-inside cells s n l)
 
   module _ (p : ℕ) (wide : k ≡ n + p) (some : 0 < n) where
     abbrev Here : Type 0
     Here = Framed n (n + p) O C Z
 
     marks-below : Here → (s : ℕ) → s < n → ownerMark n O s < n
-    marks-below = mark-inside n p O C Z (cell-bits b m) some
+    marks-below = mark-inside n p O C Z (cell-bits cells b m) some
 
-    subjects-passed : all n (subjectTest b m seen tally odd) ≡ all n (subjectRight n (n + p) O C Z)
+    subjects-passed : all n (subjectTest q b m (seenAt b m) tally odd) ≡ all n (subjectRight n (n + p) O C Z)
     subjects-passed = all-same n _ _ subject-passed ∙ ap (λ (i : ℕ). all n (subjectRight n i O C Z)) wide
 
-    plains-passed : all p (λ i. plainTest seen (n + i)) ≡ all p (λ i. plainRight n O C Z (n + i))
-    plains-passed = all-same p _ _ (λ i l. plain-passed (n + i) (omega arith) (omega arith))
+    plains-passed : all p (λ i. plainTest q (seenAt b m) (n + i)) ≡ all p (λ i. plainRight n O C Z (n + i))
+    plains-passed = all-same p _ _ (λ i l. plain-passed (n + i))
 
     -- where the tests of all columns pass, every owner that is found is a subject
-    pub owners-inside : all n (subjectTest b m seen tally odd) ≡ true → all p (λ i. plainTest seen (n + i)) ≡ true → Inside n (ownerAt marks)
+    pub owners-inside : all n (subjectTest q b m (seenAt b m) tally odd) ≡ true → all p (λ i. plainTest q (seenAt b m) (n + i)) ≡ true → Inside n (ownerAt q marks)
     owners-inside g h =
-        let f : Here = tests-framed n p _ _ _ (cell-bits b m) some (sym subjects-passed ∙ g) (sym plains-passed ∙ h) in
+        let f : Here = tests-framed n p _ _ _ (cell-bits cells b m) some (sym subjects-passed ∙ g) (sym plains-passed ∙ h) in
         record { below = λ s l. rw (owner-marked s l) (marks-below f s l) }
 
-    ascend-passed : Here → all n (λ s. eqb (followed (ownerAt marks) reach s) 0) ≡ allAscend n O
+    ascend-passed : Here → all n (λ s. eqb (followed (ownerAt q marks) reach s) 0) ≡ allAscend n O
     ascend-passed f =
         all-same n _ _ (λ s l. ap (λ (x : ℕ). eqb x 0)
-        (followed-same (ownerAt marks) (ownerMark n O) (λ s. s < n) owner-marked (marks-below f) reach s l))
+        (followed-same (ownerAt q marks) (ownerMark n O) (λ s. s < n) owner-marked (marks-below f) reach s l))
 
     -- what the code tests is what is to be tested
     pub all-passed :
-        (all n (subjectTest b m seen tally odd) && all p (λ i. plainTest seen (n + i)) && all n (λ s. eqb (followed (ownerAt marks) reach s) 0))
+        (all n (subjectTest q b m (seenAt b m) tally odd) && all p (λ i. plainTest q (seenAt b m) (n + i)) && all n (λ s. eqb (followed (ownerAt q marks) reach s) 0))
         ≡ testsPass n p O C Z
     all-passed =
-        (λ i. subjects-passed i && plains-passed i && all n (λ s. eqb (followed (ownerAt marks) reach s) 0))
-        ∙ and-last _ _ (λ g h. ascend-passed (tests-framed n p _ _ _ (cell-bits b m) some g h))
+        (λ i. subjects-passed i && plains-passed i && all n (λ s. eqb (followed (ownerAt q marks) reach s) 0))
+        ∙ and-last _ _ (λ g h. ascend-passed (tests-framed n p _ _ _ (cell-bits cells b m) some g h))

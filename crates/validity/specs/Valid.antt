@@ -19,7 +19,7 @@ use Rattle.laws.specs.Bounded.{all-same, count-same, least-same}
 use Rattle.owner_table.specs.Followed.{followed}
 use Rattle.validity.specs.Fast.{ownerStep, zeroAbsent, plainFree, rootAlone, oneEach, ascends, fiveHold, testsPass}
 use Rattle.validity.specs.Tested.{tests-five}
-use Rattle.columns.specs.Cells.{matrixOf, ownBit, controlBit, zeroCell}
+use Rattle.columns.specs.Cells.{cellLanes, matrixOf, ownBit, controlBit, zeroCell, one-or-two}
 use Rattle.validity.specs.Cells.{own-subject, control-subject, control-plain, empty-read, column-read, cell-bits}
 
 -- climbing owners is following them, where the subjects below n have the same owners
@@ -37,13 +37,13 @@ climb-follows n owns O h (suc j) s l =
 
 module _ (b : List ℕ) (octets : Octets b) where
   abbrev O : ℕ → ℕ → Bool
-  O = ownBit b (matrixOf (shapeOf b))
+  O = ownBit (cellLanes (shapeOf b)) b (matrixOf (shapeOf b))
 
   abbrev C : ℕ → ℕ → Bool
-  C = controlBit b (matrixOf (shapeOf b))
+  C = controlBit (cellLanes (shapeOf b)) b (matrixOf (shapeOf b))
 
   abbrev Z : ℕ → ℕ → Bool
-  Z = zeroCell b (matrixOf (shapeOf b))
+  Z = zeroCell (cellLanes (shapeOf b)) b (matrixOf (shapeOf b))
 
   abbrev n : ℕ
   n = shapeOf b .n
@@ -87,5 +87,5 @@ module _ (b : List ℕ) (octets : Octets b) where
 
   -- the matrix of a record is valid just where the tests of one pass over its bytes pass
   pub valid-tests : 0 < shapeOf b .n → shapeOf b .n ≤ mostSubjects
-      → testsPass (shapeOf b .n) (shapeOf b .p) (ownBit b (matrixOf (shapeOf b))) (controlBit b (matrixOf (shapeOf b))) (zeroCell b (matrixOf (shapeOf b))) ≡ validMatrix (shapeOf b) (stateOf b)
-  valid-tests some most = tests-five n (shapeOf b .p) O C Z (cell-bits b (matrixOf (shapeOf b))) some (omega arith) ∙ sym (valid-five some)
+      → testsPass (shapeOf b .n) (shapeOf b .p) (ownBit (cellLanes (shapeOf b)) b (matrixOf (shapeOf b))) (controlBit (cellLanes (shapeOf b)) b (matrixOf (shapeOf b))) (zeroCell (cellLanes (shapeOf b)) b (matrixOf (shapeOf b))) ≡ validMatrix (shapeOf b) (stateOf b)
+  valid-tests some most = tests-five n (shapeOf b .p) O C Z (cell-bits (one-or-two b) b (matrixOf (shapeOf b))) some (omega arith) ∙ sym (valid-five some)

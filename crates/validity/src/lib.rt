@@ -3,48 +3,58 @@ ghost use mathlib.Core.Path.{_≡_};
 ghost use Prim.Native.Nat.{_≤_};
 ghost use lib.ListN.{length, replicate};
 ghost use Rattle.matrix.specs.Bytes.{numberAt};
-ghost use Rattle.matrix.specs.Shape.{limits, headerBytes, mostSubjects, shapeOf, inRange, sized};
+ghost use Rattle.matrix.specs.Shape.{limits, headerBytes, mostSubjects, knownVersion, shapeOf, inRange, sized};
 ghost use Rattle.matrix.specs.Reading.{stateOf};
 ghost use Rattle.matrix.specs.Record.{validMatrix, recordRefusal};
 ghost use Rattle.cells.specs.Station.{Station};
 ghost use Rattle.validity.specs.Header.{Headed};
 use columns::COUNTED;
-use columns::ROW;
 use lanes::Matrix;
 use matrix::HEADER_BYTES;
 use matrix::MOST_PLAIN;
 use matrix::MOST_SUBJECTS;
 use matrix::Shape;
 
-// The matrix of a record of this shape is valid. Where all subjects exist, what is seen in their columns is not needed. The table `owners`,
-// of zeros at first, is left with a guess of who owns each subject, of which nothing is promised.
-fn valid(b: &[u8], f: Shape, owners: &mut [u8; COUNTED]) -> bool
+// The matrix of a record of this shape is valid. Its cells are lanes, one each or two. The table `owners` is left with a guess of who owns each
+// subject, of which nothing is promised.
+fn valid(b: &[u8], f: Shape, owners: &mut [u8; MOST_SUBJECTS]) -> bool
     requires { ⌜ Station (now b) f × (now owners ≡ replicate mostSubjects 0) ⌝ }
     ensures verdict { λ r. ⌜ r ≡ validMatrix (shapeOf (now (b .entry))) (stateOf (now (b .entry))) ⌝ }
     ensures table { λ r. ⌜ length (now (owners .exit)) ≡ mostSubjects ⌝ }
 {
     let n = f.n;
+    let q = f.width / 2;
     let m = Matrix {
         first: f.first,
         rows: n,
-        lanes: columns::lanes_of(n + f.p),
+        lanes: columns::lanes_of(q, n + f.p),
     };
-    let subjects = columns::lanes_of(n);
     let mut tally = [0u8; COUNTED];
     let mut odd = [0u8; COUNTED];
-    counting::count(&mut tally, &mut odd, owners, b, m, subjects);
-    let full = columns::all_present(b, m);
-    let mut seen = [0u16; ROW];
-    let from = if full { subjects } else { 0 };
-    merging::merge(&mut seen, b, m, from);
-    if !columns::subjects(b, &seen, &tally, &odd, m, full) {
+    let mut marks = [0u8; COUNTED];
+    counting::count(
+        &mut tally,
+        &mut odd,
+        &mut marks,
+        b,
+        m,
+        columns::lanes_of(q, n),
+    );
+    if !columns::subjects(b, &tally, &odd, m, q) {
         return false;
     }
-    if !columns::plains(&seen, f) {
+    if !plains::plains(b, f, m, q) {
         return false;
     }
-    columns::owners(owners, n);
+    columns::owners(owners, &marks, q, n);
     owner_table::rooted(owners, n)
+}
+
+// The version is one that is read.
+fn known_version(version: usize) -> bool
+    ensures { λ r. ⌜ r ≡ knownVersion version ⌝ }
+{
+    if version == 1 { true } else { version == 2 }
 }
 
 // n and p are within the limits.
@@ -84,7 +94,7 @@ fn right_size(b: &[u8], f: Shape) -> bool
 
 // The refusal, 1 to 5, of a record, or 0 if it is valid. The table `owners`, of zeros at first, is left with a guess of who owns each
 // subject, for callers that follow owners: they test each guess, so nothing is promised of it.
-pub fn refusal_with(b: &[u8], owners: &mut [u8; COUNTED]) -> usize
+pub fn refusal_with(b: &[u8], owners: &mut [u8; MOST_SUBJECTS]) -> usize
     requires { ⌜ now owners ≡ replicate mostSubjects 0 ⌝ }
     ensures refusal { λ r. ⌜ r ≡ recordRefusal limits (now (b .entry)) ⌝ }
     ensures table { λ r. ⌜ length (now (owners .exit)) ≡ mostSubjects ⌝ }
@@ -93,7 +103,7 @@ pub fn refusal_with(b: &[u8], owners: &mut [u8; COUNTED]) -> usize
         return 1;
     }
     let f = opening::shape(b);
-    if f.version != 1 {
+    if !known_version(f.version) {
         return 2;
     }
     if !in_range(f) {
@@ -109,6 +119,6 @@ pub fn refusal_with(b: &[u8], owners: &mut [u8; COUNTED]) -> usize
 pub fn refusal(b: &[u8]) -> usize
     ensures { λ r. ⌜ r ≡ recordRefusal limits (now (b .entry)) ⌝ }
 {
-    let mut owners = [0u8; COUNTED];
+    let mut owners = [0u8; MOST_SUBJECTS];
     refusal_with(b, &mut owners)
 }

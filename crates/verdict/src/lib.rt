@@ -1,4 +1,4 @@
-// The verdict on a command: the tests 8 to 14 in number order, with the links of the owner walk.
+// The verdict on a command: the tests 8 to 14, one after another, with the links of the owner walk.
 
 use matrix::Act;
 use matrix::Command;

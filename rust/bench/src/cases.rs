@@ -3,37 +3,13 @@
 use std::hint::black_box;
 use std::rc::Rc;
 
-use bunvespo::{MOST_PLAIN, MOST_SUBJECTS};
-
 use crate::lists::{accepted_commands, encode};
 use crate::measure::Case;
 use crate::numbers::Numbers;
 use crate::sides::Calls;
+use crate::size::Size;
 use crate::stations::Shape;
 use crate::windows::{mixed_entries, window_of};
-
-/// The size of a record.
-#[derive(Clone, Copy)]
-pub struct Size {
-    pub n: usize,
-    pub p: usize,
-}
-
-impl Size {
-    /// All n subjects as a trust mask.
-    pub fn all(self) -> u64 {
-        !0 >> (64 - self.n)
-    }
-}
-
-/// The largest size.
-pub const LARGEST: Size = Size {
-    n: MOST_SUBJECTS as usize,
-    p: MOST_PLAIN as usize,
-};
-
-/// The sizes that are measured, small to large.
-pub const SIZES: [Size; 3] = [Size { n: 4, p: 4 }, Size { n: 16, p: 48 }, LARGEST];
 
 /// Commands in a long list.
 pub const LONG: usize = 10_000;
@@ -52,13 +28,13 @@ fn reading<T: PartialEq + Copy + 'static>(
 }
 
 pub fn valid(shape: Shape, size: Size) -> Case {
-    let record = shape.record(size.n, size.p);
+    let record = shape.record(size);
     reading(record, true, |calls, record| (calls.valid)(record))
 }
 
 /// Whether U holds the plain right 0 over the last log: it doesn't.
 pub fn held(shape: Shape, size: Size) -> Case {
-    let record = shape.record(size.n, size.p);
+    let record = shape.record(size);
     let o = (size.n + size.p - 1) as u64;
     reading(record, (0, 0), move |calls, record| {
         (calls.held)(record, 0, o, 2)
@@ -68,7 +44,7 @@ pub fn held(shape: Shape, size: Size) -> Case {
 /// A command that is accepted and, once done, leaves the record as it is, so that every call does the same.
 fn command(shape: Shape, size: Size, fields: [u64; 5]) -> Case {
     Case::new(|calls| {
-        let mut record = shape.record(size.n, size.p);
+        let mut record = shape.record(size);
         move || assert!((calls.command)(black_box(&mut record), black_box(fields)).0 == 0)
     })
 }
@@ -109,11 +85,11 @@ fn run(record: Vec<u8>, commands: &[[u64; 5]], before: fn(&mut [u8], &[u8])) -> 
 /// A run of `count` grants by the owners of the logs in turn, each to another subject. The same run on the record after it is
 /// accepted too and changes nothing.
 pub fn run_of_grants(size: Size, count: usize) -> Case {
-    let record = Shape::Flat.record(size.n, size.p);
+    let record = Shape::Flat.record(size);
     let commands: Vec<[u64; 5]> = (0..count)
         .map(|j| {
             let o = size.n + j % size.p;
-            [4, o % size.n, 7 * j % size.n, o, j % 7].map(|field| field as u64)
+            [4, o % size.n, 7 * j % size.n, o, j % size.basics()].map(|field| field as u64)
         })
         .collect();
     run(record, &commands, |_, _| ())
@@ -121,7 +97,7 @@ pub fn run_of_grants(size: Size, count: usize) -> Case {
 
 /// A run in which the logs change hands in turn: each goes from its owner to the next subject, and in the next round back.
 pub fn run_of_transfers(size: Size, count: usize) -> Case {
-    let record = Shape::Flat.record(size.n, size.p);
+    let record = Shape::Flat.record(size);
     let commands: Vec<[u64; 5]> = (0..count)
         .map(|j| {
             let o = size.n + j % size.p;
@@ -138,7 +114,7 @@ pub fn run_of_transfers(size: Size, count: usize) -> Case {
 
 /// A run of the thirteen codes in turn, all accepted, each time on a new copy of the record.
 pub fn run_of_all_codes(size: Size, count: usize) -> Case {
-    let record = Shape::Chain.record(size.n, size.p);
+    let record = Shape::Chain.record(size);
     let commands = accepted_commands(&mut Numbers(1), &record, count);
     run(record, &commands, |copy, record| {
         copy.copy_from_slice(record)
@@ -149,7 +125,7 @@ pub fn run_of_all_codes(size: Size, count: usize) -> Case {
 fn question(shape: Shape, size: Size, trust: u64, leaks: bool) -> Case {
     let o = shape.asked_log(size.n) as u64;
     Case::new(|calls| {
-        let record = shape.record(size.n, size.p);
+        let record = shape.record(size);
         let mut out = vec![0; 5 + 6 * (size.n + 2)];
         move || {
             let out = black_box(&mut out[..]);
@@ -167,6 +143,35 @@ pub fn all_trusted(shape: Shape, size: Size) -> Case {
 /// Everybody but U is trusted, so that the list destroys every owner between U and the log.
 pub fn root_untrusted(shape: Shape, size: Size) -> Case {
     question(shape, size, size.all() & !1, true)
+}
+
+/// A conversion to a version. A record that is of it is copied.
+fn conversion(
+    size: Size,
+    version: usize,
+    call: impl Fn(Calls, &[u8], &mut [u8]) -> (u64, u64) + Copy + 'static,
+) -> Case {
+    let record = Rc::new(Shape::Flat.record(size));
+    let bytes = size.in_version(version).record_bytes();
+    Case::new(|calls| {
+        let (record, mut out) = (record.clone(), vec![0; bytes]);
+        move || {
+            let out = black_box(&mut out[..]);
+            assert!(call(calls, black_box(&record), out) == (0, bytes as u64));
+        }
+    })
+}
+
+pub fn to_version_1(size: Size) -> Case {
+    conversion(size, 1, |calls, record, out| {
+        (calls.to_version_1)(record, out)
+    })
+}
+
+pub fn to_version_2(size: Size) -> Case {
+    conversion(size, 2, |calls, record, out| {
+        (calls.to_version_2)(record, out)
+    })
 }
 
 /// Makes a window empty again.

@@ -2,31 +2,31 @@
 
 use std::fmt::Debug;
 
-use crate::cases::{LARGEST, SIZES, Size};
 use crate::lists::{accepted_commands, encode, likely_command};
 use crate::numbers::Numbers;
 use crate::sides::{Calls, LIBRARY, PLAIN, SSE2};
+use crate::size::{Size, VERSIONS, largest, sizes};
 use crate::stations::{any_record, damage};
 use crate::windows::{WINDOW_SIZE, compared_entry};
 
-/// The number of seeded records.
-pub const RECORDS: u64 = 4000;
+/// The number of seeded records, half of them of each version.
+pub const RECORDS: u64 = 8000;
 
 /// The entries that are put into the seeded window.
 pub const ENTRIES: usize = 50_000;
 
-/// Compares all calls: the five on every record, and those of the window after each entry.
+/// Compares all calls: the seven on every record, and those of the window after each entry.
 pub fn compare_all() {
     compare_records();
     compare_window();
 }
 
-/// Compares the five calls on every record.
+/// Compares the seven calls on every record.
 fn compare_records() {
     for seed in 0..RECORDS {
         let mut numbers = Numbers(seed);
         let size = any_size(&mut numbers);
-        let mut record = any_record(&mut numbers, size.n, size.p);
+        let mut record = any_record(&mut numbers, size);
         if numbers.once_in(4) {
             damage(&mut numbers, &mut record);
         }
@@ -34,14 +34,16 @@ fn compare_records() {
     }
 }
 
-/// A size that is measured, a small one, or any; of the last a few are above the limits by one or two.
+/// A size that is measured, a small one, or any, of one version or the other; of the last a few are above the limits by one or two.
 fn any_size(numbers: &mut Numbers) -> Size {
+    let version = VERSIONS[numbers.below(2)];
     let (subjects, plain) = match numbers.below(8) {
-        place @ 0..3 => return SIZES[place],
+        place @ 0..3 => return sizes(version)[place],
         3..5 => (8, 7),
-        _ => (LARGEST.n + 2, LARGEST.p + 2),
+        _ => (largest(version).n + 2, largest(version).p + 2),
     };
     Size {
+        version,
         n: 1 + numbers.below(subjects),
         p: numbers.below(plain + 1),
     }
@@ -67,14 +69,15 @@ fn compare_record(numbers: &mut Numbers, seed: u64, record: &[u8], size: Size) {
     same(seed, "valid", |calls| (calls.valid)(record));
     for _ in 0..4 {
         let s = numbers.below(size.n + 1) as u64;
-        let o = numbers.below(size.n + size.p + 1) as u64;
-        let right = numbers.below(17) as u64;
+        let o = numbers.below(size.columns() + 1) as u64;
+        let right = numbers.below(2 * size.basics() + 3) as u64;
         same(seed, "held", |calls| (calls.held)(record, s, o, right));
         compare_safety(numbers, seed, record, size, (s, o, right));
     }
     for _ in 0..13 {
         compare_command(numbers, seed, record);
     }
+    compare_conversions(numbers, seed, record, size);
     let mut commands = if (PLAIN.valid)(record) {
         accepted_commands(numbers, record, 13)
     } else {
@@ -89,6 +92,23 @@ fn compare_record(numbers: &mut Numbers, seed: u64, record: &[u8], size: Size) {
     same(seed, "run", |calls| {
         changed(record, |copy| (calls.run)(copy, &list))
     });
+}
+
+/// Both conversions, each with an output that is as long as the new record, longer, or too short.
+fn compare_conversions(numbers: &mut Numbers, seed: u64, record: &[u8], size: Size) {
+    for version in VERSIONS {
+        let bytes = size.in_version(version).record_bytes();
+        let room = match numbers.below(4) {
+            0 => bytes - 1 - numbers.below(bytes),
+            1 => bytes + numbers.below(20),
+            _ => bytes,
+        };
+        same(seed, "conversion", |calls| {
+            let mut out = vec![0xEE; room];
+            let call = [calls.to_version_1, calls.to_version_2][version - 1];
+            (call(record, &mut out), out)
+        });
+    }
 }
 
 /// The calls on one window, which is emptied first. After each entry all sides have the same bytes, and the next one is put
@@ -120,10 +140,11 @@ fn emptied(calls: Calls, window: &[u8]) -> Vec<u8> {
     copy
 }
 
-/// Five fields, near the bounds of small records as often as anywhere.
+/// Five fields, near the bounds of small records as often as anywhere, and of either version's basic rights.
 fn any_fields(numbers: &mut Numbers) -> [u64; 5] {
     let bound = if numbers.once_in(2) { 16 } else { 256 };
-    [16, bound, bound, bound, 8].map(|bound| numbers.below(bound) as u64)
+    let basics = if numbers.once_in(2) { 8 } else { 17 };
+    [16, bound, bound, bound, basics].map(|bound| numbers.below(bound) as u64)
 }
 
 /// One command, of the code's kinds or any.

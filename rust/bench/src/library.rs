@@ -1,4 +1,4 @@
-//! The eight exports of the archive on slices. Each answer is the refusal and the value, as the Rust side gives them.
+//! The ten exports of the archive on slices. Each answer is the refusal and the value, as the Rust side gives them.
 
 use bunvespo::raw;
 
@@ -34,6 +34,18 @@ pub fn safety(record: &[u8], trust: u64, s: u64, o: u64, right: u64, out: &mut [
     let (to, room) = (out.as_mut_ptr(), out.len());
     // SAFETY: as in `run`.
     pair(unsafe { raw::bunvespo_safety(at, length, trust, s, o, right, to, room) })
+}
+
+pub fn to_version_1(record: &[u8], out: &mut [u8]) -> (u64, u64) {
+    let (at, length) = (record.as_ptr(), record.len());
+    // SAFETY: as in `run`.
+    pair(unsafe { raw::bunvespo_to_version_1(at, length, out.as_mut_ptr(), out.len()) })
+}
+
+pub fn to_version_2(record: &[u8], out: &mut [u8]) -> (u64, u64) {
+    let (at, length) = (record.as_ptr(), record.len());
+    // SAFETY: as in `run`.
+    pair(unsafe { raw::bunvespo_to_version_2(at, length, out.as_mut_ptr(), out.len()) })
 }
 
 pub fn window_empty(window: &mut [u8]) {

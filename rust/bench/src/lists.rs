@@ -2,6 +2,7 @@
 
 use crate::numbers::Numbers;
 use crate::plain;
+use crate::size::Size;
 use crate::stations::lowest_owner;
 
 /// Commands as a list.
@@ -17,7 +18,8 @@ pub fn encode(commands: &[[u64; 5]]) -> Vec<u8> {
 
 /// A command whose fields are of the code's kinds and in bounds, begun by an owner where there is one.
 pub fn likely_command(numbers: &mut Numbers, record: &[u8], code: usize) -> [u64; 5] {
-    let (n, p) = (record[5] as usize, record[6] as usize);
+    let size = Size::of(record);
+    let (n, p) = (size.n, size.p);
     let o = match code {
         6 => numbers.below(n),
         7 | 10 | 11 => n + numbers.below(p.max(1)),
@@ -29,7 +31,7 @@ pub fn likely_command(numbers: &mut Numbers, record: &[u8], code: usize) -> [u64
         _ => numbers.below(n),
     };
     let k = match code {
-        1 | 2 | 4 | 5 | 8 | 9 => numbers.below(7),
+        1 | 2 | 4 | 5 | 8 | 9 => numbers.below(size.basics()),
         _ => 0,
     };
     let over = if code == 13 { s } else { o };

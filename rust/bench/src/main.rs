@@ -21,15 +21,17 @@ mod numbers;
 mod plain;
 mod report;
 mod sides;
+mod size;
 mod sse2;
 mod stations;
 mod windows;
 
-use cases::{LARGEST, LONG};
+use cases::LONG;
 use report::{by_shape, by_size, heading, on_window, window_heading};
+use size::{VERSIONS, largest};
 use stations::Shape;
 
-/// The five calls on flat records at each size.
+/// The seven calls on flat records of each version and size.
 fn calls() {
     let flat = Shape::Flat;
     heading("Calls by size (flat records; code 3 over a subject on a chain), nanoseconds a call");
@@ -41,9 +43,11 @@ fn calls() {
     by_size("run, 10 grants", 1, |size| cases::run_of_grants(size, 10));
     by_size("safety, safe", 1, |size| cases::all_trusted(flat, size));
     by_size("safety, leaks", 1, |size| cases::root_untrusted(flat, size));
+    by_size("to version 1", 1, cases::to_version_1);
+    by_size("to version 2", 1, cases::to_version_2);
 }
 
-/// Long lists at each size.
+/// Long lists at each version and size.
 fn lists() {
     heading(
         "Runs of 10,000 commands, nanoseconds a command (all but grants: on a new copy each time)",
@@ -66,13 +70,13 @@ fn window() {
 fn main() {
     compare::compare_all();
     println!(
-        "The library and both Rust sides answer alike on {} seeded records, five calls each, and on a window with {} \
+        "The library and both Rust sides answer alike on {} seeded records, seven calls each, and on a window with {} \
          seeded entries.",
         compare::RECORDS,
         compare::ENTRIES
     );
     calls();
     lists();
-    by_shape(LARGEST);
+    VERSIONS.into_iter().map(largest).for_each(by_shape);
     window();
 }

@@ -1,15 +1,16 @@
 //! The tables that are printed.
 
-use crate::cases::{self, SIZES, Size};
+use crate::cases;
 use crate::measure::{Case, Times, in_turn};
+use crate::size::{Size, VERSIONS, sizes};
 use crate::stations::Shape;
 
 /// The heading of a table over sizes.
 pub fn heading(title: &str) {
     println!("\n{title}");
     println!(
-        "{:<16}{:>9}{}{:>15}{:>13}",
-        "call", "n, p", TIMES_HEADING, "library grows", "plain grows"
+        "{:<18}{:>7}{:>9}{}{:>15}{:>13}",
+        "call", "version", "n, p", TIMES_HEADING, "library grows", "plain grows"
     );
 }
 
@@ -36,28 +37,31 @@ fn growth(now: f64, before: Option<f64>) -> String {
     }
 }
 
-/// One line for each size, of a call that does so many parts.
+/// One line for each version and size, of a call that does so many parts.
 pub fn by_size(call: &str, parts: usize, case: impl Fn(Size) -> Case) {
-    let all = in_turn(SIZES.map(case).into(), parts);
-    let mut before: Option<Times> = None;
-    for (size, now) in SIZES.iter().zip(all) {
+    let all: Vec<Size> = VERSIONS.into_iter().flat_map(sizes).collect();
+    let lines = in_turn(all.iter().map(|&size| case(size)).collect(), parts);
+    let mut before: Option<(usize, Times)> = None;
+    for (size, now) in all.into_iter().zip(lines) {
+        let smaller = before.filter(|(version, _)| *version == size.version);
         println!(
-            "{:<16}{:>9}{}{:>15}{:>13}",
+            "{:<18}{:>7}{:>9}{}{:>15}{:>13}",
             call,
+            size.version,
             format!("{}, {}", size.n, size.p),
             times(&now),
-            growth(now.library, before.map(|times| times.library)),
-            growth(now.plain, before.map(|times| times.plain))
+            growth(now.library, smaller.map(|(_, times)| times.library)),
+            growth(now.plain, smaller.map(|(_, times)| times.plain))
         );
-        before = Some(now);
+        before = Some((size.version, now));
     }
 }
 
 /// Validity and the safety question on each shape of one size, with each time over that of validity.
 pub fn by_shape(size: Size) {
     println!(
-        "\nQuestions by shape at {}, {}, nanoseconds a call",
-        size.n, size.p
+        "\nQuestions by shape at {}, {}, version {}, nanoseconds a call",
+        size.n, size.p, size.version
     );
     println!(
         "{:<22}{:<13}{}{:>17}{:>15}",

@@ -8,7 +8,10 @@ type Answer = (u64, u64);
 /// The safety question: record, trust mask, subject, object, right and buffer.
 type Safety = fn(&[u8], u64, u64, u64, u64, &mut [u8]) -> Answer;
 
-/// The eight calls of a side. They are pointers on every side, so that a call costs
+/// The conversions: record and output.
+type Conversion = fn(&[u8], &mut [u8]) -> Answer;
+
+/// The ten calls of a side. They are pointers on every side, so that a call costs
 /// the same on the way.
 #[derive(Clone, Copy)]
 pub struct Calls {
@@ -17,6 +20,8 @@ pub struct Calls {
     pub command: fn(&mut [u8], [u64; 5]) -> Answer,
     pub run: fn(&mut [u8], &[u8]) -> Answer,
     pub safety: Safety,
+    pub to_version_1: Conversion,
+    pub to_version_2: Conversion,
     pub window_empty: fn(&mut [u8]),
     pub window_put: fn(&mut [u8], u64, u64) -> Answer,
     pub window_count: fn(&[u8], u64) -> Answer,
@@ -28,6 +33,8 @@ pub const LIBRARY: Calls = Calls {
     command: library::command,
     run: library::run,
     safety: library::safety,
+    to_version_1: library::to_version_1,
+    to_version_2: library::to_version_2,
     window_empty: library::window_empty,
     window_put: library::window_put,
     window_count: library::window_count,
@@ -39,6 +46,8 @@ pub const PLAIN: Calls = Calls {
     command: plain::command,
     run: plain::run,
     safety: plain::safety,
+    to_version_1: plain::to_version_1,
+    to_version_2: plain::to_version_2,
     window_empty: plain::window_empty,
     window_put: plain::window_put,
     window_count: plain::window_count,
@@ -50,6 +59,8 @@ pub const SSE2: Calls = Calls {
     command: sse2::command,
     run: sse2::run,
     safety: sse2::safety,
+    to_version_1: sse2::to_version_1,
+    to_version_2: sse2::to_version_2,
     window_empty: sse2::window_empty,
     window_put: sse2::window_put,
     window_count: sse2::window_count,

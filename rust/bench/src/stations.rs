@@ -1,9 +1,10 @@
 //! Records to measure and to compare on.
 
 use crate::numbers::Numbers;
+use crate::size::Size;
 
-const OWN: u16 = 1;
-const CONTROL: u16 = 2;
+const OWN: u32 = 1;
+const CONTROL: u32 = 2;
 
 /// The ways in which the subjects of a measured record own each other. All names exist.
 #[derive(Clone, Copy)]
@@ -52,17 +53,18 @@ impl Shape {
         }
     }
 
-    /// The record of n subject names and p plain names, p at least n. Each log is owned by one of the subjects in turn, which
-    /// has a basic right with the star over it; the subject after it has a plain one.
-    pub fn record(self, n: usize, p: usize) -> Vec<u8> {
-        let mut record = blank(n, p);
+    /// The record of a size with p at least n. Each log is owned by one of the subjects in turn, which has a basic right with the star over it;
+    /// the subject after it has a plain one. Both rights are of every version.
+    pub fn record(self, size: Size) -> Vec<u8> {
+        let n = size.n;
+        let mut record = blank(size);
         for s in 0..n {
             add(&mut record, s, s, CONTROL);
             if s != 0 {
                 add(&mut record, self.owner(s, n), s, OWN);
             }
         }
-        for o in n..n + p {
+        for o in n..size.columns() {
             add(&mut record, o % n, o, OWN | 1 << 15);
             add(&mut record, (o + 1) % n, o, 1 << 6);
         }
@@ -76,40 +78,43 @@ impl Shape {
 }
 
 /// A record with every cell zero.
-fn blank(n: usize, p: usize) -> Vec<u8> {
-    let length = 2 + 2 * n * (n + p);
-    let mut record = vec![1];
+fn blank(size: Size) -> Vec<u8> {
+    let length = size.record_bytes() - 5;
+    let mut record = vec![size.version as u8];
     record.extend_from_slice(&(length as u32).to_be_bytes());
-    record.extend_from_slice(&[n as u8, p as u8]);
+    record.extend_from_slice(&[size.n as u8, size.p as u8]);
     record.resize(5 + length, 0);
     record
 }
 
-/// The place of a cell.
-fn place(record: &[u8], row: usize, column: usize) -> usize {
-    let columns = record[5] as usize + record[6] as usize;
-    7 + 2 * (row * columns + column)
+/// Sets bits of a cell.
+fn add(record: &mut [u8], row: usize, column: usize, bits: u32) {
+    let size = Size::of(record);
+    let cell = &mut record[size.place(row, column)..][..size.cell_bytes()];
+    for (to, byte) in cell.iter_mut().rev().zip(bits.to_le_bytes()) {
+        *to |= byte;
+    }
 }
 
-/// Sets bits of a cell.
-fn add(record: &mut [u8], row: usize, column: usize, bits: u16) {
-    let at = place(record, row, column);
-    record[at] |= (bits >> 8) as u8;
-    record[at + 1] |= bits as u8;
+/// The place of the last byte of a cell, which has own and control.
+fn low_place(record: &[u8], row: usize, column: usize) -> usize {
+    let size = Size::of(record);
+    size.place(row, column) + size.cell_bytes() - 1
 }
 
 /// The lowest row that owns a column.
 pub fn lowest_owner(record: &[u8], column: usize) -> Option<usize> {
     let n = record[5] as usize;
-    (0..n).find(|&row| record[place(record, row, column) + 1] & 1 != 0)
+    (0..n).find(|&row| record[low_place(record, row, column)] & 1 != 0)
 }
 
-/// A valid record with names absent here and there, owners in any order, other controllers and basic rights.
-pub fn any_record(numbers: &mut Numbers, n: usize, p: usize) -> Vec<u8> {
-    let mut record = blank(n, p);
-    let subjects = existing_subjects(numbers, &mut record, n);
+/// A valid record with names absent here and there, owners in any order, other controllers and basic rights. Those of one in two are rights
+/// that every version has.
+pub fn any_record(numbers: &mut Numbers, size: Size) -> Vec<u8> {
+    let mut record = blank(size);
+    let subjects = existing_subjects(numbers, &mut record, size.n);
     let mut columns = subjects.clone();
-    for o in n..n + p {
+    for o in size.n..size.columns() {
         if !numbers.once_in(4) {
             let owners = 1 + numbers.below(3);
             for _ in 0..owners {
@@ -118,10 +123,12 @@ pub fn any_record(numbers: &mut Numbers, n: usize, p: usize) -> Vec<u8> {
             columns.push(o);
         }
     }
+    let version = if numbers.once_in(2) { 1 } else { size.version };
+    let rights = 2 * size.in_version(version).basics();
     for _ in 0..numbers.below(4 * columns.len()) {
         let row = subjects[numbers.below(subjects.len())];
         let column = columns[numbers.below(columns.len())];
-        add(&mut record, row, column, 4 << numbers.below(14));
+        add(&mut record, row, column, 4 << numbers.below(rights));
     }
     record
 }
@@ -156,20 +163,21 @@ fn move_own(numbers: &mut Numbers, record: &mut [u8]) {
     let n = record[5] as usize;
     let s = numbers.below(n);
     if let Some(owner) = lowest_owner(record, s) {
-        let at = place(record, owner, s);
-        record[at + 1] &= !OWN as u8;
+        let at = low_place(record, owner, s);
+        record[at] &= !OWN as u8;
         add(record, numbers.below(n), s, OWN);
     }
 }
 
-/// Changes a valid record: a bit of a cell, an owner, a byte of the head or the length.
+/// Changes a valid record: a bit of a cell, an owner, a byte of the head, the version or the length.
 pub fn damage(numbers: &mut Numbers, record: &mut Vec<u8>) {
     let length = record.len();
-    match numbers.below(8) {
+    match numbers.below(9) {
         0 => record[numbers.below(7)] = numbers.bits() as u8,
-        1 => record.truncate(numbers.below(length)),
-        2 => record.push(0),
-        3..6 => move_own(numbers, record),
+        1 => record[0] = numbers.below(4) as u8,
+        2 => record.truncate(numbers.below(length)),
+        3 => record.push(0),
+        4..7 => move_own(numbers, record),
         _ => record[7 + numbers.below(length - 7)] ^= 1 << numbers.below(8),
     }
 }

@@ -1,4 +1,4 @@
-//! The five calls on records.
+//! The calls on records but for the conversions.
 
 use crate::command::Command;
 use crate::header::{Header, MOST_SUBJECTS, buffer_size};
@@ -17,13 +17,13 @@ pub enum Safety {
     Leaks(u64),
 }
 
-/// The refusal of an answer, if it has one. The archive gives no number above 17.
+/// The refusal of an answer, if it has one. The archive gives no number above 18.
 pub(crate) fn refusal_of(answer: raw::Answer) -> Option<Refusal> {
     if answer.refusal == 0 {
         return None;
     }
     let refusal = Refusal::from_number(answer.refusal);
-    Some(refusal.expect("the archive refuses by 1 to 17"))
+    Some(refusal.expect("the archive refuses by 1 to 18"))
 }
 
 /// Whether a record is valid: false exactly where the other calls refuse it by 1 to 5.

@@ -1,11 +1,14 @@
 //! Safe calls of the proved library Bunvespo, which keeps the rights record of a log station: who owns, controls and may read each
 //! login (subject) and each log (plain object), as bytes.
 //!
-//! There are five calls on a record: [`valid`], [`held`], [`command`], [`run`] and [`safety`]; [`check`] and [`witness`] are two of them
-//! in another form. Each takes any bytes, an empty slice too, and any numbers as names; one that is out of range is refused and never
-//! wraps. Errors are types that `?` takes, each with the refusal's number and words. The calls keep nothing between them, so threads
-//! may call them at the same time; who may write a record is for Rust's borrows. A [`Window`] counts the commands that were refused of
-//! late.
+//! There are seven calls on a record: [`valid`], [`held`], [`command`], [`run`] and [`safety`], and [`to_version_1`] and
+//! [`to_version_2`], which convert it; [`check`] and [`witness`] are two of them in another form. Each takes any bytes, an empty slice
+//! too, and any numbers as names; one that is out of range is refused and never wraps. Errors are types that `?` takes, each with the
+//! refusal's number and words. The calls keep nothing between them, so threads may call them at the same time; who may write a record is
+//! for Rust's borrows. A [`Window`] counts the commands that were refused of late.
+//!
+//! A record is of version 1, with seven basic rights, or of version 2, with fifteen. Every call takes both, and none but the
+//! conversions gives a record another version.
 //!
 //! ```
 //! use bunvespo::{Basic, Command, Right, command, held, new_record};
@@ -28,6 +31,7 @@
 
 mod calls;
 mod command;
+mod convert;
 mod header;
 mod list;
 pub mod raw;
@@ -38,7 +42,8 @@ mod window;
 
 pub use calls::{Safety, check, command, held, run, safety, trust_mask, valid, witness};
 pub use command::{Command, code};
-pub use header::{Header, MOST_PLAIN, MOST_RECORD, MOST_SUBJECTS, buffer_size, new_record};
+pub use convert::{to_version_1, to_version_2};
+pub use header::{Header, MOST_PLAIN, MOST_RECORD_BYTES, MOST_SUBJECTS, buffer_size, new_record};
 pub use list::{EncodeError, MOST_COMMANDS, commands, encode};
 pub use refusal::Refusal;
 pub use refused::{CommandRefused, RunRefused};

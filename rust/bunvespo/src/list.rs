@@ -1,4 +1,5 @@
-//! Lists of commands as bytes: version 1, L in four bytes, and for each command six bytes, 05 and its fields.
+//! Lists of commands as bytes: version 1, whatever the version of the record, L in four bytes, and for each command six bytes, 05 and
+//! its fields.
 
 use std::error::Error;
 use std::fmt;

@@ -1,4 +1,4 @@
-//! The eight exports of the archive, as `include/bunvespo.h` declares them. A slice is a pointer and then its length.
+//! The ten exports of the archive, as `include/bunvespo.h` declares them. A slice is a pointer and then its length.
 //!
 //! # Safety
 //! Each pointer and length are those of bytes that may be read, or written where the pointer is `*mut`, and that overlap no other
@@ -54,6 +54,22 @@ unsafe extern "C" {
         s: u64,
         o: u64,
         right: u64,
+        out: *mut u8,
+        out_len: usize,
+    ) -> Answer;
+
+    /// The value is the number of bytes of the new record, which is of version 1.
+    pub fn bunvespo_to_version_1(
+        record: *const u8,
+        record_len: usize,
+        out: *mut u8,
+        out_len: usize,
+    ) -> Answer;
+
+    /// The value is the number of bytes of the new record, which is of version 2.
+    pub fn bunvespo_to_version_2(
+        record: *const u8,
+        record_len: usize,
         out: *mut u8,
         out_len: usize,
     ) -> Answer;

@@ -1,10 +1,11 @@
-//! The seventeen refusals.
+//! The eighteen refusals.
 
 use std::error::Error;
 use std::fmt;
 
-/// Why a call is turned down. Of several conditions that hold, the one with the lowest number is given; only `run` tests 16 before
-/// its first command.
+/// Why a call is turned down. Each call tests its conditions in an order of its own and gives the first that holds: all calls on a
+/// record but `valid` begin with 1 to 5; then `held` tests 7, `command` 6 to 14, `run` 16 and 6 to 14 for each command in its turn,
+/// `safety` 7 and 15, `to_version_1` 18 and 15, and `to_version_2` 15.
 ///
 /// ```
 /// use bunvespo::{Refusal, Right, held};
@@ -28,13 +29,14 @@ pub enum Refusal {
     Version = 2,
     /// The record has too many or too few names.
     Counts = 3,
-    /// The record is longer or shorter than it should be, or says that it is.
+    /// The record is longer or shorter than one of its version and sizes should be, or says that it is.
     RecordLength = 4,
     /// The record's matrix breaks a condition of validity.
     NotValid = 5,
     /// No command has the code. This and the refusals up to 14, but for 7, are of `command` and `run` alone.
     Code = 6,
-    /// A number is out of range, or one that should be 0 is not. Given by every call on a record but `valid`.
+    /// A number is out of range, which for k and for rights depends on the record's version, or one that should be 0 is not. Given by
+    /// `held`, `command`, `run` and `safety`.
     Bounds = 7,
     /// The command's initiator does not exist.
     InitiatorAbsent = 8,
@@ -50,17 +52,20 @@ pub enum Refusal {
     WalkMeets = 13,
     /// Somebody besides the column controls it.
     OtherController = 14,
-    /// The buffer can't hold the longest list. Given by `safety` alone.
+    /// The buffer can't hold the longest list, given by `safety`; or the output can't hold the new record, given by `to_version_1` and
+    /// `to_version_2`.
     BufferShort = 15,
     /// The bytes of the list are no list. Given by `run` alone.
     ListForm = 16,
     /// The number has no count in a window. Given by `Window` alone.
     WindowNumber = 17,
+    /// A cell has a basic right above 6, which no record of version 1 has. Given by `to_version_1` alone.
+    HighRight = 18,
 }
 
 impl Refusal {
     /// Every refusal, in number order.
-    pub const ALL: [Refusal; 17] = [
+    pub const ALL: [Refusal; 18] = [
         Refusal::RecordShort,
         Refusal::Version,
         Refusal::Counts,
@@ -78,21 +83,22 @@ impl Refusal {
         Refusal::BufferShort,
         Refusal::ListForm,
         Refusal::WindowNumber,
+        Refusal::HighRight,
     ];
 
-    /// The number, 1 to 17.
+    /// The number, 1 to 18.
     pub const fn number(self) -> u8 {
         self as u8
     }
 
-    /// The refusal of a number, if it is 1 to 17.
+    /// The refusal of a number, if it is 1 to 18.
     ///
     /// ```
     /// use bunvespo::Refusal;
     ///
     /// assert_eq!(Refusal::from_number(7), Some(Refusal::Bounds));
     /// assert_eq!(Refusal::from_number(0), None);
-    /// assert_eq!(Refusal::from_number(18), None);
+    /// assert_eq!(Refusal::from_number(19), None);
     /// ```
     pub fn from_number(number: u64) -> Option<Refusal> {
         let place = usize::try_from(number.checked_sub(1)?).ok()?;
@@ -103,9 +109,11 @@ impl Refusal {
     pub const fn words(self) -> &'static str {
         match self {
             Refusal::RecordShort => "the record has fewer than 7 bytes",
-            Refusal::Version => "the record's version is not 1",
+            Refusal::Version => "the record's version is neither 1 nor 2",
             Refusal::Counts => "the record's n is not 1 to 40, or its p is above 120",
-            Refusal::RecordLength => "the record's L or its length does not fit its n and p",
+            Refusal::RecordLength => {
+                "the record's L or its length does not fit its version, n and p"
+            }
             Refusal::NotValid => "the record's matrix is not valid",
             Refusal::Code => "no command has this code",
             Refusal::Bounds => {
@@ -118,11 +126,14 @@ impl Refusal {
             Refusal::RightLacking => "the initiator lacks the right that the command asks for",
             Refusal::WalkMeets => "the owner walk from s meets o",
             Refusal::OtherController => "somebody else controls o already",
-            Refusal::BufferShort => "the buffer has fewer than 5 + 6 (n + 2) bytes",
+            Refusal::BufferShort => {
+                "the buffer is shorter than 5 + 6 (n + 2) bytes, or the output than the new record"
+            }
             Refusal::ListForm => "the list is not of the right form",
             Refusal::WindowNumber => {
                 "the initiator, or the number whose count is read, is 64 or more"
             }
+            Refusal::HighRight => "a basic right above 6 is set, for which version 1 has no room",
         }
     }
 }

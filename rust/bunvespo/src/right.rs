@@ -1,4 +1,4 @@
-//! Rights: own, control, and the seven basic rights, each plain or starred.
+//! Rights: own, control, and the fifteen basic rights, each plain or starred.
 
 use std::error::Error;
 use std::fmt;
@@ -6,13 +6,14 @@ use std::str::FromStr;
 
 /// A basic right, by its number k. What it lets its holder do with a log is the clinic's to say; the library only keeps it.
 ///
-/// There are seven and no more, so that no number out of range can be taken for one:
+/// There are fifteen and no more, so that no number out of range can be taken for one. A record of version 2 has all of them, and one
+/// of version 1 the first seven; see [`Header::basic_rights`](crate::Header::basic_rights).
 ///
 /// ```
 /// use bunvespo::Basic;
 ///
-/// assert_eq!(Basic::from_number(6), Some(Basic::R6));
-/// assert_eq!(Basic::from_number(7), None);
+/// assert_eq!(Basic::from_number(14), Some(Basic::R14));
+/// assert_eq!(Basic::from_number(15), None);
 /// assert_eq!(Basic::from_number(u64::MAX), None);
 /// ```
 #[repr(u8)]
@@ -32,11 +33,27 @@ pub enum Basic {
     R5 = 5,
     /// Basic right 6.
     R6 = 6,
+    /// Basic right 7, of version 2.
+    R7 = 7,
+    /// Basic right 8, of version 2.
+    R8 = 8,
+    /// Basic right 9, of version 2.
+    R9 = 9,
+    /// Basic right 10, of version 2.
+    R10 = 10,
+    /// Basic right 11, of version 2.
+    R11 = 11,
+    /// Basic right 12, of version 2.
+    R12 = 12,
+    /// Basic right 13, of version 2.
+    R13 = 13,
+    /// Basic right 14, of version 2.
+    R14 = 14,
 }
 
 impl Basic {
     /// Every basic right, in number order.
-    pub const ALL: [Basic; 7] = [
+    pub const ALL: [Basic; 15] = [
         Basic::R0,
         Basic::R1,
         Basic::R2,
@@ -44,22 +61,31 @@ impl Basic {
         Basic::R4,
         Basic::R5,
         Basic::R6,
+        Basic::R7,
+        Basic::R8,
+        Basic::R9,
+        Basic::R10,
+        Basic::R11,
+        Basic::R12,
+        Basic::R13,
+        Basic::R14,
     ];
 
-    /// The number k, 0 to 6, as a command's field has it.
+    /// The number k, 0 to 14, as a command's field has it.
     pub const fn number(self) -> u64 {
         self as u64
     }
 
-    /// The basic right of a number, if it is 0 to 6.
+    /// The basic right of a number, if it is 0 to 14.
     pub fn from_number(k: u64) -> Option<Basic> {
         Basic::ALL.get(usize::try_from(k).ok()?).copied()
     }
 }
 
-/// A right that a subject may have over a column.
+/// A right that a subject may have over a column. Those with a basic right above 6 are of records of version 2 alone; on one of
+/// version 1 each call refuses them by 7.
 ///
-/// It is written and read as `own`, `control`, `r0` to `r6`, and with the star `r0*` to `r6*`:
+/// It is written and read as `own`, `control`, `r0` to `r14`, and with the star `r0*` to `r14*`:
 ///
 /// ```
 /// use bunvespo::{Basic, Right};
@@ -85,8 +111,8 @@ pub enum Right {
 
 impl Right {
     /// Every right, in the order of the codes: `Right::ALL[code]` has that code.
-    pub const ALL: [Right; 16] = {
-        let mut all = [Right::Own; 16];
+    pub const ALL: [Right; 32] = {
+        let mut all = [Right::Own; 32];
         all[1] = Right::Control;
         let mut k = 0;
         while k < Basic::ALL.len() {
@@ -97,7 +123,7 @@ impl Right {
         all
     };
 
-    /// The code, 0 to 15, which is the number of the right's bit in a cell.
+    /// The code, 0 to 31, which is the number of the right's bit in a cell.
     pub const fn code(self) -> u64 {
         match self {
             Right::Own => 0,
@@ -107,13 +133,13 @@ impl Right {
         }
     }
 
-    /// The right of a code, if it is 0 to 15.
+    /// The right of a code, if it is 0 to 31.
     ///
     /// ```
     /// use bunvespo::Right;
     ///
     /// assert_eq!(Right::from_code(0), Some(Right::Own));
-    /// assert_eq!(Right::from_code(16), None);
+    /// assert_eq!(Right::from_code(32), None);
     /// assert_eq!(Right::from_code(u64::MAX), None);
     /// ```
     pub fn from_code(code: u64) -> Option<Right> {
@@ -130,7 +156,7 @@ impl Right {
     /// assert!(Right::Starred(Basic::R0).in_cell(cell));
     /// assert!(!Right::Plain(Basic::R0).in_cell(cell));
     /// ```
-    pub const fn in_cell(self, cell: u16) -> bool {
+    pub const fn in_cell(self, cell: u32) -> bool {
         cell >> self.code() & 1 == 1
     }
 }
@@ -160,15 +186,15 @@ impl FromStr for Right {
 /// ```
 /// use bunvespo::{ParseRightError, Right};
 ///
-/// assert_eq!("r7".parse::<Right>(), Err(ParseRightError));
-/// assert_eq!(ParseRightError.to_string(), "a right is own, control, r0 to r6, or r0* to r6*");
+/// assert_eq!("r15".parse::<Right>(), Err(ParseRightError));
+/// assert_eq!(ParseRightError.to_string(), "a right is own, control, r0 to r14, or r0* to r14*");
 /// ```
 #[derive(Clone, Copy, Debug, PartialEq, Eq)]
 pub struct ParseRightError;
 
 impl fmt::Display for ParseRightError {
     fn fmt(&self, f: &mut fmt::Formatter<'_>) -> fmt::Result {
-        f.write_str("a right is own, control, r0 to r6, or r0* to r6*")
+        f.write_str("a right is own, control, r0 to r14, or r0* to r14*")
     }
 }
 

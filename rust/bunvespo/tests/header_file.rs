@@ -1,8 +1,8 @@
 //! The C header and this crate say the same: version, refusals and their words, codes of commands and rights, limits.
 
 use bunvespo::{
-    MOST_PLAIN, MOST_SUBJECTS, Refusal, WINDOW_ENTRIES, WINDOW_NUMBERS, WINDOW_SIZE, buffer_size,
-    code,
+    MOST_PLAIN, MOST_RECORD_BYTES, MOST_SUBJECTS, Refusal, WINDOW_ENTRIES, WINDOW_NUMBERS,
+    WINDOW_SIZE, buffer_size, code,
 };
 
 const HEADER: &str = include_str!("../../../include/bunvespo.h");
@@ -47,7 +47,7 @@ fn refusals() {
         let name = format!("REFUSED_{}", in_capitals(&format!("{refusal:?}")));
         assert_eq!(enumerator(&name), u64::from(refusal.number()));
     }
-    assert_eq!(HEADER.matches("    BUNVESPO_REFUSED_").count(), 17);
+    assert_eq!(HEADER.matches("    BUNVESPO_REFUSED_").count(), 18);
 }
 
 #[test]
@@ -83,6 +83,7 @@ fn limits() {
     let number = |name: &str| after(&format!("#define BUNVESPO_MOST_{name} "));
     assert_eq!(number("SUBJECTS"), MOST_SUBJECTS.to_string());
     assert_eq!(number("PLAIN"), MOST_PLAIN.to_string());
+    assert_eq!(number("RECORD_BYTES"), MOST_RECORD_BYTES.to_string());
     assert_eq!(buffer_size(MOST_SUBJECTS), 257);
     assert_eq!(buffer_size(u8::MAX), 5 + 6 * 257);
 }

@@ -1,10 +1,10 @@
-//! Threads that ask of one record at the same time, and change copies of their own, get the answers that one thread gets.
+//! Threads that ask of one record and convert it at the same time, and change copies of their own, get the answers that one thread gets.
 
 use std::thread;
 
 use bunvespo::{
-    Command, MOST_PLAIN, MOST_SUBJECTS, Right, Safety, buffer_size, command, held, new_record,
-    safety, trust_mask, valid,
+    Command, MOST_PLAIN, MOST_RECORD_BYTES, MOST_SUBJECTS, Right, Safety, buffer_size, command,
+    held, new_record, safety, to_version_2, trust_mask, valid,
 };
 
 const SUBJECTS: u64 = MOST_SUBJECTS as u64;
@@ -28,8 +28,8 @@ fn chain() -> Vec<u8> {
 /// Whether a right is held, whether it can be, and the buffer after that question.
 type Answered = (bool, Safety, Vec<u8>);
 
-/// Questions about each log, and a copy of the record in which the chain is destroyed from its middle down.
-fn all_answers(record: &[u8]) -> (Vec<Answered>, Vec<u8>) {
+/// Questions about each log, a copy of the record in which the chain is destroyed from its middle down, and the record in version 2.
+fn all_answers(record: &[u8]) -> (Vec<Answered>, [Vec<u8>; 2]) {
     let mut answers = Vec::new();
     let (trust, last) = (
         trust_mask((0..SUBJECTS).filter(|&s| s != UNTRUSTED)).unwrap(),
@@ -46,7 +46,9 @@ fn all_answers(record: &[u8]) -> (Vec<Answered>, Vec<u8>) {
         command(&mut copy, Command::destroy_subject(middle - 1, s)).unwrap();
         assert!(valid(&copy));
     }
-    (answers, copy)
+    let mut wide = vec![0xEE; MOST_RECORD_BYTES];
+    assert_eq!(to_version_2(record, &mut wide), Ok(MOST_RECORD_BYTES));
+    (answers, [copy, wide])
 }
 
 #[test]

@@ -5,7 +5,7 @@ use std::error::Error;
 use bunvespo::{
     Basic, Command, CommandRefused, EncodeError, Header, MOST_COMMANDS, MOST_PLAIN, MOST_SUBJECTS,
     ParseRightError, Refusal, Right, RunRefused, Safety, buffer_size, commands, encode, new_record,
-    run, safety, trust_mask, valid,
+    run, safety, to_version_2, trust_mask, valid,
 };
 
 #[test]
@@ -15,7 +15,8 @@ fn rights_and_their_codes() {
         assert_eq!(Right::from_code(code as u64), Some(right));
         assert!(right.in_cell(1 << code) && !right.in_cell(!(1 << code)));
     }
-    let beyond = [16, 17, 255, 256, 1 << 32, 1 << 63, u64::MAX - 1, u64::MAX];
+    assert_eq!((Right::ALL.len(), Basic::ALL.len()), (32, 15));
+    let beyond = [32, 33, 255, 256, 1 << 32, 1 << 63, u64::MAX - 1, u64::MAX];
     for number in beyond {
         assert_eq!(Right::from_code(number), None);
         assert_eq!(Basic::from_number(number), None);
@@ -25,13 +26,14 @@ fn rights_and_their_codes() {
         assert_eq!(Right::Plain(basic).code(), 2 + 2 * k as u64);
         assert_eq!(Right::Starred(basic).code(), 3 + 2 * k as u64);
     }
-    assert_eq!(Basic::from_number(7), None);
+    assert_eq!(Basic::from_number(15), None);
 }
 
 #[test]
 fn rights_as_text() {
     let texts = Right::ALL.map(|right| right.to_string());
-    let expected = "own control r0 r0* r1 r1* r2 r2* r3 r3* r4 r4* r5 r5* r6 r6*";
+    let expected = "own control r0 r0* r1 r1* r2 r2* r3 r3* r4 r4* r5 r5* r6 r6* r7 r7* \
+                    r8 r8* r9 r9* r10 r10* r11 r11* r12 r12* r13 r13* r14 r14*";
     assert_eq!(texts.join(" "), expected);
     for right in Right::ALL {
         assert_eq!(right.to_string().parse(), Ok(right));
@@ -43,8 +45,10 @@ fn rights_as_text() {
         "own ",
         " own",
         "r",
-        "r7",
+        "r15",
         "r00",
+        "r07",
+        "r1 0",
         "r-1",
         "r0**",
         "*",
@@ -63,7 +67,7 @@ fn rights_as_text() {
 /// Headers of bytes of every length and of every kind: no panic, and `None` or `RecordShort` where the bytes end.
 #[test]
 fn headers_of_any_bytes() {
-    for byte in [0, 1, 40, 41, 64, 127, 255] {
+    for byte in [0, 1, 2, 40, 41, 64, 127, 255] {
         for length in 0..40 {
             let record = vec![byte; length];
             let Ok(header) = Header::read(&record) else {
@@ -77,12 +81,18 @@ fn headers_of_any_bytes() {
                 (byte, u64::from(byte), 2 * u64::from(byte))
             );
             assert_eq!(header.length, u32::from(byte) * 0x0101_0101);
-            assert_eq!(header.expected_length() as u64, 7 + 2 * n * columns);
+            let (width, basics) = if byte == 1 { (2, 7) } else { (4, 15) };
+            assert_eq!(
+                (header.cell_bytes() as u64, header.basic_rights()),
+                (width, basics)
+            );
+            assert_eq!(header.rights(), &Right::ALL[..2 + 2 * basics as usize]);
+            assert_eq!(header.expected_length() as u64, 7 + width * n * columns);
             let read = (0..n).flat_map(|s| (0..columns).map(move |o| (s, o)));
             let read = read
                 .filter(|&(s, o)| header.cell(&record, s, o).is_some())
                 .count();
-            assert_eq!(read as u64, (n * columns).min((length as u64 - 7) / 2));
+            assert_eq!(read as u64, (n * columns).min((length as u64 - 7) / width));
             for (s, o) in [
                 (n, 0),
                 (0, columns),
@@ -98,13 +108,26 @@ fn headers_of_any_bytes() {
 
 #[test]
 fn cells_of_station_a() {
-    let record = include_bytes!("../../../stations/a.rights");
-    let header = Header::read(record).unwrap();
-    let cells: Vec<u16> = (0..3)
-        .flat_map(|s| (0..4).map(move |o| (s, o)))
-        .map(|(s, o)| header.cell(record, s, o).unwrap())
-        .collect();
-    assert_eq!(cells, [2, 1, 0, 0, 0, 2, 1, 0, 0, 0, 2, 1]);
+    let narrow = include_bytes!("../../../stations/a.rights");
+    let mut wide = [0; 55];
+    assert_eq!(to_version_2(narrow, &mut wide), Ok(55));
+    for record in [&narrow[..], &wide] {
+        let header = Header::read(record).unwrap();
+        let cells: Vec<u32> = (0..3)
+            .flat_map(|s| (0..4).map(move |o| (s, o)))
+            .map(|(s, o)| header.cell(record, s, o).unwrap())
+            .collect();
+        assert_eq!(cells, [2, 1, 0, 0, 0, 2, 1, 0, 0, 0, 2, 1]);
+    }
+}
+
+/// The highest byte of a cell of version 2 comes first.
+#[test]
+fn cells_of_four_bytes() {
+    let record = [2, 0, 0, 0, 6, 1, 0, 0x81, 0x42, 0x24, 0x18];
+    let header = Header::read(&record).unwrap();
+    assert_eq!(header.cell(&record, 0, 0), Some(0x8142_2418));
+    assert_eq!(header.cell(&record[..10], 0, 0), None);
 }
 
 #[test]
@@ -118,6 +141,7 @@ fn new_records() {
                     assert!(within && valid(&record));
                     let header = Header::read(&record).unwrap();
                     assert_eq!((u64::from(header.n), u64::from(header.p)), (n, p));
+                    assert_eq!(header.version, 1);
                     assert_eq!(header.expected_length(), record.len());
                 }
                 Err(refusal) => {
@@ -217,7 +241,7 @@ fn errors_in_words() {
     let errors: [(Box<dyn Error + Send + Sync>, &str); 6] = [
         (
             Box::new(Refusal::Version),
-            "refused 2: the record's version is not 1",
+            "refused 2: the record's version is neither 1 nor 2",
         ),
         (
             Box::new(CommandRefused { refusal, links }),
@@ -237,7 +261,7 @@ fn errors_in_words() {
         ),
         (
             Box::new(ParseRightError),
-            "a right is own, control, r0 to r6, or r0* to r6*",
+            "a right is own, control, r0 to r14, or r0* to r14*",
         ),
     ];
     for (error, words) in errors {

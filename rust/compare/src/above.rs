@@ -1,6 +1,6 @@
-//! Whole, valid records with more names than a record may have, which were right before the limits were lowered.
+//! Whole, valid records with more names than a record may have. Those of version 1 were right before the limits were lowered.
 
-use reference::{Cell, State, Station};
+use reference::{Cell, State, Station, Version};
 
 use crate::generate::valid_record;
 use crate::matrix::{
@@ -37,7 +37,9 @@ fn size(random: &mut Random) -> (u64, u64) {
 /// The station that the bytes of a record show, whatever its n and p.
 fn station_shown(record: &[u8]) -> Station {
     let (n, p) = sizes(record);
+    let version = Version::from_byte(record[0]).expect("the version is 1 or 2");
     let mut station = Station {
+        version,
         n,
         p,
         state: State::default(),
@@ -51,10 +53,10 @@ fn station_shown(record: &[u8]) -> Station {
     station
 }
 
-/// A record above the limits, and its station, of which questions can be drawn.
-pub fn record_above(random: &mut Random) -> (Vec<u8>, Station) {
+/// A record of a version above the limits, and its station, of which questions can be drawn.
+pub fn record_above(version: u8, random: &mut Random) -> (Vec<u8>, Station) {
     let (n, p) = size(random);
-    let record = valid_record(n, p, random);
+    let record = valid_record(version, n, p, random);
     let station = station_shown(&record);
     (record, station)
 }

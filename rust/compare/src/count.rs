@@ -1,13 +1,11 @@
-//! How often each answer and each refusal of each call occurred.
+//! How often each answer and each refusal of each call on a record occurred, apart for records of each version.
 
 use std::fmt;
 
-use reference::WINDOW_SIZE;
+use crate::convert::Conversions;
+use crate::matrix::{FORMER_MOST_SUBJECTS, MOST_PLAIN, MOST_SUBJECTS, VERSIONS};
 
-use crate::forged;
-use crate::matrix::{FORMER_MOST_SUBJECTS, MOST_PLAIN, MOST_SUBJECTS};
-
-/// The calls that give an answer: all but window_empty.
+/// The calls on a record.
 #[derive(Clone, Copy, Debug, PartialEq, Eq)]
 pub enum Call {
     Valid,
@@ -15,8 +13,8 @@ pub enum Call {
     Command,
     Run,
     Safety,
-    WindowPut,
-    WindowCount,
+    ToVersion1,
+    ToVersion2,
 }
 
 const CALLS: [Call; 7] = [
@@ -25,108 +23,49 @@ const CALLS: [Call; 7] = [
     Call::Command,
     Call::Run,
     Call::Safety,
-    Call::WindowPut,
-    Call::WindowCount,
+    Call::ToVersion1,
+    Call::ToVersion2,
 ];
 
 impl Call {
-    fn name(self) -> &'static str {
+    pub fn name(self) -> &'static str {
         match self {
             Call::Valid => "valid",
             Call::Held => "held",
             Call::Command => "command",
             Call::Run => "run",
             Call::Safety => "safety",
-            Call::WindowPut => "window_put",
-            Call::WindowCount => "window_count",
+            Call::ToVersion1 => "to_version_1",
+            Call::ToVersion2 => "to_version_2",
         }
     }
 
-    /// The refusals that Manual 7.3 gives to the call. The validity call gives none, and says no where 1 to 5 would
-    /// turn the record down; these are counted as its refusals.
-    fn refusals(self) -> Vec<u64> {
+    /// The refusals that Manual 7.3 gives to the call on records of a version, in the order of the tests. The validity call
+    /// gives none, and says no where 1 to 5 would turn the record down; these are counted as its refusals.
+    fn refusals(self, version: u8) -> Vec<u64> {
         let record = 1..=5;
         match self {
             Call::Valid => record.collect(),
             Call::Held => record.chain([7]).collect(),
             Call::Command => record.chain(6..=14).collect(),
-            Call::Run => record.chain(6..=14).chain([16]).collect(),
+            Call::Run => record.chain([16]).chain(6..=14).collect(),
             Call::Safety => record.chain([7, 15]).collect(),
-            Call::WindowPut | Call::WindowCount => vec![17],
+            Call::ToVersion1 if version == 2 => record.chain([18, 15]).collect(),
+            Call::ToVersion1 | Call::ToVersion2 => record.chain([15]).collect(),
         }
-    }
-}
-
-/// What the windows gave.
-pub struct Windows {
-    pub emptied: u64,
-    /// Entries taken into histories, and how many the longest history has.
-    pub taken: u64,
-    pub longest: usize,
-    /// Counts read of windows that show a history, and those of them that were 256.
-    pub read: u64,
-    pub full: u64,
-    /// Forged windows by their length.
-    pub forged: Vec<u64>,
-}
-
-impl Windows {
-    fn new() -> Windows {
-        Windows {
-            emptied: 0,
-            taken: 0,
-            longest: 0,
-            read: 0,
-            full: 0,
-            forged: vec![0; forged::LONGEST + 1],
-        }
-    }
-
-    /// So many entries were not refused, those of forged windows among them.
-    fn put(&self, answered: u64) -> String {
-        format!(
-            "taken into histories {}, the longest of {} entries; answered on forged windows {}",
-            self.taken,
-            self.longest,
-            answered - self.taken
-        )
-    }
-
-    /// So many counts were read, those of forged windows among them.
-    fn counted(&self, answered: u64) -> String {
-        format!(
-            "read of histories {}, of these 256: {}; read of forged windows {}",
-            self.read,
-            self.full,
-            answered - self.read
-        )
-    }
-}
-
-impl fmt::Display for Windows {
-    fn fmt(&self, f: &mut fmt::Formatter<'_>) -> fmt::Result {
-        let of_lengths = |from: usize, to: usize| self.forged[from..to].iter().sum::<u64>();
-        let lengths = self.forged.iter().filter(|count| **count > 0).count();
-        writeln!(f, "window_empty: {} inputs", self.emptied)?;
-        writeln!(
-            f,
-            "forged windows: {} shorter than a window, {} of its length, {} longer; lengths: {lengths} of {}",
-            of_lengths(0, WINDOW_SIZE),
-            self.forged[WINDOW_SIZE],
-            of_lengths(WINDOW_SIZE + 1, self.forged.len()),
-            self.forged.len()
-        )
     }
 }
 
 /// The most commands of a leak: two more than there are subject names, also in a record above the limits, which has none.
 const MOST_OF_LEAK: usize = FORMER_MOST_SUBJECTS as usize + 2;
 
-/// The counts of a whole run. They take the same room however long the run.
+/// The counts of all inputs on records of one version, or on what a damage made of them. They take the same room however
+/// long the run.
 pub struct Counts {
+    version: u8,
     /// By call and refusal; place 0 counts the inputs that were answered.
-    by_refusal: [[u64; 18]; 7],
-    /// Valid: no, yes. Held: no, yes.
+    by_refusal: [[u64; 19]; CALLS.len()],
+    /// Held: no, yes.
     pub held: [u64; 2],
     /// Accepted commands by code, of the command call.
     pub accepted: [u64; 14],
@@ -141,16 +80,17 @@ pub struct Counts {
     /// Safety questions that were also answered by the search.
     pub searched: u64,
     /// The sizes of the valid records met, by n - 1 and p.
-    pub sizes: Vec<bool>,
+    sizes: Vec<bool>,
     /// Whole records above the limits, each asked of every call on a record: of n, of p, and of both.
-    pub above: [u64; 3],
-    pub windows: Windows,
+    above: [u64; 3],
+    pub conversions: Conversions,
 }
 
 impl Counts {
-    pub fn new() -> Counts {
+    fn new(version: u8) -> Counts {
         Counts {
-            by_refusal: [[0; 18]; 7],
+            version,
+            by_refusal: [[0; 19]; CALLS.len()],
             held: [0; 2],
             accepted: [0; 14],
             handed_logs: 0,
@@ -161,7 +101,7 @@ impl Counts {
             searched: 0,
             sizes: vec![false; (MOST_SUBJECTS * (MOST_PLAIN + 1)) as usize],
             above: [0; 3],
-            windows: Windows::new(),
+            conversions: Conversions::default(),
         }
     }
 
@@ -197,10 +137,10 @@ impl Counts {
     }
 
     /// What never occurred and should have, in words.
-    pub fn missing(&self) -> Vec<String> {
+    fn missing(&self) -> Vec<String> {
         let mut missing = Vec::new();
         for call in CALLS {
-            let refusals = call.refusals().into_iter();
+            let refusals = call.refusals(self.version).into_iter();
             let never = refusals.filter(|number| self.of(call, *number) == 0);
             missing.extend(never.map(|number| format!("{}: refusal {number}", call.name())));
             if self.of(call, 0) == 0 {
@@ -224,10 +164,10 @@ impl Counts {
             ("a whole record with n above its limit", self.above[0]),
             ("a whole record with p above its limit", self.above[1]),
             ("a whole record with both above", self.above[2]),
-            ("window_count: 256", self.windows.full),
         ];
         let never = answers.iter().filter(|(_, count)| *count == 0);
         missing.extend(never.map(|(answer, _)| String::from(*answer)));
+        missing.extend(self.conversions.missing(self.version));
         let sizes = self.sizes.iter().filter(|met| !**met).count();
         if sizes > 0 {
             missing.push(format!("a valid record of {sizes} sizes"));
@@ -265,8 +205,7 @@ impl Counts {
                 self.safe,
                 listed(&self.leaks, 0)
             ),
-            Call::WindowPut => self.windows.put(self.of(call, 0)),
-            Call::WindowCount => self.windows.counted(self.of(call, 0)),
+            Call::ToVersion1 | Call::ToVersion2 => format!("new records {}", self.of(call, 0)),
         }
     }
 }
@@ -282,8 +221,9 @@ fn listed(counts: &[u64], from: usize) -> String {
 
 impl fmt::Display for Counts {
     fn fmt(&self, f: &mut fmt::Formatter<'_>) -> fmt::Result {
+        writeln!(f, "records of version {}", self.version)?;
         for call in CALLS {
-            let refusals = call.refusals();
+            let refusals = call.refusals(self.version);
             let inputs: u64 = self.by_refusal[call as usize].iter().sum();
             writeln!(f, "{}: {inputs} inputs", call.name())?;
             writeln!(f, "  {}", self.answers(call))?;
@@ -298,6 +238,7 @@ impl fmt::Display for Counts {
                 .collect();
             writeln!(f, "  {word}:{text}")?;
         }
+        write!(f, "{}", self.conversions)?;
         let sizes = self.sizes.iter().filter(|met| **met).count();
         writeln!(f, "sizes of valid records: {sizes} of {}", self.sizes.len())?;
         let [of_n, of_p, of_both] = self.above;
@@ -309,7 +250,46 @@ impl fmt::Display for Counts {
             f,
             "safety questions also answered by the search: {}",
             self.searched
-        )?;
-        write!(f, "{}", self.windows)
+        )
+    }
+}
+
+/// The counts of both versions.
+pub struct Versions([Counts; VERSIONS.len()]);
+
+impl Versions {
+    pub fn new() -> Versions {
+        Versions(VERSIONS.map(Counts::new))
+    }
+
+    /// The counts of records of a version.
+    pub fn of(&mut self, version: u8) -> &mut Counts {
+        let found = self.0.iter_mut().find(|counts| counts.version == version);
+        found.expect("the version is 1 or 2")
+    }
+
+    /// The number of inputs.
+    pub fn inputs(&self) -> u64 {
+        self.0.iter().map(Counts::inputs).sum()
+    }
+
+    /// How often a right was not held, and how often it was.
+    pub fn held(&self) -> [u64; 2] {
+        [0, 1].map(|answer| self.0.iter().map(|counts| counts.held[answer]).sum())
+    }
+
+    /// What never occurred and should have, in words.
+    pub fn missing(&self) -> Vec<String> {
+        let of_each = self.0.iter().flat_map(|counts| {
+            let missing = counts.missing().into_iter();
+            missing.map(|what| format!("version {}: {what}", counts.version))
+        });
+        of_each.collect()
+    }
+}
+
+impl fmt::Display for Versions {
+    fn fmt(&self, f: &mut fmt::Formatter<'_>) -> fmt::Result {
+        self.0.iter().try_for_each(|counts| write!(f, "{counts}"))
     }
 }

@@ -1,8 +1,8 @@
 //! Records that are wrong in some way. Not each damage makes a record invalid: the second implementation says which.
 
 use crate::matrix::{
-    CONTROL, FORMER_MOST_PLAIN, FORMER_MOST_SUBJECTS, MOST_PLAIN, MOST_SUBJECTS, OWN, clear,
-    existing_subjects, is_set, set, sizes,
+    CONTROL, FORMER_MOST_PLAIN, FORMER_MOST_SUBJECTS, MOST_PLAIN, MOST_SUBJECTS, OWN, VERSIONS,
+    clear, existing_subjects, is_set, record_bytes, rights, set, sizes,
 };
 use crate::random::Random;
 
@@ -40,7 +40,13 @@ const OF_HEADER: [Damage; 6] = [
 ];
 
 /// Damages of the length, for a record of 7 bytes at least.
-const OF_LENGTH: [DamageOfLength; 4] = [cut_below_header, cut, extend, change_count_and_length];
+const OF_LENGTH: [DamageOfLength; 5] = [
+    cut_below_header,
+    cut,
+    extend,
+    change_count_and_length,
+    mix_versions,
+];
 
 /// Damages a valid record: mostly once, in the matrix or elsewhere, sometimes several times.
 pub fn damage(record: &mut Vec<u8>, random: &mut Random) {
@@ -151,7 +157,7 @@ fn remove_own_control(record: &mut [u8], random: &mut Random) {
 /// A right in the row or the column of an absent subject, or in the column of an absent plain object.
 fn fill_absent_names(record: &mut [u8], random: &mut Random) {
     let (s, column) = (any_subject(record, random), any_column(record, random));
-    let code = random.below(16);
+    let code = random.below(rights(record[0]));
     match random.below(3) {
         0 if !is_set(record, s, s, CONTROL) => set(record, s, column, code),
         1 if !is_set(record, s, s, CONTROL) => {
@@ -160,7 +166,7 @@ fn fill_absent_names(record: &mut [u8], random: &mut Random) {
         }
         _ => {
             let row = random.pick(&existing_or_zero(record));
-            set(record, row, column, 2 + random.below(14));
+            set(record, row, column, code.max(2));
         }
     }
 }
@@ -179,7 +185,7 @@ fn flip_bit(record: &mut [u8], random: &mut Random) {
 }
 
 fn set_last_cell(record: &mut [u8], random: &mut Random) {
-    let last = record.len() - 1 - random.below(2) as usize;
+    let last = record.len() - 1 - random.below(rights(record[0]) / 8) as usize;
     record[last] ^= 1 << random.below(8);
 }
 
@@ -200,8 +206,10 @@ fn extend(record: &mut Vec<u8>, random: &mut Random) {
     record.extend((0..by).map(|_| random.next() as u8));
 }
 
+/// An unknown version, or one that is known: the L and the length of the other one do not fit the record.
 fn change_version(record: &mut [u8], random: &mut Random) {
-    record[0] = random.pick(&[0, 2, 3, 0x81, 0xFF]);
+    let known = random.pick(&VERSIONS);
+    record[0] = random.pick(&[0, 3, 0x81, 0x82, 0xFF, known, known]);
 }
 
 /// n 0, or n or p over its limit.
@@ -262,6 +270,17 @@ fn change_count_and_length(record: &mut Vec<u8>, random: &mut Random) {
     };
     record.resize(length, 0);
     record[1..5].copy_from_slice(&((length - 5) as u32).to_be_bytes());
+}
+
+/// Of the version, L and the length each is that of version 1 or of version 2. Where all three are of the other version than
+/// before, the old cells are read in a wrong width.
+fn mix_versions(record: &mut Vec<u8>, random: &mut Random) {
+    let (n, p) = sizes(record);
+    let [version, of_count, of_length] = [(); 3].map(|()| random.pick(&VERSIONS));
+    let count = record_bytes(of_count, n, p) as u32 - 5;
+    record[0] = version;
+    record[1..5].copy_from_slice(&count.to_be_bytes());
+    record.resize(record_bytes(of_length, n, p), 0);
 }
 
 fn change_byte(record: &mut [u8], random: &mut Random) {

@@ -2,11 +2,14 @@
 
 use reference::{Form, Name, Right, Station};
 
+use crate::matrix::basic_rights;
 use crate::random::Random;
 
 /// Lists of names and of pairs of names of one station; columns are given by their numbers.
 #[derive(Default)]
 pub struct Facts {
+    /// How many basic rights the station's record has.
+    pub basic_rights: u64,
     pub subjects: Vec<u64>,
     pub absent_subjects: Vec<u64>,
     pub absent_plains: Vec<u64>,
@@ -22,7 +25,10 @@ pub struct Facts {
 
 impl Facts {
     pub fn of(station: &Station) -> Facts {
-        let mut facts = Facts::default();
+        let mut facts = Facts {
+            basic_rights: basic_rights(station.version.byte()),
+            ..Facts::default()
+        };
         let exists = |column: &u64| station.state.exists(station.name(*column));
         (facts.subjects, facts.absent_subjects) = (0..station.n).partition(exists);
         let plains = station.n..station.n + station.p;
@@ -38,7 +44,8 @@ impl Facts {
             if cell.has(Right::Control) {
                 facts.controlled.push((row, column));
             }
-            let starred = (0..7).filter(|k| cell.has(Right::Basic(*k, Form::Starred)));
+            let basics = 0..facts.basic_rights;
+            let starred = basics.filter(|k| cell.has(Right::Basic(*k, Form::Starred)));
             facts.stars.extend(starred.map(|k| (row, column, k)));
         }
         facts
@@ -61,7 +68,7 @@ impl Facts {
     pub fn likely_command(&self, code: u64, random: &mut Random) -> Option<[u64; 5]> {
         let i = random.pick(&self.subjects);
         let s = random.pick(&self.subjects);
-        let k = random.below(7);
+        let k = random.below(self.basic_rights);
         Some(match code {
             1 | 2 => {
                 let (i, o, k) = some_of(&self.stars, random)?;

@@ -4,12 +4,10 @@
 use reference::{Answer, WINDOW_SIZE, Window};
 
 use crate::check::{Difference, compare, hex, outcome_text};
-use crate::count::{Call, Counts};
+use crate::count_windows::Windows;
 use crate::library::{self, Outcome};
 use crate::random::Random;
-use crate::window::{
-    NUMBERS, REFUSED_NUMBERS, any_bytes, emptied, refused_number, refused_outcome,
-};
+use crate::window::{NUMBERS, REFUSED_NUMBERS, emptied, refused_number, refused_outcome};
 
 /// Every length up to this one occurs.
 pub const LONGEST: usize = 800;
@@ -25,6 +23,10 @@ fn zeros(length: usize, _: &mut Random) -> Vec<u8> {
 
 fn ones(length: usize, _: &mut Random) -> Vec<u8> {
     vec![0xFF; length]
+}
+
+fn any_bytes(length: usize, random: &mut Random) -> Vec<u8> {
+    random.bytes(length)
 }
 
 /// A window that shows a history, cut or filled up to the length, with some bits flipped.
@@ -46,7 +48,7 @@ fn flipped(length: usize, random: &mut Random) -> Vec<u8> {
 
 /// Every length with every content. Those of a window's length occur more often and get more entries, so that all of
 /// their places are met.
-pub fn all(random: &mut Random, counts: &mut Counts) -> Result<(), Difference> {
+pub fn all(random: &mut Random, counts: &mut Windows) -> Result<(), Difference> {
     for length in 0..=LONGEST {
         let (times, entries) = if length == WINDOW_SIZE {
             (30, 300)
@@ -67,10 +69,10 @@ fn ask(
     mut window: Vec<u8>,
     entries: usize,
     random: &mut Random,
-    counts: &mut Counts,
+    counts: &mut Windows,
 ) -> Result<(), Difference> {
     let null = random.one_in(2);
-    counts.windows.forged[window.len()] += 1;
+    counts.forged[window.len()] += 1;
     emptied(&window, null, counts)?;
     read_all(&window, null, random, counts)?;
     for _ in 0..entries {
@@ -88,7 +90,7 @@ fn put(
     window: &mut Vec<u8>,
     entry: [u64; 2],
     null: bool,
-    counts: &mut Counts,
+    counts: &mut Windows,
 ) -> Result<(), Difference> {
     let answer = Window::new().put(entry[0], entry[1]);
     let free = answer.refusal == 0 && window.len() == WINDOW_SIZE;
@@ -101,7 +103,7 @@ fn put(
     let inputs = || format!("initiator, outcome {entry:?}, window {}", hex(window));
     compare(&expected, got, outcome_text, "window_put", inputs)?;
     *window = expected.written;
-    counts.add(Call::WindowPut, answer.refusal);
+    counts.put.add(answer.refusal);
     Ok(())
 }
 
@@ -110,7 +112,7 @@ fn read_all(
     window: &[u8],
     null: bool,
     random: &mut Random,
-    counts: &mut Counts,
+    counts: &mut Windows,
 ) -> Result<(), Difference> {
     let numbers = (0..NUMBERS).chain(REFUSED_NUMBERS);
     for number in numbers.chain([refused_number(random)]) {
@@ -120,7 +122,7 @@ fn read_all(
 }
 
 /// The count of a number, which is free; with a refusal it is 0.
-fn read(window: &[u8], number: u64, null: bool, counts: &mut Counts) -> Result<(), Difference> {
+fn read(window: &[u8], number: u64, null: bool, counts: &mut Windows) -> Result<(), Difference> {
     let refusal = Window::new().count(number).refusal;
     let got = library::window_count(window, number, null);
     let value = match &got {
@@ -130,6 +132,6 @@ fn read(window: &[u8], number: u64, null: bool, counts: &mut Counts) -> Result<(
     let expected = Answer { refusal, value };
     let inputs = || format!("number {number}, window {}", hex(window));
     compare(&expected, got, |a| format!("{a:?}"), "window_count", inputs)?;
-    counts.add(Call::WindowCount, refusal);
+    counts.counted.add(refusal);
     Ok(())
 }

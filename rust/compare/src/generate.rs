@@ -1,11 +1,11 @@
 //! Valid records of many shapes, built cell by cell.
 
-use crate::matrix::{CONTROL, OWN, empty_record, set};
+use crate::matrix::{CONTROL, OWN, empty_record, rights, set};
 use crate::random::Random;
 
-/// A valid record of n subject names and p plain names.
-pub fn valid_record(n: u64, p: u64, random: &mut Random) -> Vec<u8> {
-    let mut record = empty_record(n, p);
+/// A valid record of a version with n subject names and p plain names.
+pub fn valid_record(version: u8, n: u64, p: u64, random: &mut Random) -> Vec<u8> {
+    let mut record = empty_record(version, n, p);
     let subjects = subjects_in_order(n, random);
     set_owners(&mut record, &subjects, random);
     set_controllers(&mut record, &subjects, random);
@@ -104,7 +104,8 @@ fn set_plain_owners(record: &mut [u8], plain: u64, subjects: &[u64], random: &mu
     }
 }
 
-/// Some basic rights, plain and starred, over existing names: none, few, many, or seldom as many as there are cells.
+/// Some basic rights, plain and starred, over existing names: none, few, many, or seldom as many as there are cells. They are
+/// of all that the version has, or of those that version 1 has too, so that many records of version 2 can become version 1.
 fn set_basic_rights(record: &mut [u8], rows: &[u64], columns: &[u64], random: &mut Random) {
     let cells = (rows.len() * columns.len()) as u64;
     let count = match random.below(32) {
@@ -113,8 +114,9 @@ fn set_basic_rights(record: &mut [u8], rows: &[u64], columns: &[u64], random: &m
         20..=30 => random.below(cells.min(200) + 1),
         _ => cells,
     };
+    let codes = random.pick(&[rights(1), rights(record[0])]);
     for _ in 0..count {
         let (row, column) = (random.pick(rows), random.pick(columns));
-        set(record, row, column, 2 + random.below(14));
+        set(record, row, column, 2 + random.below(codes - 2));
     }
 }

@@ -22,8 +22,10 @@ impl Guarded {
     pub fn holding(content: &[u8]) -> Guarded {
         let last = content.last().map_or(0, |byte| usize::from(*byte));
         let (start, length) = (GUARD + (content.len() + last) % 7, content.len());
-        let mut bytes: Vec<u8> = (0..start + length + GUARD).map(guard_byte).collect();
-        bytes[start..start + length].copy_from_slice(content);
+        let end = start + length;
+        let mut bytes: Vec<u8> = (0..start).map(guard_byte).collect();
+        bytes.extend_from_slice(content);
+        bytes.extend((end..end + GUARD).map(guard_byte));
         Guarded {
             bytes,
             start,

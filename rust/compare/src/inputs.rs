@@ -1,18 +1,23 @@
 //! Numbers, commands, lists and questions: likely ones, random ones, and ones made to be wrong at a bound.
 
 use reference::{
-    LIST_MAXIMUM, Name, Station, U, allowed, buffer_minimum, change, decode, write_list,
+    LIST_MAXIMUM, Name, Station, U, allowed, buffer_minimum, change, decode_in, write_list,
 };
 
 use crate::facts::Facts;
-use crate::matrix::{FORMER_MOST_PLAIN, FORMER_MOST_SUBJECTS, MOST_PLAIN, MOST_SUBJECTS};
+use crate::matrix::{
+    CONTROL, FORMER_MOST_PLAIN, FORMER_MOST_SUBJECTS, MOST_PLAIN, MOST_SUBJECTS, OWN, VERSIONS,
+    basic_rights, rights,
+};
 use crate::random::Random;
 
-/// The bounds of k, of the code and of the right; of a record, now and formerly; of widths.
-const BOUNDS: [u64; 11] = [
+/// The bounds of k and of the right in each version, and of the code; of a record, now and formerly; of widths.
+const BOUNDS: [u64; 13] = [
     7,
-    14,
+    15,
     16,
+    32,
+    14,
     MOST_SUBJECTS,
     FORMER_MOST_SUBJECTS,
     MOST_PLAIN,
@@ -40,7 +45,8 @@ fn extreme(legal: u64, bound: u64, random: &mut Random) -> u64 {
 
 /// A command as five numbers: likely to be accepted, random within the bounds, or with some numbers made extreme.
 pub fn command(station: &Station, facts: &Facts, random: &mut Random) -> [u64; 5] {
-    let bounds = [14, station.n, station.n, station.n + station.p, 7];
+    let (n, columns) = (station.n, station.n + station.p);
+    let bounds = [14, n, n, columns, facts.basic_rights];
     let mut fields = byte_command(station, facts, random);
     if random.one_in(5) {
         for _ in 0..1 + random.below(2) {
@@ -60,7 +66,7 @@ fn byte_command(station: &Station, facts: &Facts, random: &mut Random) -> [u64; 
         random.below(n),
         random.below(n),
         random.below(n + p),
-        random.below(7),
+        below_of_version(basic_rights, station, random),
     ];
     let likely = facts.likely_command(code, random);
     match random.below(6) {
@@ -68,6 +74,16 @@ fn byte_command(station: &Station, facts: &Facts, random: &mut Random) -> [u64; 
         4 => with_unused_zero(any),
         _ => any,
     }
+}
+
+/// A number below a bound that the station's version has, seldom below that of the other version.
+fn below_of_version(bound: fn(u8) -> u64, station: &Station, random: &mut Random) -> u64 {
+    let version = if random.one_in(16) {
+        random.pick(&VERSIONS)
+    } else {
+        station.version.byte()
+    };
+    random.below(bound(version))
 }
 
 /// The command with 0 in each field that its code does not use.
@@ -96,7 +112,7 @@ fn commands_in_turn(
             let field = random.below(5) as usize;
             fields[field] = random.below(256);
         }
-        let accepted = decode(fields, station.n, station.p)
+        let accepted = decode_in(station.version, fields, station.n, station.p)
             .ok()
             .filter(|command| allowed(&station.state, command).is_ok());
         if let Some(command) = accepted {
@@ -172,8 +188,10 @@ fn damage_list(list: &mut Vec<u8>, random: &mut Random) {
 
 /// s, o and a right: of a bit that is set, or any within their bounds; sometimes with one of them made extreme.
 pub fn held_question(station: &Station, random: &mut Random) -> [u64; 3] {
-    let bounds = [station.n, station.n + station.p, 16];
+    let version = station.version.byte();
+    let bounds = [station.n, station.n + station.p, rights(version)];
     let mut numbers = bounds.map(|bound| random.below(bound));
+    numbers[2] = below_of_version(rights, station, random);
     if random.one_in(3) {
         numbers = set_bit(station, random);
     }
@@ -191,7 +209,8 @@ fn set_bit(station: &Station, random: &mut Random) -> [u64; 3] {
     let at = random.below(cells) as usize;
     let (name, row, cell) = station.state.cells().nth(at).expect("U controls itself");
     let (Name::Subject(column) | Name::Plain(column)) = name;
-    let codes: Vec<u64> = (0..16).filter(|code| cell.0 >> code & 1 == 1).collect();
+    let all = 0..rights(station.version.byte());
+    let codes: Vec<u64> = all.filter(|code| cell.0 >> code & 1 == 1).collect();
     let code = random.pick(&codes);
     [row, column, code.saturating_sub(random.below(2))]
 }
@@ -235,11 +254,12 @@ fn deep_question(station: &Station, random: &mut Random) -> [u64; 4] {
     };
     let all = u64::MAX >> (64 - station.n);
     let untrusted = 1 | 1 << (random.below(station.n) * random.below(2));
+    let basic = 2 + random.below(rights(station.version.byte()) - 2);
     [
         all & !untrusted,
         random.below(station.n),
         o,
-        random.below(4),
+        random.pick(&[OWN, CONTROL, basic, basic]),
     ]
 }
 

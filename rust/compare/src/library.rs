@@ -103,6 +103,27 @@ pub fn safety(
     })
 }
 
+/// A conversion to a version; the output after it is what was written.
+pub fn convert(record: &[u8], wanted: u8, output: &[u8], null: bool) -> Result<Outcome, String> {
+    let call = match wanted {
+        1 => raw::bunvespo_to_version_1,
+        _ => raw::bunvespo_to_version_2,
+    };
+    let mut lent = Guarded::holding(record);
+    let mut lent_output = Guarded::holding(output);
+    // SAFETY: as in `valid`, for both buffers, which do not overlap.
+    let got = unsafe {
+        let record_pointer = lent.pointer(null);
+        let out = lent_output.pointer(null);
+        call(record_pointer, record.len(), out, output.len())
+    };
+    lent.unchanged(record, "record")?;
+    Ok(Outcome {
+        answer: answer(got),
+        written: lent_output.content()?.to_vec(),
+    })
+}
+
 /// Makes bytes an empty window; its bytes after that.
 pub fn window_empty(window: &[u8], null: bool) -> Result<Vec<u8>, String> {
     let mut lent = Guarded::holding(window);

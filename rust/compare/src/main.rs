@@ -1,16 +1,19 @@
 //! Asks the proved library, through its C interface, and the second implementation the same seeded inputs, and
-//! compares answers, numbers and buffers to the last byte. It exits with 0 only if all agree, every refusal and answer
-//! that the manual gives occurred, and so did valid records of every size and whole ones above the limits of n and p.
+//! compares answers, numbers and buffers to the last byte. It exits with 0 only if all agree, and in each version of the
+//! record every refusal and answer that the manual gives occurred, and so did valid records of every size and whole ones above
+//! the limits of n and p.
 //!
 //!     compare [--inputs N] [--seed S] [--program PATH]
 //!
-//! N is the number of inputs on records drawn at random. The inputs of every cell with every right and those of windows
-//! come after them and are not among the N.
+//! N is the number of inputs on records drawn at random. The inputs of cells with every right and those of windows are not
+//! among the N.
 
 mod above;
 mod cells;
 mod check;
+mod convert;
 mod count;
+mod count_windows;
 mod damage;
 mod facts;
 mod forged;
@@ -26,10 +29,12 @@ mod small;
 mod window;
 
 use std::process::ExitCode;
+use std::thread;
 use std::time::Instant;
 
 use check::Difference;
-use count::Counts;
+use count::Versions;
+use count_windows::Windows;
 use random::Random;
 use small::Searches;
 
@@ -47,14 +52,15 @@ const PROGRAM: &str = concat!(
 );
 
 /// How many inputs on records there are to one time with windows.
-const INPUTS_TO_WINDOWS: u64 = 100_000;
+const INPUTS_TO_WINDOWS: u64 = 350_000;
 
-/// The stream of random numbers of the first time with windows, beyond those of all rounds.
+/// The stream of random numbers of the first time with windows, beyond those of all rounds, and that of cells.
 const FIRST_OF_WINDOWS: u64 = 1 << 48;
+const OF_CELLS: u64 = 1 << 49;
 
 fn options() -> Result<Options, String> {
     let mut options = Options {
-        inputs: 200_000,
+        inputs: 700_000,
         seed: 1,
         program: String::from(PROGRAM),
     };
@@ -85,8 +91,8 @@ fn told(options: &Options, place: &str, number: u64, d: Difference) -> String {
     )
 }
 
-/// Rounds until there were as many inputs on records as asked for. No window was asked before them.
-fn run_rounds(options: &Options, counts: &mut Counts) -> Result<(), String> {
+/// Rounds until there were as many inputs on records as asked for.
+fn run_rounds(options: &Options, counts: &mut Versions) -> Result<(), String> {
     let mut searches = Searches::default();
     let mut number = 0;
     while counts.inputs() < options.inputs {
@@ -98,8 +104,8 @@ fn run_rounds(options: &Options, counts: &mut Counts) -> Result<(), String> {
     Ok(())
 }
 
-/// Windows: once, and once more for each further 100,000 inputs on records that are asked for.
-fn run_windows(options: &Options, counts: &mut Counts) -> Result<(), String> {
+/// Windows: once, and once more for each further 350,000 inputs on records that are asked for.
+fn run_windows(options: &Options, counts: &mut Windows) -> Result<(), String> {
     for number in 0..options.inputs.div_ceil(INPUTS_TO_WINDOWS).max(1) {
         let mut random = Random::new(options.seed, FIRST_OF_WINDOWS + number);
         window::all(&mut random, counts)
@@ -108,48 +114,67 @@ fn run_windows(options: &Options, counts: &mut Counts) -> Result<(), String> {
     Ok(())
 }
 
-/// Every cell of a login over a login and over a log, with every right. It is the same in every run.
-fn run_cells(options: &Options, counts: &mut Counts) -> Result<(), String> {
-    cells::all(counts).map_err(|difference| told(options, "cells", 0, difference))
+/// Cells of a login over a login and over a log, with every right. At version 1 they are the same in every run.
+fn run_cells(options: &Options, counts: &mut Versions) -> Result<(), String> {
+    let mut random = Random::new(options.seed, OF_CELLS);
+    cells::all(&mut random, counts).map_err(|difference| told(options, "cells", 0, difference))
 }
 
-/// One part of the calls, and the line that tells its inputs and its seconds.
-fn part(
+/// One part of the calls, and the line that tells its inputs and its seconds. The counts are new ones.
+fn part<C>(
     what: &str,
-    counts: &mut Counts,
-    run: impl FnOnce(&mut Counts) -> Result<(), String>,
+    counts: &mut C,
+    run: impl FnOnce(&mut C) -> Result<(), String>,
+    inputs: impl FnOnce(&C) -> u64,
 ) -> Result<String, String> {
-    let (before, started) = (counts.inputs(), Instant::now());
+    let started = Instant::now();
     run(counts)?;
-    let (inputs, seconds) = (counts.inputs() - before, started.elapsed().as_secs_f64());
+    let (inputs, seconds) = (inputs(counts), started.elapsed().as_secs_f64());
     Ok(format!("{inputs} inputs{what} in {seconds:.1} s"))
 }
 
-/// The calls, with the inputs and the seconds of each part. Those of every cell are counted apart: what has to occur at
-/// least once has to do so among the others.
-fn run_calls(options: &Options) -> Result<Counts, String> {
-    let (mut counts, mut of_cells) = (Counts::new(), Counts::new());
-    let rounds = part("", &mut counts, |c| run_rounds(options, c))?;
-    let cells = part(" of every cell with every right", &mut of_cells, |c| {
-        run_cells(options, c)
-    })?;
-    let windows = part(" of windows", &mut counts, |c| run_windows(options, c))?;
-    let [not_held, held] = of_cells.held;
-    print!("{counts}");
-    println!("{rounds}\n{cells}: held {held}, not held {not_held}\n{windows}");
-    Ok(counts)
+/// Cells, and then windows, with the lines that tell of them.
+fn run_others(
+    options: &Options,
+    cells: &mut Versions,
+    windows: &mut Windows,
+) -> Result<[String; 2], String> {
+    let run = |counts: &mut Versions| run_cells(options, counts);
+    let what = " of cells with every right";
+    let of_cells = part(what, cells, run, Versions::inputs)?;
+    let [not_held, held] = cells.held();
+    let run = |counts: &mut Windows| run_windows(options, counts);
+    let of_windows = part(" of windows", windows, run, Windows::inputs)?;
+    let of_cells = format!("{of_cells}: held {held}, not held {not_held}");
+    Ok([of_cells, of_windows])
+}
+
+/// The calls, with the inputs and the seconds of each part; what never occurred and should have. The rounds take about as
+/// long as the others, and go on at the same time. Those of cells are counted apart: what has to occur at least once has to do
+/// so in the rounds.
+fn run_calls(options: &Options) -> Result<Vec<String>, String> {
+    let (mut counts, mut cells) = (Versions::new(), Versions::new());
+    let mut windows = Windows::new();
+    let (rounds, others) = thread::scope(|scope| {
+        let others = scope.spawn(|| run_others(options, &mut cells, &mut windows));
+        let run = |counts: &mut Versions| run_rounds(options, counts);
+        let rounds = part("", &mut counts, run, Versions::inputs);
+        (rounds, others.join().expect("cells and windows are asked"))
+    });
+    let (rounds, [of_cells, of_windows]) = (rounds?, others?);
+    print!("{counts}{windows}");
+    println!("{rounds}\n{of_cells}\n{of_windows}");
+    Ok([counts.missing(), windows.missing()].concat())
 }
 
 /// The calls on records and on windows, and the program.
 fn compare(options: &Options) -> Result<(), String> {
     println!("seed {}", options.seed);
-    let counts = run_calls(options)?;
-    let missing = counts.missing();
+    let mut missing = run_calls(options)?;
+    missing.extend(program::compare(&options.program, options.seed)?);
     if !missing.is_empty() {
         return Err(format!("never occurred: {}", missing.join("; ")));
     }
-    let runs = program::compare(&options.program, options.seed)?;
-    print!("{runs}");
     println!("no difference");
     Ok(())
 }

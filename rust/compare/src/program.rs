@@ -11,7 +11,7 @@ use crate::check::hex;
 use crate::damage::damage;
 use crate::generate::valid_record;
 use crate::inputs;
-use crate::matrix::{MOST_PLAIN, MOST_SUBJECTS};
+use crate::matrix::{MOST_PLAIN, MOST_SUBJECTS, VERSIONS};
 use crate::random::Random;
 
 /// The most bytes of an input that is asked (Manual 10.2).
@@ -20,18 +20,46 @@ const INPUT_MAXIMUM: usize = 65_536;
 /// The bytes of a question after the record: the trust mask in eight, and s, o and the right.
 const QUESTION_BYTES: usize = 11;
 
-/// The number of generated inputs, besides those of special lengths and those with records above the limits.
+/// The number of generated inputs for each version, besides those of special lengths and those with records above the limits.
 const GENERATED: u64 = 280;
 
-/// The number of inputs with whole records above the limits.
+/// The number of inputs for each version with whole records above the limits.
 const ABOVE: u64 = 40;
 
-/// How often the program printed what.
-#[derive(Default)]
-pub struct Runs {
+/// How often the program printed what, for inputs of one kind.
+struct Runs {
+    kind: String,
     safe: u64,
     leaks: u64,
-    refused: [u64; 17],
+    refused: [u64; 19],
+}
+
+impl Runs {
+    fn of(kind: String) -> Runs {
+        Runs {
+            kind,
+            safe: 0,
+            leaks: 0,
+            refused: [0; 19],
+        }
+    }
+
+    /// What was never printed for records of a version, in words: safe, leaks, and the refusals of whole records and of
+    /// questions.
+    fn missing(&self) -> Vec<String> {
+        let printed = [
+            ("safe", self.safe),
+            ("leaks", self.leaks),
+            ("refused 3", self.refused[3]),
+            ("refused 4", self.refused[4]),
+            ("refused 5", self.refused[5]),
+            ("refused 7", self.refused[7]),
+        ];
+        let never = printed.iter().filter(|(_, count)| *count == 0);
+        never
+            .map(|(line, _)| format!("program, {}: {line}", self.kind))
+            .collect()
+    }
 }
 
 impl fmt::Display for Runs {
@@ -40,8 +68,8 @@ impl fmt::Display for Runs {
         let total = self.safe + self.leaks + refused;
         write!(
             f,
-            "program: {total} inputs; safe {}, leaks {}, refused",
-            self.safe, self.leaks
+            "program, {}: {total} inputs; safe {}, leaks {}, refused",
+            self.kind, self.safe, self.leaks
         )?;
         let numbered = self.refused.iter().enumerate();
         for (number, count) in numbered.filter(|(_, count)| **count > 0) {
@@ -161,8 +189,8 @@ fn print_of(program: &str, input: &[u8]) -> Result<Vec<u8>, String> {
     Ok(child.wait_with_output().map_err(failed)?.stdout)
 }
 
-/// A generated input: a record, valid or damaged, and a question.
-fn generated(random: &mut Random) -> Vec<u8> {
+/// A generated input: a record of a version, valid or damaged, and a question.
+fn generated(version: u8, random: &mut Random) -> Vec<u8> {
     let (n, p) = match random.below(4) {
         0 => (
             1 + random.below(MOST_SUBJECTS),
@@ -170,7 +198,7 @@ fn generated(random: &mut Random) -> Vec<u8> {
         ),
         _ => (1 + random.below(5), random.below(5)),
     };
-    let mut input = valid_record(n, p, random);
+    let mut input = valid_record(version, n, p, random);
     let station = read(&input).expect("the record was built to be valid");
     let question = inputs::safety_question(&station, random);
     if random.one_in(3) {
@@ -183,9 +211,9 @@ fn generated(random: &mut Random) -> Vec<u8> {
     input
 }
 
-/// An input with a whole record above the limits and a question about its names.
-fn above(random: &mut Random) -> Vec<u8> {
-    let (mut input, station) = record_above(random);
+/// An input with a whole record of a version above the limits and a question about its names.
+fn above(version: u8, random: &mut Random) -> Vec<u8> {
+    let (mut input, station) = record_above(version, random);
     append(&mut input, inputs::safety_question(&station, random));
     input
 }
@@ -207,26 +235,53 @@ fn special() -> Vec<Vec<u8>> {
         200_000,
     ];
     let all = lengths.into_iter().chain(about_the_most);
-    all.flat_map(|length| [vec![0; length], vec![1; length]])
+    all.flat_map(|length| [0, 1, 2].map(|byte| vec![byte; length]))
         .collect()
 }
 
-/// Runs the program on all inputs and compares what it prints.
-pub fn compare(program: &str, seed: u64) -> Result<Runs, String> {
-    let mut runs = Runs::default();
-    let mut random = Random::new(seed, u64::MAX);
-    let mut inputs = special();
-    inputs.extend((0..GENERATED).map(|_| generated(&mut random)));
-    for input in inputs {
-        let printed = print_of(program, &input)?;
-        let checked = check(&input, &printed, &mut runs);
-        checked.map_err(|fault| told(seed, &input, &printed, &fault))?;
+/// Runs the program on an input and compares what it prints.
+fn ask(program: &str, seed: u64, input: &[u8], runs: &mut Runs) -> Result<Vec<u8>, String> {
+    let printed = print_of(program, input)?;
+    let checked = check(input, &printed, runs);
+    checked.map_err(|fault| told(seed, input, &printed, &fault))?;
+    Ok(printed)
+}
+
+/// Runs the program on inputs with records of a version.
+fn ask_of_version(
+    version: u8,
+    program: &str,
+    seed: u64,
+    random: &mut Random,
+) -> Result<Runs, String> {
+    let mut runs = Runs::of(format!("records of version {version}"));
+    for _ in 0..GENERATED {
+        ask(program, seed, &generated(version, random), &mut runs)?;
     }
     for _ in 0..ABOVE {
-        let input = above(&mut random);
-        let printed = print_of(program, &input)?;
-        let checked = check(&input, &printed, &mut runs).and_then(|()| refused(REFUSED, &printed));
-        checked.map_err(|fault| told(seed, &input, &printed, &fault))?;
+        let input = above(version, random);
+        let printed = ask(program, seed, &input, &mut runs)?;
+        // An input of too many bytes is refused before its record is looked at.
+        let refusal = asked(&input).err().unwrap_or(REFUSED);
+        refused(refusal, &printed).map_err(|fault| told(seed, &input, &printed, &fault))?;
     }
     Ok(runs)
+}
+
+/// Runs the program on all inputs, compares what it prints, and tells how often it printed what; gives what it never printed
+/// and should have.
+pub fn compare(program: &str, seed: u64) -> Result<Vec<String>, String> {
+    let mut random = Random::new(seed, u64::MAX);
+    let mut runs = Runs::of(String::from("special lengths"));
+    for input in special() {
+        ask(program, seed, &input, &mut runs)?;
+    }
+    print!("{runs}");
+    let mut missing = Vec::new();
+    for version in VERSIONS {
+        let runs = ask_of_version(version, program, seed, &mut random)?;
+        print!("{runs}");
+        missing.extend(runs.missing());
+    }
+    Ok(missing)
 }

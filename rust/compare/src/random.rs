@@ -28,6 +28,12 @@ impl Random {
         self.below(times) == 0
     }
 
+    /// So many bytes.
+    pub fn bytes(&mut self, length: usize) -> Vec<u8> {
+        let eights = (0..length.div_ceil(8)).flat_map(|_| self.next().to_ne_bytes());
+        eights.take(length).collect()
+    }
+
     /// One element of a slice that is not empty.
     pub fn pick<T: Copy>(&mut self, from: &[T]) -> T {
         from[self.below(from.len() as u64) as usize]

@@ -1,16 +1,17 @@
-//! One round: a valid record of the next size, a small valid record and a damaged one, with inputs of all five calls
-//! on records; in some rounds also a record above the limits, the longest lists and all questions of a small station.
+//! One round: a valid record of the next version and size, a small valid record and a damaged one, with inputs of all seven
+//! calls on records; in some rounds also a record above the limits, the longest lists and all questions of a small station.
 
 use reference::{Station, read};
 
 use crate::above::{REFUSED, record_above};
 use crate::check::{self, Difference, hex};
-use crate::count::Counts;
+use crate::convert;
+use crate::count::{Counts, Versions};
 use crate::damage::damage;
 use crate::facts::Facts;
 use crate::generate::valid_record;
 use crate::inputs;
-use crate::matrix::{MOST_PLAIN, MOST_SUBJECTS};
+use crate::matrix::{MOST_PLAIN, MOST_SUBJECTS, VERSIONS};
 use crate::random::Random;
 use crate::small::{self, Searches, not_valid};
 
@@ -20,10 +21,13 @@ const ROUNDS_TO_ABOVE: u64 = 4;
 const ROUNDS_TO_LONGEST_LIST: u64 = 500;
 const ROUNDS_TO_SMALL_STATION: u64 = 250;
 
-/// The size of a round's record: in as many rounds as there are sizes every size occurs.
-fn size_of_round(round: u64) -> (u64, u64) {
-    let (n, p) = (round % MOST_SUBJECTS, round / MOST_SUBJECTS);
-    (1 + n, p % (MOST_PLAIN + 1))
+/// The version and the size of a round's record: in twice as many rounds as there are sizes, every size occurs in both
+/// versions.
+fn size_of_round(round: u64) -> (u8, u64, u64) {
+    let versions = VERSIONS.len() as u64;
+    let (version, size) = (round % versions, round / versions);
+    let (n, p) = (size % MOST_SUBJECTS, size / MOST_SUBJECTS);
+    (VERSIONS[version as usize], 1 + n, p % (MOST_PLAIN + 1))
 }
 
 /// A small size.
@@ -36,24 +40,28 @@ pub fn round(
     number: u64,
     random: &mut Random,
     searches: &mut Searches,
-    counts: &mut Counts,
+    versions: &mut Versions,
 ) -> Result<(), Difference> {
-    let (n, p) = size_of_round(number);
-    let large = valid_record(n, p, random);
-    ask_of_valid(&large, random, counts)?;
+    let (version, n, p) = size_of_round(number);
+    let large = valid_record(version, n, p, random);
+    ask_of_valid(&large, random, versions.of(version))?;
+    let version = random.pick(&VERSIONS);
     let (n, p) = small_size(random);
-    let small = valid_record(n, p, random);
-    ask_of_valid(&small, random, counts)?;
+    let small = valid_record(version, n, p, random);
+    ask_of_valid(&small, random, versions.of(version))?;
     let damaged = if random.one_in(4) { large } else { small };
+    let counts = versions.of(damaged[0]);
     ask_of_damaged(damaged, random, counts)?;
+    let version = random.pick(&VERSIONS);
+    let counts = versions.of(version);
     if number.is_multiple_of(ROUNDS_TO_ABOVE) {
-        ask_above(random, counts)?;
+        ask_above(version, random, counts)?;
     }
     if number.is_multiple_of(ROUNDS_TO_LONGEST_LIST) {
-        longest_list(random, counts)?;
+        longest_list(version, random, counts)?;
     }
     if number.is_multiple_of(ROUNDS_TO_SMALL_STATION) {
-        small::all_questions(random, searches, counts)?;
+        small::all_questions(version, random, searches, counts)?;
     }
     Ok(())
 }
@@ -63,14 +71,19 @@ fn station_of(record: &[u8]) -> Result<Station, Difference> {
     read(record).map_err(|refusal| not_valid(record, refusal))
 }
 
-/// One input of each of the five calls on a valid record.
+/// One input of each of the seven calls on a valid record, and more conversions of it.
 fn ask_of_valid(record: &[u8], random: &mut Random, counts: &mut Counts) -> Result<(), Difference> {
     let station = station_of(record)?;
     counts.add_size(station.n, station.p);
-    ask_each(record, &station, random, counts)
+    ask_each(record, &station, random, counts)?;
+    convert::there_and_back(record, random, counts)?;
+    if record[0] == 2 {
+        convert::ask_with_high_right(record, random, counts)?;
+    }
+    Ok(())
 }
 
-/// One input of each of the five calls on a record, drawn from its station.
+/// One input of each of the seven calls on a record, drawn from its station.
 fn ask_each(
     record: &[u8],
     station: &Station,
@@ -86,13 +99,14 @@ fn ask_each(
     check::run(record, &list, random.one_in(2), counts)?;
     let question = inputs::safety_question(station, random);
     let length = inputs::buffer_length(station.n, random);
-    check::safety(record, question, length, random.one_in(2), counts)
+    check::safety(record, question, length, random.one_in(2), counts)?;
+    convert::ask_both(record, random.one_in(2), random, counts)
 }
 
-/// One input of each of the five calls on a whole record above the limits. All of them have to be refused for that,
+/// One input of each of the seven calls on a whole record above the limits. All of them have to be refused for that,
 /// whatever is asked.
-fn ask_above(random: &mut Random, counts: &mut Counts) -> Result<(), Difference> {
-    let (record, station) = record_above(random);
+fn ask_above(version: u8, random: &mut Random, counts: &mut Counts) -> Result<(), Difference> {
+    let (record, station) = record_above(version, random);
     let others = counts.inputs_but(REFUSED);
     ask_each(&record, &station, random, counts)?;
     if counts.inputs_but(REFUSED) != others {
@@ -108,8 +122,8 @@ fn ask_above(random: &mut Random, counts: &mut Counts) -> Result<(), Difference>
     Ok(())
 }
 
-/// Inputs of the validity call and of two others on a record that was valid and is damaged. What is asked of it was
-/// drawn from the record before, or is wrong too.
+/// Inputs of the validity call, of the conversions and of two others on a record that was valid and is damaged. What is
+/// asked of it was drawn from the record before, or is wrong too.
 fn ask_of_damaged(
     mut record: Vec<u8>,
     random: &mut Random,
@@ -119,6 +133,7 @@ fn ask_of_damaged(
     damage(&mut record, random);
     let null = random.one_in(2);
     check::valid(&record, null, counts)?;
+    convert::ask_both(&record, null, random, counts)?;
     for _ in 0..2 {
         match random.below(4) {
             0 => {
@@ -144,9 +159,9 @@ fn ask_of_damaged(
 }
 
 /// A list of about the most commands, on a small record, where the second implementation is fast.
-fn longest_list(random: &mut Random, counts: &mut Counts) -> Result<(), Difference> {
+fn longest_list(version: u8, random: &mut Random, counts: &mut Counts) -> Result<(), Difference> {
     let (n, p) = small_size(random);
-    let record = valid_record(n, p, random);
+    let record = valid_record(version, n, p, random);
     let list = inputs::longest_list(&station_of(&record)?, random);
     check::run(&record, &list, false, counts)
 }

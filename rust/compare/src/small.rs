@@ -8,6 +8,7 @@ use reference::{Name, Right, State, Station, buffer_minimum, leaks_by_definition
 use crate::check::{self, Difference, hex};
 use crate::count::Counts;
 use crate::generate::valid_record;
+use crate::matrix::rights;
 use crate::random::Random;
 
 /// The search goes through subject names below this number: those of the record, and beyond it one or two.
@@ -43,19 +44,20 @@ impl Searches {
     }
 }
 
-/// All questions of one small station: every trust mask, s, o and right.
+/// All questions of one small station of a version: every trust mask, s, o and right.
 pub fn all_questions(
+    version: u8,
     random: &mut Random,
     searches: &mut Searches,
     counts: &mut Counts,
 ) -> Result<(), Difference> {
     let (n, p) = (1 + random.below(SUBJECTS_SEARCHED), random.below(3));
-    let record = valid_record(n, p, random);
+    let record = valid_record(version, n, p, random);
     let station = reference::read(&record).map_err(|refusal| not_valid(&record, refusal))?;
     for trust in 0..1 << n {
         for s in 0..n {
             for o in 0..n + p {
-                for right in 0..16 {
+                for right in 0..rights(version) {
                     let question = [trust, s, o, right];
                     agree(&record, &station, question, searches)?;
                     check::safety(&record, question, buffer_minimum(n), false, counts)?;

@@ -4,7 +4,7 @@
 use reference::{WINDOW_SIZE, Window};
 
 use crate::check::{Difference, compare, hex, outcome_text};
-use crate::count::{Call, Counts};
+use crate::count_windows::Windows;
 use crate::forged;
 use crate::library::{self, Outcome};
 use crate::random::Random;
@@ -26,8 +26,8 @@ pub const REFUSED_NUMBERS: [u64; 10] = [
     u64::MAX,
 ];
 
-/// Outcomes of refused commands besides 1 to 17; several are 0 modulo a width of bits.
-const OTHER_OUTCOMES: [u64; 8] = [18, 64, 255, 256, 65_536, 1 << 32, 1 << 63, u64::MAX];
+/// Outcomes of refused commands besides 1 to 18; several are 0 modulo a width of bits.
+const OTHER_OUTCOMES: [u64; 8] = [19, 64, 255, 256, 65_536, 1 << 32, 1 << 63, u64::MAX];
 
 /// How many entries the histories of each shape take at least.
 const LENGTHS: [usize; 4] = [1_100, 1_300, 1_600, 3_000];
@@ -107,17 +107,12 @@ pub fn refused_outcome(random: &mut Random) -> u64 {
     match random.below(4) {
         0 => random.pick(&OTHER_OUTCOMES),
         1 => 1 << random.below(64),
-        _ => 1 + random.below(17),
+        _ => 1 + random.below(18),
     }
 }
 
-/// Bytes of random content.
-pub fn any_bytes(length: usize, random: &mut Random) -> Vec<u8> {
-    (0..length).map(|_| random.next() as u8).collect()
-}
-
 /// Histories of all shapes and lengths, and forged windows.
-pub fn all(random: &mut Random, counts: &mut Counts) -> Result<(), Difference> {
+pub fn all(random: &mut Random, counts: &mut Windows) -> Result<(), Difference> {
     for shape in [Shape::Mixed, Shape::Runs, Shape::Stretches] {
         for length in LENGTHS {
             history(shape, length, random, counts)?;
@@ -131,9 +126,9 @@ fn history(
     shape: Shape,
     length: usize,
     random: &mut Random,
-    counts: &mut Counts,
+    counts: &mut Windows,
 ) -> Result<(), Difference> {
-    let mut window = emptied(&any_bytes(WINDOW_SIZE, random), false, counts)?;
+    let mut window = emptied(&random.bytes(WINDOW_SIZE), false, counts)?;
     let mut history = Window::new();
     read_all(&window, &history, random, counts)?;
     while history.entries() < length {
@@ -144,12 +139,12 @@ fn history(
             read_all(&window, &history, random, counts)?;
         }
     }
-    counts.windows.longest = counts.windows.longest.max(history.entries());
+    counts.longest = counts.longest.max(history.entries());
     Ok(())
 }
 
 /// Empties a window; bytes of another length have to stay as they are. The bytes after that.
-pub fn emptied(window: &[u8], null: bool, counts: &mut Counts) -> Result<Vec<u8>, Difference> {
+pub fn emptied(window: &[u8], null: bool, counts: &mut Windows) -> Result<Vec<u8>, Difference> {
     let expected = if window.len() == WINDOW_SIZE {
         Window::new().bytes().to_vec()
     } else {
@@ -159,7 +154,7 @@ pub fn emptied(window: &[u8], null: bool, counts: &mut Counts) -> Result<Vec<u8>
     let text = |bytes: &Vec<u8>| format!("bytes after {}", hex(bytes));
     let inputs = || format!("window {}", hex(window));
     compare(&expected, got, text, "window_empty", inputs)?;
-    counts.windows.emptied += 1;
+    counts.emptied += 1;
     Ok(expected)
 }
 
@@ -168,7 +163,7 @@ fn put(
     window: &mut Vec<u8>,
     history: &mut Window,
     entry: [u64; 2],
-    counts: &mut Counts,
+    counts: &mut Windows,
 ) -> Result<(), Difference> {
     let before = history.entries();
     let answer = history.put(entry[0], entry[1]);
@@ -185,8 +180,8 @@ fn put(
     };
     compare(&expected, got, outcome_text, "window_put", inputs)?;
     *window = expected.written;
-    counts.add(Call::WindowPut, answer.refusal);
-    counts.windows.taken += u64::from(answer.refusal == 0);
+    counts.put.add(answer.refusal);
+    counts.taken += u64::from(answer.refusal == 0);
     Ok(())
 }
 
@@ -195,7 +190,7 @@ fn read_all(
     window: &[u8],
     history: &Window,
     random: &mut Random,
-    counts: &mut Counts,
+    counts: &mut Windows,
 ) -> Result<(), Difference> {
     let refused = [
         NUMBERS,
@@ -213,7 +208,7 @@ fn read(
     window: &[u8],
     history: &Window,
     number: u64,
-    counts: &mut Counts,
+    counts: &mut Windows,
 ) -> Result<(), Difference> {
     let expected = history.count(number);
     let got = library::window_count(window, number, false);
@@ -225,8 +220,8 @@ fn read(
         )
     };
     compare(&expected, got, |a| format!("{a:?}"), "window_count", inputs)?;
-    counts.add(Call::WindowCount, expected.refusal);
-    counts.windows.read += u64::from(expected.refusal == 0);
-    counts.windows.full += u64::from(expected.value == 256);
+    counts.counted.add(expected.refusal);
+    counts.read += u64::from(expected.refusal == 0);
+    counts.full += u64::from(expected.value == 256);
     Ok(())
 }

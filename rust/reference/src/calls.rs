@@ -1,12 +1,12 @@
-//! The five calls on a record, of any bytes and any numbers. Tests go by their numbers, the lowest first, and where one holds the call is
-//! turned down and changes nothing.
+//! The seven calls on a record, of any bytes and any numbers. Tests go by their numbers, the lowest first, but for
+//! 18, which comes before 15; and where one holds the call is turned down and changes nothing.
 
 use crate::Refusal;
 use crate::command::{self, Refused, allowed, change};
 use crate::list::read_list;
 use crate::record::{Station, read, write};
-use crate::rights::Right;
 use crate::safety::{buffer_minimum, leaks, question};
+use crate::version::Version;
 
 /// An answer as the C interface gives it: refusal 0 where the call is answered.
 #[derive(Clone, Copy, Debug, PartialEq, Eq)]
@@ -35,9 +35,9 @@ pub fn held(record: &[u8], s: u64, o: u64, right: u64) -> Answer {
         Ok(station) => station,
         Err(refusal) => return Answer { refusal, value: 0 },
     };
-    // 7: the bounds of a held question (Manual 7.2).
+    // 7: the bounds of a held question (Manual 7.2). That of the right's code is the version's.
     let in_bounds = s < station.n && o < station.n + station.p;
-    match Right::from_code(right) {
+    match station.version.right(right) {
         Some(right) if in_bounds => Answer {
             refusal: 0,
             value: u64::from(station.state.held(s, station.name(o), right)),
@@ -51,7 +51,8 @@ pub fn held(record: &[u8], s: u64, o: u64, right: u64) -> Answer {
 
 /// One command on a station, with the tests 6 to 14. The links reported are the value.
 fn step(station: &mut Station, fields: [u64; 5]) -> Answer {
-    let command = match command::decode(fields, station.n, station.p) {
+    let Station { version, n, p, .. } = *station;
+    let command = match command::decode_in(version, fields, n, p) {
         Ok(command) => command,
         Err(refusal) => return Answer { refusal, value: 0 },
     };
@@ -126,5 +127,53 @@ pub fn safety(
         Ok((station, _)) if buffer_length < buffer_minimum(station.n) => Safety::Refused(15),
         Ok((station, q)) if leaks(&station, &q) => Safety::Leaks,
         Ok(_) => Safety::Safe,
+    }
+}
+
+/// Writes the record as one of version 1 at the start of the output. The value is its length.
+pub fn to_version_1(record: &[u8], out: &mut [u8]) -> Answer {
+    convert(record, Version::One, out)
+}
+
+/// Writes the record as one of version 2 at the start of the output. The value is its length.
+pub fn to_version_2(record: &[u8], out: &mut [u8]) -> Answer {
+    convert(record, Version::Two, out)
+}
+
+/// Writes what is read from the record in the wanted version, with the tests 1 to 5, then 18, then 15. A record
+/// that is of that version already is copied by this, since at one version no two records are read alike.
+fn convert(record: &[u8], wanted: Version, out: &mut [u8]) -> Answer {
+    let station = match read(record) {
+        Ok(station) => station,
+        Err(refusal) => return Answer { refusal, value: 0 },
+    };
+    // 18: a cell of the wanted version has no room for some bit that is set. Own and control have a bit in
+    // every version, so this is a bit of a basic right; and a version has room for its own records.
+    if station
+        .state
+        .cells()
+        .any(|(_, _, cell)| !wanted.has_room(cell))
+    {
+        return Answer {
+            refusal: 18,
+            value: 0,
+        };
+    }
+    let converted = write(&Station {
+        version: wanted,
+        ..station
+    });
+    // 15: the output is shorter than the new record. Where it is longer, the bytes after the record are left as
+    // they are.
+    let Some(start) = out.get_mut(..converted.len()) else {
+        return Answer {
+            refusal: 15,
+            value: 0,
+        };
+    };
+    start.copy_from_slice(&converted);
+    Answer {
+        refusal: 0,
+        value: converted.len() as u64,
     }
 }

@@ -4,6 +4,7 @@ use crate::Refusal;
 use crate::record::name_of_column;
 use crate::rights::{Form, Right};
 use crate::state::{Name, State};
+use crate::version::Version;
 
 /// A command with a code of 1 to 13; its o is a name of either kind. A field that it does not use is 0.
 #[derive(Clone, Copy, Debug, PartialEq, Eq)]
@@ -41,16 +42,21 @@ pub fn uses(code: u64) -> Option<Uses> {
     Some(Uses { s, o, k })
 }
 
-/// Reads the five fields code, i, s, o, k on a record of n subject names and p plain names, with the tests 6
-/// and 7 in their order.
+/// Reads the five fields code, i, s, o, k on a version 1 record of n subject names and p plain names.
 pub fn decode(fields: [u64; 5], n: u64, p: u64) -> Result<Command, Refusal> {
+    decode_in(Version::One, fields, n, p)
+}
+
+/// Reads the five fields code, i, s, o, k on a record of this version, of n subject names and p plain names,
+/// with the tests 6 and 7 in their order.
+pub fn decode_in(version: Version, fields: [u64; 5], n: u64, p: u64) -> Result<Command, Refusal> {
     let [code, i, s, o, k] = fields;
     // 6: a code that the table has not.
     let Some(uses) = uses(code) else {
         return Err(6);
     };
-    // 7: the bounds of a command (Manual 7.2).
-    let out_of_bounds = i >= n || s >= n || o >= n + p || k > 6;
+    // 7: the bounds of a command (Manual 7.2). That of k is the version's.
+    let out_of_bounds = i >= n || s >= n || o >= n + p || k >= version.basic_rights();
     let unused_not_zero = (!uses.s && s != 0) || (!uses.o && o != 0) || (!uses.k && k != 0);
     if out_of_bounds || unused_not_zero {
         return Err(7);

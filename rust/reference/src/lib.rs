@@ -14,10 +14,11 @@ mod safety;
 mod search;
 mod state;
 mod valid;
+mod version;
 mod window;
 
-pub use calls::{Answer, Safety, command, held, run, safety, valid};
-pub use command::{Command, Uses, allowed, change, decode, uses};
+pub use calls::{Answer, Safety, command, held, run, safety, to_version_1, to_version_2, valid};
+pub use command::{Command, Uses, allowed, change, decode, decode_in, uses};
 pub use leak::leaks_by;
 pub use list::{LIST_MAXIMUM, read_list, write_list};
 pub use record::{Station, read, record_length, write};
@@ -25,7 +26,8 @@ pub use rights::{Cell, Form, Right};
 pub use safety::{Question, buffer_minimum, leaks, question};
 pub use search::{Names, leaks_by_codes, leaks_by_definition, projected};
 pub use state::{Name, State, U, Walk};
+pub use version::Version;
 pub use window::{WINDOW_SIZE, Window};
 
-/// The number of a refusal, 1 to 17 (Manual 7.1).
+/// The number of a refusal, 1 to 18 (Manual 7.1).
 pub type Refusal = u64;

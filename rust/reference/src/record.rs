@@ -1,9 +1,12 @@
-//! The rights record (Manual 2): bytes to state and back.
+//! The rights record (Manual 2): bytes to state and back, at both versions.
+
+use std::ops::Range;
 
 use crate::Refusal;
 use crate::rights::Cell;
 use crate::state::{Name, State};
 use crate::valid::matrix_valid;
+use crate::version::Version;
 
 /// The most subject names that a record may have; it has at least one, U.
 const MOST_SUBJECTS: u64 = 40;
@@ -11,9 +14,10 @@ const MOST_SUBJECTS: u64 = 40;
 /// The most plain names that a record may have; it may have none.
 const MOST_PLAIN: u64 = 120;
 
-/// What is read from a record (Manual 2.2): n, p and the state.
+/// What is read from a record (Manual 2.2): n, p and the state, and the version, in which it is written again.
 #[derive(Clone, Debug, PartialEq, Eq)]
 pub struct Station {
+    pub version: Version,
     pub n: u64,
     pub p: u64,
     pub state: State,
@@ -35,19 +39,16 @@ pub fn name_of_column(n: u64, column: u64) -> Name {
     }
 }
 
-/// The length of a record of n subject names and p plain names: bytes 0 to 4, and L after them.
+/// The length of a version 1 record of n subject names and p plain names.
 pub fn record_length(n: u64, p: u64) -> usize {
-    5 + count_after_byte_4(n, p) as usize
+    Version::One.record_length(n, p)
 }
 
-/// L.
-fn count_after_byte_4(n: u64, p: u64) -> u64 {
-    2 + 2 * n * (n + p)
-}
-
-/// Where the cell of a row and a column starts: after byte 6, n rows of n + p cells of two bytes.
-fn offset(n: u64, p: u64, row: u64, column: u64) -> usize {
-    (7 + 2 * (row * (n + p) + column)) as usize
+/// The bytes of the cell of a row and a column: after byte 6 come n rows of n + p cells.
+fn place(version: Version, n: u64, p: u64, row: u64, column: u64) -> Range<usize> {
+    let cells_before = (row * (n + p) + column) as usize;
+    let start = 7 + version.cell_bytes() * cells_before;
+    start..start + version.cell_bytes()
 }
 
 /// Reads a record, with the tests 1 to 5 in their order.
@@ -56,50 +57,61 @@ pub fn read(record: &[u8]) -> Result<Station, Refusal> {
     if record.len() < 7 {
         return Err(1);
     }
-    // 2: the version.
-    if record[0] != 1 {
+    // 2: a version that is not known.
+    let Some(version) = Version::from_byte(record[0]) else {
         return Err(2);
-    }
+    };
     // 3: n is at least 1, and neither n nor p is over its limit.
     let (n, p) = (u64::from(record[5]), u64::from(record[6]));
     if !(1..=MOST_SUBJECTS).contains(&n) || p > MOST_PLAIN {
         return Err(3);
     }
-    // 4: L, and the length.
+    // 4: L, and the length, by the version.
     let l = u32::from_be_bytes([record[1], record[2], record[3], record[4]]);
-    if u64::from(l) != count_after_byte_4(n, p) || record.len() != record_length(n, p) {
+    let l_wrong = u64::from(l) != version.count_after_byte_4(n, p);
+    if l_wrong || record.len() != version.record_length(n, p) {
         return Err(4);
     }
     // 5: the five conditions.
-    let state = read_matrix(record, n, p);
+    let state = read_matrix(record, version, n, p);
     if !matrix_valid(&state, n) {
         return Err(5);
     }
-    Ok(Station { n, p, state })
+    Ok(Station {
+        version,
+        n,
+        p,
+        state,
+    })
 }
 
 /// The cells, column by column, which is the order of the state's map.
-fn read_matrix(record: &[u8], n: u64, p: u64) -> State {
+fn read_matrix(record: &[u8], version: Version, n: u64, p: u64) -> State {
     let places = (0..n + p).flat_map(|column| (0..n).map(move |row| (column, row)));
     State::from_cells(places.map(|(column, row)| {
-        let at = offset(n, p, row, column);
-        let cell = u16::from_be_bytes([record[at], record[at + 1]]);
+        let bytes = &record[place(version, n, p, row, column)];
+        let cell = bytes
+            .iter()
+            .fold(0, |high, low| high << 8 | u32::from(*low));
         (name_of_column(n, column), row, Cell(cell))
     }))
 }
 
-/// Writes a station as a record.
+/// Writes a station as a record of its version, which has to have room for every bit that is set.
 pub fn write(station: &Station) -> Vec<u8> {
-    let (n, p) = (station.n, station.p);
-    let mut record = vec![0; record_length(n, p)];
-    record[0] = 1;
-    record[1..5].copy_from_slice(&(count_after_byte_4(n, p) as u32).to_be_bytes());
+    let (version, n, p) = (station.version, station.n, station.p);
+    let mut record = vec![0; version.record_length(n, p)];
+    record[0] = version.byte();
+    record[1..5].copy_from_slice(&(version.count_after_byte_4(n, p) as u32).to_be_bytes());
     record[5] = n as u8;
     record[6] = p as u8;
     for (name, row, cell) in station.state.cells() {
         let (Name::Subject(column) | Name::Plain(column)) = name;
-        let at = offset(n, p, row, column);
-        record[at..at + 2].copy_from_slice(&cell.0.to_be_bytes());
+        assert!(version.has_room(cell), "no room for the bits of {cell:?}");
+        // The low bytes, as many as a cell has; those before them are zero.
+        let bytes = cell.0.to_be_bytes();
+        let low = &bytes[bytes.len() - version.cell_bytes()..];
+        record[place(version, n, p, row, column)].copy_from_slice(low);
     }
     record
 }

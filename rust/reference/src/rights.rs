@@ -12,18 +12,19 @@ pub enum Form {
 pub enum Right {
     Own,
     Control,
-    /// The basic right k, 0 to 6, and its form.
+    /// The basic right k and its form. Which k there are, the record's version says; none has one above 14.
     Basic(u64, Form),
 }
 
 impl Right {
-    /// The right of a code; none where the code is over 15.
+    /// The right of a code, which is the same at every version; none where the code is over 31, which no
+    /// version has. `Version::right` takes only the codes of its version.
     pub fn from_code(code: u64) -> Option<Right> {
         match code {
             0 => Some(Right::Own),
             1 => Some(Right::Control),
-            2..=15 if code.is_multiple_of(2) => Some(Right::Basic((code - 2) / 2, Form::Plain)),
-            2..=15 => Some(Right::Basic((code - 3) / 2, Form::Starred)),
+            2..=31 if code.is_multiple_of(2) => Some(Right::Basic((code - 2) / 2, Form::Plain)),
+            2..=31 => Some(Right::Basic((code - 3) / 2, Form::Starred)),
             _ => None,
         }
     }
@@ -39,13 +40,14 @@ impl Right {
     }
 }
 
-/// A cell of the matrix: the set of rights whose bits are set in it.
+/// A cell of the matrix: the set of rights whose bits are set in it. It has the bits of the widest version, so
+/// that the state does not depend on the version of the record that it was read from.
 #[derive(Clone, Copy, Debug, Default, PartialEq, Eq, PartialOrd, Ord, Hash)]
-pub struct Cell(pub u16);
+pub struct Cell(pub u32);
 
 impl Cell {
     /// The bit of this right alone.
-    fn bit(right: Right) -> u16 {
+    fn bit(right: Right) -> u32 {
         1 << right.code()
     }
 

@@ -24,7 +24,7 @@ impl Question {
     }
 }
 
-/// The test 7 of a safety question (Manual 7.2).
+/// The test 7 of a safety question (Manual 7.2). The bound of the right's code is the version's.
 pub fn question(
     station: &Station,
     trust: u64,
@@ -36,7 +36,7 @@ pub fn question(
     if s >= station.n || o >= station.n + station.p || trust_bit_beyond {
         return Err(7);
     }
-    let right = Right::from_code(right).ok_or(7u64)?;
+    let right = station.version.right(right).ok_or(7u64)?;
     let o = station.name(o);
     Ok(Question { trust, s, o, right })
 }
@@ -53,6 +53,9 @@ pub fn buffer_minimum(n: u64) -> usize {
 /// That own over a plain object can be transferred, as well as granted, makes no further question leak: the one
 /// who begins it owns the object, and so is above it, and the object has an owner afterwards, so that it does
 /// not become absent.
+///
+/// The record's version bounds k, in the question as in the lists. The bound is not needed here: the k of the
+/// question is below it, and the answer depends on no other k (`search` gives the reason).
 pub fn leaks(station: &Station, q: &Question) -> bool {
     let state = &station.state;
     let untrusted: Vec<u64> = (0..station.n)

@@ -5,8 +5,12 @@
 //! The states met are kept, and each is followed once. There are infinitely many names, so a search can only
 //! try some. The caller says which; the following reasons say which ones can matter.
 //!
-//! * Another basic right than the one asked is never read by a rule about the right asked, own or control. So
-//!   commands with another k can be left out, and with own or control all commands 1, 2, 4, 5, 8, 9.
+//! * Another basic right than the one asked is never read by a rule about the right asked, own or control: the
+//!   only commands that read a basic bit are the transfers 1 and 2, which read and set bits of their own k, and
+//!   existence, owners and the walk are read from own and control. So commands with another k can be left out,
+//!   however many the record's version has, and with own or control all commands 1, 2, 4, 5, 8, 9. The k asked is
+//!   below the bound of the record's version, which is the bound in the lists too, so no command is tried that
+//!   the definition refuses by 7.
 //! * A plain column other than o is never read by a rule about another column. So commands over other plain
 //!   names, in the record or beyond it, can be left out.
 //! * A basic bit of a column other than o is never read by a rule about another cell than its column's.
@@ -27,7 +31,7 @@ use crate::state::{Name, State};
 pub struct Names {
     pub subjects: Vec<u64>,
     pub plains: Vec<u64>,
-    /// The basic rights, each over one column, of commands 1, 2, 4, 5, 8 and 9.
+    /// The basic rights, each over one column, of commands 1, 2, 4, 5, 8 and 9. The record's version has them.
     pub basics: Vec<(Name, u64)>,
 }
 
@@ -116,7 +120,7 @@ pub fn projected(state: &State, q: &Question, subjects: u64) -> (State, Names) {
     };
     let own_and_control = Cell(0).with(Right::Own).with(Right::Control).0;
     // The two bits of basic right k stand at 2 + 2k and 3 + 2k.
-    let asked: u16 = basics.iter().map(|(_, k)| 0b11 << (2 + 2 * k)).sum();
+    let asked: u32 = basics.iter().map(|(_, k)| 0b11 << (2 + 2 * k)).sum();
     let kept = state
         .cells()
         .filter_map(|(column, row, cell)| match column {

@@ -1,7 +1,8 @@
 //! The worked examples of docs/MANUAL.md: the rows of its section 11, and the example of each refusal.
 
 use reference::{
-    Answer, Safety, command, held, leaks_by, read, run, safety, valid, write, write_list,
+    Answer, Safety, command, held, leaks_by, read, run, safety, to_version_1, to_version_2, valid,
+    write, write_list,
 };
 
 /// Station A (Manual 11.1).
@@ -52,9 +53,11 @@ fn refusals_of_the_record() {
     long.push(0);
     let examples = [
         (1, short.to_vec()),
-        (2, with_byte(a(), 0, 2)),
+        (2, with_byte(a(), 0, 0)),
         (3, with_byte(a(), 5, 0)),
         (4, long),
+        // Byte 0 is that of version 2, for which L and the length are wrong.
+        (4, with_byte(a(), 0, 2)),
         (5, with_byte(a(), 8, 0)),
     ];
     for (refusal, record) in examples {
@@ -65,6 +68,9 @@ fn refusals_of_the_record() {
         assert_eq!(on(&record, [99; 5]), (refusal, 0));
         assert_eq!(run(&mut record.clone(), &[]), Answer { refusal, value });
         assert_eq!(safety(&record, 99, 99, 99, 99, 0), Safety::Refused(refusal));
+        for convert in [to_version_1, to_version_2] {
+            assert_eq!(convert(&record, &mut []), Answer { refusal, value });
+        }
     }
 }
 

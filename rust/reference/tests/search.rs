@@ -1,47 +1,52 @@
 //! The characterisation of the safety question against the search by its definition, on all questions of many
-//! small stations.
+//! small stations, at both versions.
 
 use std::collections::{BTreeMap, BTreeSet};
 
 use reference::{
-    Name, Names, Question, Right, State, Station, allowed, change, decode, leaks, leaks_by_codes,
-    leaks_by_definition, projected, question, uses,
+    Name, Names, Question, Right, State, Station, Version, allowed, change, decode_in, leaks,
+    leaks_by_codes, leaks_by_definition, projected, question,
 };
 
-/// The codes of the rights asked: own, control, and both forms of the first and the last basic right.
-const RIGHTS: [u64; 6] = [0, 1, 2, 3, 14, 15];
+#[path = "common/random.rs"]
+mod random;
 
-/// A small generator of pseudorandom numbers (xorshift), so that a test meets the same stations each time.
-struct Random(u64);
+use random::Random;
 
-impl Random {
-    fn below(&mut self, bound: u64) -> u64 {
-        self.0 ^= self.0 << 13;
-        self.0 ^= self.0 >> 7;
-        self.0 ^= self.0 << 17;
-        (self.0 >> 11) % bound
+/// A version with the codes of the rights asked: own, control, and both forms of the first basic right and of
+/// the last. At version 2 they are asked too of the first that version 1 has not, which no station here has set.
+const RIGHTS: (Version, &[u64]) = (Version::One, &[0, 1, 2, 3, 14, 15]);
+const RIGHTS_OF_2: (Version, &[u64]) = (Version::Two, &[0, 1, 2, 3, 16, 17, 30, 31]);
+
+/// Own and control, for which the version does not matter: the search leaves out all basic rights.
+const NO_BASIC: (Version, &[u64]) = (Version::One, &[0, 1]);
+
+/// The first and the last basic right of a version. Stations have these alone.
+fn ends(version: Version) -> [u64; 2] {
+    match version {
+        Version::One => [0, 6],
+        Version::Two => [0, 14],
     }
 }
 
-/// The station with U alone, after some random commands; those that are not allowed are passed over. A field
-/// that a command does not use is left 0, and there are many commands, so that most stations come to have more
-/// subjects than U, and plain objects.
-fn station(n: u64, p: u64, random: &mut Random) -> Station {
+/// The station with U alone, after some random commands; those that are not allowed are passed over. There are
+/// many commands, so that most stations come to have more subjects than U, and plain objects.
+fn station(version: Version, n: u64, p: u64, random: &mut Random) -> Station {
     let mut state = State::default();
     state.gain(0, Name::Subject(0), Right::Control);
     for _ in 0..random.below(300) {
-        let code = 1 + random.below(13);
-        let uses = uses(code).expect("the code is 1 to 13");
-        let mut field = |used: bool, bound: u64| if used { random.below(bound) } else { 0 };
-        let (i, s, o) = (field(true, n), field(uses.s, n), field(uses.o, n + p));
-        let fields = [code, i, s, o, 6 * field(uses.k, 2)];
-        if let Ok(command) = decode(fields, n, p)
-            && allowed(&state, &command).is_ok()
-        {
+        let fields = random.command(n, p, &ends(version));
+        let command = decode_in(version, fields, n, p).expect("the fields are within their bounds");
+        if allowed(&state, &command).is_ok() {
             change(&mut state, &command);
         }
     }
-    Station { n, p, state }
+    Station {
+        version,
+        n,
+        p,
+        state,
+    }
 }
 
 /// All questions of a station about these rights.
@@ -59,12 +64,12 @@ fn questions(station: &Station, rights: &[u64]) -> Vec<Question> {
 }
 
 /// Compares both ways on all questions of stations of n by p, with some subject names beyond the record.
-fn agree(n: u64, p: u64, beyond: u64, stations: u64, rights: &[u64]) {
+fn agree([n, p, beyond]: [u64; 3], stations: u64, (version, rights): (Version, &[u64])) {
     let mut random = Random(n << 8 | p << 4 | beyond | 1 << 40);
     let mut known = BTreeMap::new();
     let (mut safe, mut leaking) = (0, 0);
     for _ in 0..stations {
-        let station = station(n, p, &mut random);
+        let station = station(version, n, p, &mut random);
         for q in questions(&station, rights) {
             let (state, names) = projected(&station.state, &q, n + beyond);
             let key = (state.clone(), q.trust, q.s, q.o, q.right);
@@ -87,31 +92,73 @@ fn own_over_plain_names(station: &Station) -> Vec<Question> {
 
 #[test]
 fn one_subject_with_two_beyond() {
-    agree(1, 0, 2, 50, &RIGHTS);
-    agree(1, 1, 2, 100, &RIGHTS);
-    agree(1, 2, 2, 50, &RIGHTS);
+    for asked in [RIGHTS, RIGHTS_OF_2] {
+        agree([1, 0, 2], 50, asked);
+        agree([1, 1, 2], 100, asked);
+        agree([1, 2, 2], 50, asked);
+    }
 }
 
 #[test]
 fn two_subjects_with_one_beyond() {
-    agree(2, 0, 1, 500, &RIGHTS);
-    agree(2, 1, 1, 1000, &RIGHTS);
+    agree([2, 0, 1], 500, RIGHTS);
+    agree([2, 1, 1], 1000, RIGHTS);
+    agree([2, 0, 1], 100, RIGHTS_OF_2);
+    agree([2, 1, 1], 100, RIGHTS_OF_2);
 }
 
 #[test]
 fn two_subjects_with_two_beyond() {
-    agree(2, 1, 2, 8, &[0, 1]);
+    agree([2, 1, 2], 8, NO_BASIC);
 }
 
 #[test]
 fn three_subjects() {
-    agree(3, 1, 0, 500, &RIGHTS);
-    agree(3, 2, 0, 200, &[0, 1]);
+    agree([3, 1, 0], 500, RIGHTS);
+    agree([3, 2, 0], 200, NO_BASIC);
+    agree([3, 1, 0], 50, RIGHTS_OF_2);
 }
 
 #[test]
 fn three_subjects_with_one_beyond() {
-    agree(3, 1, 1, 3, &[0, 1]);
+    agree([3, 1, 1], 3, NO_BASIC);
+}
+
+/// The search with every basic right of the version over o, none left out. Each of them is asked; own and
+/// control are not, since where these are out of reach the search would go through all sets of basic rights.
+#[test]
+fn one_subject_with_all_basic_rights() {
+    let mut random = Random(104);
+    for (version, bits) in [(Version::One, 16), (Version::Two, 32)] {
+        let rights: Vec<u64> = (2..bits).collect();
+        for _ in 0..20 {
+            let station = station(version, 1, 1, &mut random);
+            for q in questions(&station, &rights) {
+                let (_, mut names) = projected(&station.state, &q, 1);
+                names.basics = (0..(bits - 2) / 2).map(|k| (q.o, k)).collect();
+                let found = leaks_by_definition(&station.state, &q, &names);
+                assert_eq!(leaks(&station, &q), found, "{station:?} {q:?}");
+            }
+        }
+    }
+}
+
+/// The search with the right asked and both basic rights that the station has over o, whichever is asked.
+#[test]
+fn two_subjects_with_another_basic_right() {
+    let mut random = Random(105);
+    for (version, rights) in [RIGHTS, RIGHTS_OF_2] {
+        for _ in 0..20 {
+            let station = station(version, 2, 1, &mut random);
+            for q in questions(&station, rights) {
+                let (_, mut names) = projected(&station.state, &q, 2);
+                let others = ends(version).map(|k| (q.o, k));
+                names.basics.extend(others);
+                let found = leaks_by_definition(&station.state, &q, &names);
+                assert_eq!(leaks(&station, &q), found, "{station:?} {q:?}");
+            }
+        }
+    }
 }
 
 /// The search that leaves out nothing but other basic rights, with a plain name beyond the record, whose number
@@ -121,11 +168,18 @@ fn all_columns_with_a_plain_name_beyond() {
     let mut random = Random(7);
     let (subject, plain) = (Name::Subject, Name::Plain);
     let columns = [subject(0), subject(1), plain(2), plain(0)];
-    for _ in 0..60 {
-        let station = station(2, 1, &mut random);
+    let versions = [
+        (Version::One, [0, 1, 2, 3], 60),
+        (Version::Two, [0, 1, 30, 31], 15),
+    ];
+    let stations = versions
+        .into_iter()
+        .flat_map(|(version, rights, stations)| vec![(version, rights); stations]);
+    for (version, rights) in stations {
+        let station = station(version, 2, 1, &mut random);
         // A basic right over U, which nobody owns, is left out: with U untrusted the search would go through
         // all states.
-        let asked = questions(&station, &[0, 1, 2, 3]);
+        let asked = questions(&station, &rights);
         let over_u = |q: &Question| q.o == Name::Subject(0) && matches!(q.right, Right::Basic(..));
         for q in asked.into_iter().filter(|q| !over_u(q)) {
             let names = Names {
@@ -149,7 +203,7 @@ fn transfers_alone_over_plain_names() {
     let mut random = Random(101);
     let (mut safe, mut leaking) = (0, 0);
     for _ in 0..200 {
-        let station = station(3, 2, &mut random);
+        let station = station(Version::One, 3, 2, &mut random);
         let state = &station.state;
         for q in own_over_plain_names(&station) {
             let (kept, names) = projected(state, &q, 3);
@@ -174,7 +228,7 @@ fn transfers_in_place_of_grants() {
     let mut known = BTreeSet::new();
     let mut missed = 0;
     for _ in 0..100 {
-        let station = station(3, 1, &mut random);
+        let station = station(Version::One, 3, 1, &mut random);
         for q in own_over_plain_names(&station) {
             let (state, names) = projected(&station.state, &q, 3);
             if !known.insert((state.clone(), q.trust, q.s)) {
@@ -198,7 +252,7 @@ fn transfers_in_place_of_grants() {
 fn transfers_among_several_plain_names() {
     let mut random = Random(103);
     for _ in 0..20 {
-        let station = station(2, 2, &mut random);
+        let station = station(Version::One, 2, 2, &mut random);
         for q in questions(&station, &[0, 1]) {
             let names = Names {
                 subjects: vec![0, 1],

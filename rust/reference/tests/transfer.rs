@@ -1,6 +1,12 @@
-//! Transfer of own, code 3, over plain objects, and beside it over subjects (Manual 5).
+//! Transfer of own, code 3, over plain objects, and beside it over subjects (Manual 5). The records are written
+//! as version 1, and each transfer is tried at both versions.
 
 use reference::{Answer, Safety, command, held, leaks_by, run, safety, valid, write_list};
+
+#[path = "common/widened.rs"]
+mod widened;
+
+use widened::widened;
 
 /// Station A (Manual 11.1), with the log 3, which subject 2 owns.
 const A: [u8; 31] = [
@@ -30,11 +36,14 @@ fn log(column: [u16; 3]) -> Vec<u8> {
     ])
 }
 
-/// The refusal and the links of code 3 on a record, and the record after it.
+/// The refusal and the links of code 3 on a record, and the record after it. At version 2 they are the same.
 fn transfer(record: &[u8], i: u64, s: u64, o: u64) -> (u64, u64, Vec<u8>) {
     let mut after = record.to_vec();
-    let Answer { refusal, value } = command(&mut after, [3, i, s, o, 0]);
-    (refusal, value, after)
+    let answer = command(&mut after, [3, i, s, o, 0]);
+    let mut wide = widened(record);
+    assert_eq!(command(&mut wide, [3, i, s, o, 0]), answer);
+    assert_eq!(wide, widened(&after));
+    (answer.refusal, answer.value, after)
 }
 
 /// Asserts that code 3 is accepted with 0 links and leaves this record.

@@ -1,4 +1,4 @@
-//! What a command answers: a text for the standard output, and how the program exits.
+//! What a command answers: a text or bytes for the standard output, and how the program exits.
 
 /// How the program exits. Where there is no answer it is 2.
 #[derive(Clone, Copy, Debug, PartialEq, Eq)]
@@ -23,4 +23,23 @@ impl Answer {
             exit: if yes { Exit::Yes } else { Exit::No },
         }
     }
+
+    /// The bytes of a record.
+    pub fn bytes(out: Vec<u8>) -> Answer {
+        let exit = Exit::Yes;
+        Answer { out, exit }
+    }
+}
+
+/// How many lines are printed of those that might be thousands.
+const MOST_LINES: usize = 20;
+
+/// The first of some lines, each set in, and how many more there are.
+pub fn first_lines(lines: &[String]) -> String {
+    let first = lines.iter().take(MOST_LINES);
+    let mut text: String = first.map(|line| format!("  {line}\n")).collect();
+    if lines.len() > MOST_LINES {
+        text.push_str(&format!("  and {} more\n", lines.len() - MOST_LINES));
+    }
+    text
 }

@@ -42,7 +42,8 @@ impl Changes {
     }
 }
 
-/// What differs. Logins are compared by number and logs by column, also where the two have different sizes.
+/// What differs, right by right. Logins are compared by number and logs by column, also where the two have different sizes. Versions
+/// play no part.
 pub fn changes(old: &Record, new: &Record) -> Changes {
     let logins = old.logins().max(new.logins());
     let names: Vec<Name> = (0..logins)
@@ -81,14 +82,14 @@ fn has(record: &Record, name: Name) -> bool {
     }
 }
 
-fn cell(record: &Record, login: u64, over: Name) -> u16 {
+fn cell(record: &Record, login: u64, over: Name) -> u32 {
     match over {
         Name::Login(c) | Name::Log(c) if has(record, over) => record.cell(login, c),
         _ => 0,
     }
 }
 
-fn push_moves(moved: &mut Vec<Moved>, new: &Record, at: (u64, Name), before: u16, after: u16) {
+fn push_moves(moved: &mut Vec<Moved>, new: &Record, at: (u64, Name), before: u32, after: u32) {
     let (login, over) = at;
     for right in Right::ALL {
         if right.in_cell(before ^ after) {

@@ -1,7 +1,7 @@
 //! Why a record is refused: the first of the refusals 1 to 5 that holds, and for 5 each place where the matrix is not valid. The
 //! verdict is the library's; a test compares the two on damaged records.
 
-use crate::library::{Header, MOST_PLAIN, MOST_RECORD, MOST_SUBJECTS, Refusal, Right};
+use crate::library::{Header, MOST_PLAIN, MOST_RECORD_BYTES, MOST_SUBJECTS, Refusal, Right};
 use crate::names::{Names, counted, listed};
 use crate::record::{Name, Record, rights_in};
 
@@ -41,8 +41,10 @@ fn form_fault(bytes: &[u8]) -> Option<(u8, String)> {
         return Some((1, sentence));
     };
     let Header { version, n, p, .. } = header;
-    if version != 1 {
-        Some((2, format!("its version, byte 0, is {version} and not 1")))
+    if !matches!(version, 1 | 2) {
+        let sentence =
+            format!("its version, byte 0, is {version}, and a record has version 1 or 2");
+        Some((2, sentence))
     } else if let Some(sentence) = size_fault(n, p) {
         Some((3, sentence))
     } else {
@@ -62,24 +64,26 @@ fn size_fault(n: u8, p: u8) -> Option<String> {
     }
 }
 
-/// How the length that a record has, or says, does not fit its names.
+/// How the length that a record has, or says, does not fit its version and names.
 fn length_fault(header: Header, has: usize) -> Option<String> {
     let (said, should) = (header.length, header.expected_length());
     let logins = counted(u64::from(header.n), "login");
     let logs = counted(u64::from(header.p), "log");
-    if has > MOST_RECORD {
+    let such = format!(
+        "a record of version {} with {logins} and {logs}",
+        header.version
+    );
+    if has > MOST_RECORD_BYTES {
         Some(format!(
-            "it has more than {MOST_RECORD} bytes, which no record has"
+            "it has more than {MOST_RECORD_BYTES} bytes, which no record has"
         ))
     } else if said as usize + 5 != should {
         let right = should - 5;
         Some(format!(
-            "bytes 1 to 4 say {said} more bytes, and with {logins} and {logs} there are {right}"
+            "bytes 1 to 4 say {said} more bytes, and in {such} there are {right}"
         ))
     } else if has != should {
-        Some(format!(
-            "it has {has} bytes, and with {logins} and {logs} a record has {should}"
-        ))
+        Some(format!("it has {has} bytes, and {such} has {should}"))
     } else {
         None
     }

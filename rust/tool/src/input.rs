@@ -5,7 +5,7 @@ use std::fs::{self, File};
 use std::io::{self, ErrorKind, Read};
 
 use crate::faults::reasons;
-use crate::library::MOST_RECORD;
+use crate::library::MOST_RECORD_BYTES;
 use crate::names::Names;
 use crate::names_file;
 use crate::no_answer::{Answered, NoAnswer, no_answer, shown};
@@ -62,14 +62,14 @@ pub fn read_from(from: impl Read, most: usize) -> io::Result<Vec<u8>> {
 /// A record's bytes. Of a longer file one byte more than the longest record has is read, which the library refuses as it would
 /// refuse the whole.
 pub fn record_bytes(path: &OsStr) -> Answered<Vec<u8>> {
-    read(path, MOST_RECORD)
+    read(path, MOST_RECORD_BYTES)
 }
 
 /// The record of a file, with its names.
 pub fn station(path: &OsStr, names: Option<&OsString>) -> Answered<Station> {
     let bytes = record_bytes(path)?;
     let record = opened(path, bytes)?;
-    let names = names_of(path, names, Some(&record))?;
+    let names = names_of(path, names, &[&record])?;
     Ok(Station {
         file: called(path),
         record,
@@ -91,16 +91,12 @@ pub fn opened(path: &OsStr, bytes: Vec<u8>) -> Answered<Record> {
     ))
 }
 
-/// The names of a record or a window: those of the file given, or of the file beside it, or none. A window has no record to say which
-/// logins and logs there are.
-pub fn names_of(
-    path: &OsStr,
-    given: Option<&OsString>,
-    record: Option<&Record>,
-) -> Answered<Names> {
+/// The names of a record or a window: those of the file given, or of the file beside it, or none. They name what the records have; a
+/// window has none to say what there is.
+pub fn names_of(path: &OsStr, given: Option<&OsString>, records: &[&Record]) -> Answered<Names> {
     match given.cloned().or_else(|| beside(path)) {
         None => Ok(Names::default()),
-        Some(file) => read_names(&file, record),
+        Some(file) => read_names(&file, records),
     }
 }
 
@@ -120,7 +116,7 @@ pub fn beside(path: &OsStr) -> Option<OsString> {
     })
 }
 
-fn read_names(file: &OsStr, record: Option<&Record>) -> Answered<Names> {
+fn read_names(file: &OsStr, records: &[&Record]) -> Answered<Names> {
     let bytes = read(file, MOST_NAMES)?;
     if bytes.len() > MOST_NAMES {
         return no_answer(format!("{} has more than {MOST_NAMES} bytes", called(file)));
@@ -128,5 +124,5 @@ fn read_names(file: &OsStr, record: Option<&Record>) -> Answered<Names> {
     let Ok(text) = String::from_utf8(bytes) else {
         return no_answer(format!("{} is not written in UTF-8", called(file)));
     };
-    names_file::parse(&text, record).map_err(|why| NoAnswer(format!("{}, {why}", called(file))))
+    names_file::parse(&text, records).map_err(|why| NoAnswer(format!("{}, {why}", called(file))))
 }

@@ -2,7 +2,8 @@
 //! crate `bunvespo`.
 
 pub use bunvespo::{
-    Basic, Command, CommandRefused, EncodeError, Header, MOST_COMMANDS, MOST_PLAIN, MOST_RECORD,
-    MOST_SUBJECTS, Refusal, Right, WINDOW_ENTRIES, WINDOW_NUMBERS, WINDOW_SIZE, Window, check,
-    code, command, commands, encode, held, new_record, run, trust_mask, valid, witness,
+    Basic, Command, CommandRefused, EncodeError, Header, MOST_COMMANDS, MOST_PLAIN,
+    MOST_RECORD_BYTES, MOST_SUBJECTS, Refusal, Right, WINDOW_ENTRIES, WINDOW_NUMBERS, WINDOW_SIZE,
+    Window, check, code, command, commands, encode, held, new_record, run, to_version_1,
+    to_version_2, trust_mask, valid, witness,
 };

@@ -21,6 +21,7 @@ mod table;
 #[cfg(test)]
 mod tests;
 mod tree;
+mod version;
 mod why;
 mod window_file;
 mod words;
@@ -72,6 +73,7 @@ fn answer() -> Answered<Answer> {
 fn run(given: &Given) -> Answered<Answer> {
     match given.command {
         "new" => commands::new::new(given),
+        "convert" => commands::convert::convert(given),
         "show" => commands::show::show(given),
         "check" => commands::check::check(given),
         "held" => commands::held::held(given),

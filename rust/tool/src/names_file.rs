@@ -7,22 +7,22 @@ use crate::library::{Basic, MOST_PLAIN, MOST_SUBJECTS};
 use crate::names::Names;
 use crate::record::{Name, Record};
 
-/// The names of a file's text, or the number of a line and what is wrong with it. Without a record each login and log that some record
-/// has may be named.
-pub fn parse(text: &str, record: Option<&Record>) -> Result<Names, String> {
+/// The names of a file's text, or the number of a line and what is wrong with it. What one of the records has may be named; without a
+/// record, each login, log and right that some record has.
+pub fn parse(text: &str, records: &[&Record]) -> Result<Names, String> {
     let mut names = Names::default();
     for (at, line) in text.lines().enumerate() {
         let line = line.trim();
         if line.is_empty() || line.starts_with('#') {
             continue;
         }
-        add(&mut names, line, record).map_err(|why| format!("line {}: {why}", at + 1))?;
+        add(&mut names, line, records).map_err(|why| format!("line {}: {why}", at + 1))?;
     }
     Ok(names)
 }
 
 /// Adds the name that a line gives.
-fn add(names: &mut Names, line: &str, record: Option<&Record>) -> Result<(), String> {
+fn add(names: &mut Names, line: &str, records: &[&Record]) -> Result<(), String> {
     let form = "a line is 'login N = NAME', 'log N = NAME' or 'right N = NAME'";
     let (what, name) = line.split_once('=').ok_or(form)?;
     let (kind, number) = what.trim().split_once(' ').ok_or(form)?;
@@ -33,11 +33,10 @@ fn add(names: &mut Names, line: &str, record: Option<&Record>) -> Result<(), Str
     let name = name.trim();
     tidy(name)?;
     let key = match kind {
-        "login" => login_fits(number, record)?,
-        "log" => log_fits(number, record)?,
+        "login" => login_fits(number, records)?,
+        "log" => log_fits(number, records)?,
         "right" => {
-            let wrong = || format!("right {number}: basic rights are 0 to 6");
-            let k = Basic::from_number(number).ok_or_else(wrong)?;
+            let k = right_fits(number, records)?;
             right_name_fits(name)?;
             return insert(&mut names.of_rights, k, name);
         }
@@ -66,36 +65,60 @@ fn tidy(name: &str) -> Result<(), String> {
     Ok(())
 }
 
-/// The login of a number, if the record has it, or without a record if some record has.
-fn login_fits(number: u64, record: Option<&Record>) -> Result<Name, String> {
-    let logins = record.map_or(u64::from(MOST_SUBJECTS), Record::logins);
+/// The login of a number, if a record has it, or without a record if some record has.
+fn login_fits(number: u64, records: &[&Record]) -> Result<Name, String> {
+    let logins = records.iter().map(|record| record.logins());
+    let logins = logins.max().unwrap_or(u64::from(MOST_SUBJECTS));
     if number < logins {
         return Ok(Name::Login(number));
     }
     let last = logins - 1;
-    Err(match record {
-        Some(_) => {
-            format!("login {number} is beyond the record, which has logins 0 to {last}")
-        }
-        None => format!("login {number} is in no record, and logins are 0 to {last}"),
+    Err(if records.is_empty() {
+        format!("login {number} is in no record, and logins are 0 to {last}")
+    } else {
+        format!("login {number} is beyond the record, which has logins 0 to {last}")
     })
 }
 
-/// The log of a number, if the record has it, or without a record if some record has.
-fn log_fits(number: u64, record: Option<&Record>) -> Result<Name, String> {
-    let most = u64::from(MOST_SUBJECTS) + u64::from(MOST_PLAIN);
-    let (first, end) = record.map_or((1, most), |record| (record.logins(), record.columns()));
-    if first == end {
-        return Err(format!("log {number}: the record has no logs"));
+/// The log of a number, if a record has it, or without a record if some record has.
+fn log_fits(number: u64, records: &[&Record]) -> Result<Name, String> {
+    let of_record = |record: &&Record| (record.logins(), record.columns());
+    let mut logs: Vec<(u64, u64)> = records.iter().map(of_record).collect();
+    if logs.is_empty() {
+        logs.push((1, u64::from(MOST_SUBJECTS) + u64::from(MOST_PLAIN)));
     }
-    if (first..end).contains(&number) {
+    if logs
+        .iter()
+        .any(|(first, end)| (*first..*end).contains(&number))
+    {
         return Ok(Name::Log(number));
     }
-    let last = end - 1;
-    Err(match record {
-        Some(_) => format!("log {number}: the record has logs {first} to {last}"),
-        None => format!("log {number} is in no record, and logs are {first} to {last}"),
+    let (first, end) = logs[logs.len() - 1];
+    Err(if first == end {
+        format!("log {number}: the record has no logs")
+    } else if records.is_empty() {
+        format!(
+            "log {number} is in no record, and logs are {first} to {}",
+            end - 1
+        )
+    } else {
+        format!("log {number}: the record has logs {first} to {}", end - 1)
     })
+}
+
+/// The basic right of a number, if a record has it, or without a record if some record has.
+fn right_fits(number: u64, records: &[&Record]) -> Result<Basic, String> {
+    let widest = records.iter().max_by_key(|record| record.basics());
+    let fits = |k: &Basic| widest.is_none_or(|record| k.number() < record.basics());
+    Basic::from_number(number)
+        .filter(fits)
+        .ok_or_else(|| match widest {
+            Some(record) => record.without(number),
+            None => {
+                let last = Basic::ALL.len() - 1;
+                format!("right {number} is in no record, and basic rights are 0 to {last}")
+            }
+        })
 }
 
 /// A right's name is none of the words for a right.

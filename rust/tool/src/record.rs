@@ -42,6 +42,44 @@ impl Record {
         u64::from(self.header.p)
     }
 
+    /// The version, 1 or 2.
+    pub fn version(&self) -> u8 {
+        self.header.version
+    }
+
+    /// The rights that the version has, in the order of their codes.
+    pub fn rights(&self) -> &'static [Right] {
+        self.header.rights()
+    }
+
+    /// How many of them are basic rights, without the star.
+    pub fn basics(&self) -> u64 {
+        self.header.basic_rights()
+    }
+
+    /// The rights for which another version has no room, with the login and the name of each cell that has some.
+    pub fn beyond(&self, version: u8) -> Vec<(u64, Name, Vec<Right>)> {
+        let other = Header {
+            version,
+            ..self.header
+        };
+        let cells = (0..self.logins()).flat_map(|s| (0..self.columns()).map(move |c| (s, c)));
+        let rights = cells.map(|(s, c)| {
+            let mut rights = rights_in(self.cell(s, c));
+            rights.retain(|right| !other.rights().contains(right));
+            (s, self.name(c), rights)
+        });
+        rights.filter(|(_, _, rights)| !rights.is_empty()).collect()
+    }
+
+    /// That the version has no basic right of a number, in words.
+    pub fn without(&self, k: u64) -> String {
+        let (version, last) = (self.version(), self.basics() - 1);
+        format!(
+            "r{k} is beyond the record, which is of version {version} and has the basic rights r0 to r{last}"
+        )
+    }
+
     /// The number of columns: logins first, then logs.
     pub fn columns(&self) -> u64 {
         u64::from(self.header.columns())
@@ -56,8 +94,8 @@ impl Record {
         }
     }
 
-    /// The sixteen bits of a cell; none for a name beyond the record.
-    pub fn cell(&self, login: u64, column: u64) -> u16 {
+    /// The bits of a cell; none for a name beyond the record.
+    pub fn cell(&self, login: u64, column: u64) -> u32 {
         self.header.cell(&self.bytes, login, column).unwrap_or(0)
     }
 
@@ -131,12 +169,12 @@ pub fn column_of(name: Name) -> u64 {
 }
 
 /// The rights whose bits are set in a cell.
-pub fn rights_in(cell: u16) -> Vec<Right> {
+pub fn rights_in(cell: u32) -> Vec<Right> {
     let all = Right::ALL.into_iter();
     all.filter(|right| right.in_cell(cell)).collect()
 }
 
-/// How many names there are and exist.
+/// How many names there are and exist, and first the version where it is not 1.
 pub fn sizes(record: &Record) -> String {
     let existing = record.existing();
     let logs = existing.iter().filter(|name| matches!(name, Name::Log(_)));
@@ -147,5 +185,9 @@ pub fn sizes(record: &Record) -> String {
         (record.logs(), "log", logs),
     ];
     let told = names.map(|(all, noun, exist)| format!("{}, {exist} existing", counted(all, noun)));
-    told.join("; ")
+    let version = match record.version() {
+        1 => String::new(),
+        version => format!("version {version}; "),
+    };
+    format!("{version}{}", told.join("; "))
 }

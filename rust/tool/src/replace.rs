@@ -1,6 +1,6 @@
 //! A file is replaced whole or not at all: a new file is written beside it and synced, takes the old one's name, and the folder is
-//! synced. A record or a window that is to be replaced is locked, so that of two runs at once each sees what the other left. Where a
-//! window is to be made its folder is locked, so that no other run makes it meanwhile.
+//! synced. A record or a window that is to be replaced is locked, so that of two runs at once each sees what the other left. Where one
+//! is to be made its folder is locked, so that no other run makes it meanwhile.
 
 use std::ffi::{OsStr, OsString};
 use std::fs::{self, File, Metadata, OpenOptions, TryLockError};
@@ -110,7 +110,12 @@ impl Locked {
 
     /// Puts the new file in its place.
     pub fn put(&self, fresh: Fresh) -> Answered<()> {
-        fresh.put().map_err(|error| self.failed(&error))
+        let put = if self.is_new {
+            fresh.put_new()
+        } else {
+            fresh.put()
+        };
+        put.map_err(|error| self.failed(&error))
     }
 
     /// Replaces the file.
@@ -127,6 +132,19 @@ impl Locked {
             "{file} can't be replaced and is left as it is: {error}"
         ))
     }
+}
+
+/// Makes a file that is not there yet, whole or not at all, for a command of this name.
+pub fn make(path: &OsStr, bytes: &[u8], command: &str) -> Answered<()> {
+    let file = called(path);
+    let locked = until_locked(path, || match fs::symlink_metadata(path) {
+        Ok(_) => no_answer(format!(
+            "{file} is there already, and {command} writes over nothing"
+        )),
+        Err(error) if error.kind() == ErrorKind::NotFound => Locked::try_new(path),
+        Err(error) => Err(trouble(path, "made", &error)),
+    })?;
+    locked.replace(bytes)
 }
 
 /// Tries a lock until it is there.
@@ -228,11 +246,26 @@ impl Fresh {
     fn put(mut self) -> io::Result<()> {
         fs::rename(&self.fresh, &self.target)?;
         self.is_put = true;
+        self.sync_folder();
+        Ok(())
+    }
+
+    /// Gives it the target's name if no file has that, not even one that another program made meanwhile. Its first name goes with this
+    /// value. Where the file system has no second names it is renamed.
+    fn put_new(self) -> io::Result<()> {
+        match fs::hard_link(&self.fresh, &self.target) {
+            Ok(()) => self.sync_folder(),
+            Err(error) if error.kind() == ErrorKind::AlreadyExists => return Err(error),
+            Err(_) => self.put()?,
+        }
+        Ok(())
+    }
+
+    /// Syncs the folder once the target is there. That this fails is no reason to say that the target isn't.
+    fn sync_folder(&self) {
         stop_for_test("renamed");
-        // The name is changed; that the folder is not synced yet is no reason to say that it isn't.
         let folder = or_here(self.target.parent().unwrap_or(Path::new("")));
         let _ = File::open(folder).and_then(|folder| folder.sync_all());
-        Ok(())
     }
 }
 

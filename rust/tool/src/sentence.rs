@@ -9,7 +9,7 @@ use crate::spoken;
 pub fn sentence(c: Command, record: &Record, names: &Names) -> Option<String> {
     let (i, s) = (names.login(c.i), names.login(c.s));
     let o = names.name(record.name(c.o));
-    if let Some((verb, right)) = act(c) {
+    if let Some((verb, right)) = act(c, record) {
         let to = if verb == "deletes" { "from" } else { "to" };
         let right = names.right(right);
         return Some(format!("{i} {verb} {right} over {o} {to} {s}"));
@@ -29,9 +29,10 @@ pub fn in_full(c: Command, record: &Record, names: &Names) -> String {
     format!("{}[{}]", words.unwrap_or_default(), numbers(c))
 }
 
-/// The verb and the right of a command that moves one; none for others, and where k is no basic right or not 0 as it should be.
-fn act(c: Command) -> Option<(&'static str, Right)> {
-    let k = Basic::from_number(c.k)?;
+/// The verb and the right of a command that moves one; none for others, and where k is no basic right of the record or not 0 as it
+/// should be.
+fn act(c: Command, record: &Record) -> Option<(&'static str, Right)> {
+    let k = Basic::from_number(c.k).filter(|k| k.number() < record.basics())?;
     let (verb, right) = match c.code {
         code::TRANSFER => ("transfers", Right::Plain(k)),
         code::TRANSFER_STARRED => ("transfers", Right::Starred(k)),
@@ -113,7 +114,7 @@ fn over(
     record: &Record,
     names: &Names,
 ) -> Result<Command, String> {
-    let right = spoken::right(&next(rest)?, names)?;
+    let right = spoken::right(&next(rest)?, record, names)?;
     expect(rest, "over")?;
     let o = spoken::column(&name(rest)?, record, names)?;
     expect(rest, if verb == "deletes" { "from" } else { "to" })?;

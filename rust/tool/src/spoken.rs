@@ -66,24 +66,36 @@ pub fn column(word: &str, record: &Record, names: &Names) -> Result<u64, String>
         .ok_or_else(|| format!("'{word}' is neither the number nor the name of a login or log"))
 }
 
-/// A right: own, control, r0 to r6 or a name, with the star or without, or a code.
-pub fn right(word: &str, names: &Names) -> Result<Right, String> {
+/// A right that the record's version has: own, control, a basic right by number or name, with the star or without, or a code.
+pub fn right(word: &str, record: &Record, names: &Names) -> Result<Right, String> {
+    let (rights, version) = (record.rights(), record.version());
+    let (last, last_basic) = (rights.len() - 1, record.basics() - 1);
     if let Some(code) = number(word)? {
-        let wrong = || format!("{code} is no right's code, which are 0 to 15");
-        return Right::from_code(code).ok_or_else(wrong);
+        let right = Right::from_code(code).filter(|right| rights.contains(right));
+        return right.ok_or_else(|| {
+            format!(
+                "{code} is no right's code, which are 0 to {last} in a record of version {version}"
+            )
+        });
     }
-    if let Ok(right) = word.parse() {
-        return Ok(right);
-    }
-    let plain = word.strip_suffix('*').unwrap_or(word);
-    let given = names.of_rights.iter().find(|(_, name)| *name == plain);
-    match given {
-        Some((k, _)) if plain == word => Ok(Right::Plain(*k)),
-        Some((k, _)) => Ok(Right::Starred(*k)),
-        None => Err(format!(
-            "'{word}' is no right, which is own, control, r0 to r6, 'r0*' to 'r6*', a name for one of these, or a code 0 to 15"
+    match word.parse().ok().or_else(|| right_named(word, names)) {
+        Some(right) if rights.contains(&right) => Ok(right),
+        Some(Right::Plain(k) | Right::Starred(k)) => Err(record.without(k.number())),
+        _ => Err(format!(
+            "'{word}' is no right, which is own, control, r0 to r{last_basic}, 'r0*' to 'r{last_basic}*', a name for one of these, or a code 0 to {last}"
         )),
     }
+}
+
+/// The right that a word is by the file of names.
+fn right_named(word: &str, names: &Names) -> Option<Right> {
+    let plain = word.strip_suffix('*').unwrap_or(word);
+    let (k, _) = names.of_rights.iter().find(|(_, name)| *name == plain)?;
+    Some(if plain == word {
+        Right::Plain(*k)
+    } else {
+        Right::Starred(*k)
+    })
 }
 
 /// The mask of trusted logins: names or numbers with commas between, `none`, or `all`.

@@ -50,11 +50,11 @@ impl Column {
             Some(_) => label(name, names),
             None => column_of(name).to_string(),
         };
-        let text = |cell: u16| {
+        let text = |cell: u32| {
             if cell == 0 {
                 String::from(".")
             } else {
-                short(cell)
+                short(cell, record)
             }
         };
         let cells = logins
@@ -90,14 +90,27 @@ fn line<'a>(label: &str, block: &'a [Column], text: impl Fn(&'a Column) -> &'a S
 }
 
 /// A cell: o for own, c for control, the number of each basic right, with * for the star; nothing where it is empty.
-pub fn short(cell: u16) -> String {
-    let short = |right: Right| match right {
-        Right::Own => String::from("o"),
-        Right::Control => String::from("c"),
-        Right::Plain(k) => k.number().to_string(),
-        Right::Starred(k) => format!("{}*", k.number()),
-    };
-    rights_in(cell).into_iter().map(short).collect()
+pub fn short(cell: u32, record: &Record) -> String {
+    let (mut letters, mut numbers) = (String::new(), Vec::new());
+    for right in rights_in(cell) {
+        match right {
+            Right::Own => letters.push('o'),
+            Right::Control => letters.push('c'),
+            Right::Plain(k) => numbers.push(k.number().to_string()),
+            Right::Starred(k) => numbers.push(format!("{}*", k.number())),
+        }
+    }
+    let (comma, _) = between(record);
+    format!("{letters}{}", numbers.join(comma))
+}
+
+/// What stands between the numbers in a cell, and how that is said: commas, where a record has basic rights of two digits.
+pub fn between(record: &Record) -> (&'static str, &'static str) {
+    if record.basics() > 10 {
+        (",", ", commas between")
+    } else {
+        ("", "")
+    }
 }
 
 /// The label of a name, cut where it is too long, and then with the column's number, so that no two are alike.

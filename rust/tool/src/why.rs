@@ -83,8 +83,8 @@ fn beyond(c: Command, record: &Record) -> String {
             "column {} is beyond the record, which has columns 0 to {last}",
             c.o
         )
-    } else if c.k > 6 && uses_s && uses_o && !without_k {
-        format!("there is no basic right {}, they are 0 to 6", c.k)
+    } else if c.k >= record.basics() && uses_s && uses_o && !without_k {
+        record.without(c.k)
     } else if c.s != 0 && !uses_s {
         zero("s")
     } else if c.o != 0 && !uses_o {

@@ -12,8 +12,9 @@ pub struct Form {
 }
 
 /// The commands. `--names FILE` is taken by each but `new`.
-pub const FORMS: [Form; 9] = [
-    form("new", &["FILE", "LOGINS", "LOGS"], &[]),
+pub const FORMS: [Form; 10] = [
+    form("new", &["FILE", "LOGINS", "LOGS"], &["--version"]),
+    form("convert", &["FILE", "VERSION", "OUT"], &["--names"]),
     form("show", &["FILE"], &["--html", "--names"]),
     form("check", &["FILE"], &["--json", "--names"]),
     form(
@@ -48,13 +49,14 @@ const fn form(
     }
 }
 
-/// The options, each with whether a file follows it.
-const OPTIONS: [(&str, bool); 5] = [
-    ("--json", false),
-    ("--dry", false),
-    ("--html", true),
-    ("--names", true),
-    ("--window", true),
+/// The options, each with what follows it.
+const OPTIONS: [(&str, Option<&str>); 6] = [
+    ("--json", None),
+    ("--dry", None),
+    ("--html", Some("a file")),
+    ("--names", Some("a file")),
+    ("--window", Some("a file")),
+    ("--version", Some("a record's version, 1 or 2")),
 ];
 
 /// What was given: as many words as the command takes, and its options.
@@ -66,6 +68,7 @@ pub struct Given {
     pub html: Option<OsString>,
     pub names: Option<OsString>,
     pub window: Option<OsString>,
+    pub version: Option<OsString>,
 }
 
 impl Given {
@@ -123,25 +126,24 @@ impl Split {
         argument: &OsString,
         rest: &mut impl Iterator<Item = OsString>,
     ) -> Answered<()> {
-        let Some((name, valued)) = OPTIONS.into_iter().find(|(name, _)| names(argument, name))
+        let Some((name, follows)) = OPTIONS.into_iter().find(|(name, _)| names(argument, name))
         else {
             let word = shown(argument);
             return no_answer(format!(
                 "'{word}' is no option; a word that begins with - stands after --"
             ));
         };
-        let is_file = |next: &OsString| next == "-" || !is_option(next);
+        let is_value = |next: &OsString| next == "-" || !is_option(next);
         let value = match after_equals(argument, name) {
-            None if valued => rest.next().filter(is_file),
+            None if follows.is_some() => rest.next().filter(is_value),
             value => value,
         };
-        if valued != value.is_some() {
-            let form = if valued {
-                "is followed by a file"
-            } else {
-                "has no value"
-            };
-            return no_answer(format!("the option {name} {form}"));
+        match (follows, &value) {
+            (Some(what), None) => {
+                return no_answer(format!("the option {name} is followed by {what}"));
+            }
+            (None, Some(_)) => return no_answer(format!("the option {name} has no value")),
+            _ => {}
         }
         if self.options.iter().any(|(other, _)| *other == name) {
             return no_answer(format!("the option {name} stands twice"));
@@ -185,6 +187,7 @@ impl Split {
             html: value("--html"),
             names: value("--names"),
             window: value("--window"),
+            version: value("--version"),
         })
     }
 }

@@ -1,10 +1,15 @@
-//! Runs the program on files: what `run` leaves, also in a window, and what `diff` tells are the library's bytes.
+//! Runs the program on files: what `run` leaves, also in a window, what `convert` makes, and what `diff` tells are the library's bytes.
 
 mod library {
-    pub use bunvespo::{Command, MOST_PLAIN, MOST_SUBJECTS, command, new_record};
+    pub use bunvespo::{
+        Command, Header, MOST_PLAIN, MOST_RECORD_BYTES, MOST_SUBJECTS, Refusal, Right, command,
+        new_record, to_version_1, to_version_2,
+    };
 }
 #[path = "../src/tests/random.rs"]
 mod random;
+#[path = "../src/version.rs"]
+mod version;
 
 use std::fs;
 use std::path::{Path, PathBuf};
@@ -12,6 +17,7 @@ use std::process::{Command as Process, Output};
 
 use bunvespo::{Command, WINDOW_ENTRIES, WINDOW_NUMBERS, Window, encode, run};
 use random::{Numbers, any_command, station};
+use version::Version;
 
 /// A folder that goes with this value.
 struct Folder(PathBuf);
@@ -43,12 +49,10 @@ fn bunvespo(command: &str, words: &[&Path]) -> Output {
 
 /// Commands over a record, some of which will be refused.
 fn some_commands(numbers: &mut Numbers, record: &[u8]) -> Vec<Command> {
-    let n = u64::from(record[5]);
-    let columns = n + u64::from(record[6]);
     let mut copy = record.to_vec();
     let mut commands = Vec::new();
     for _ in 0..numbers.below(40) {
-        let c = any_command(numbers, n, columns);
+        let c = any_command(numbers, record);
         if library::command(&mut copy, c).is_ok() || numbers.below(60) == 0 {
             commands.push(c);
         }
@@ -149,4 +153,33 @@ fn a_window_has_what_was_tried() {
     let wanted = format!("{{\"refused\":{counts:?}}}\n").replace(' ', "");
     assert_eq!(String::from_utf8(told.stdout).unwrap(), wanted);
     assert!(counts.iter().sum::<u64>() > 3, "{wanted}");
+}
+
+#[test]
+fn convert_has_the_bytes_of_the_library() {
+    let folder = Folder::new("bunvespo-convert");
+    let mut numbers = Numbers::new(10);
+    let mut refused = 0;
+    for _ in 0..500 {
+        let record = station(&mut numbers);
+        let file = folder.file("record", &record);
+        let out = folder.0.join("out");
+        for word in ["1", "2"] {
+            let version = Version::parse(word).unwrap();
+            let told = bunvespo("convert", &[&file, Path::new(word), &out]);
+            assert_eq!(fs::read(&file).unwrap(), record);
+            let Ok(converted) = version.convert(&record) else {
+                exits(&told, false);
+                assert!(!out.exists());
+                refused += 1;
+                continue;
+            };
+            exits(&told, true);
+            assert_eq!(converted[0], version.number());
+            assert_eq!(fs::read(&out).unwrap(), converted);
+            exits(&bunvespo("diff", &[&file, &out]), true);
+            fs::remove_file(&out).unwrap();
+        }
+    }
+    assert!(refused > 20, "{refused}");
 }

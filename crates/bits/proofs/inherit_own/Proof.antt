@@ -6,7 +6,7 @@ use mathlib.Core.Path.{refl, ap}
 use lib.ListN.{length}
 use Rattle.matrix.specs.Shape.{shapeOf}
 use Rattle.matrix.specs.Reading.{stateOf}
-use Rattle.codec.specs.ShapeRight.{mostBytes}
+use Rattle.codec.specs.ShapeRight.{mostBytes, two-or-four}
 use Rattle.cells.specs.Station.{right-shape}
 use Rattle.cells.specs.Places.{rowBytes}
 use Rattle.bits.specs.Became.{Became}
@@ -18,10 +18,10 @@ use Rattle.bits.proofs.inherit_own.Statement.{statement}
 use Rattle.bits.proofs.inherit_own.Tie as tie
 
 abbrev Inv-loop : tie.InvT-loop
-Inv-loop b₀ i s to from bytes k₀ b k = (k ≤ bytes) × Became b₀ b (inheritPart (shapeOf b₀ .n) i s (k / 2) (stateOf b₀))
+Inv-loop b₀ f i s to from bytes k₀ b k = (k ≤ bytes) × Became b₀ b (inheritPart (shapeOf b₀ .n) i s (k / f .width) (stateOf b₀))
 
 abbrev μ-loop : tie.MeasureT-loop
-μ-loop b₀ i s to from bytes k₀ b k = bytes - k
+μ-loop b₀ f i s to from bytes k₀ b k = bytes - k
 
 -- byte k of a row
 within : (c : tie.In-loop Inv-loop μ-loop) → c .before .loop .k < rowBytes (c .before .before .before .before .before .before .args .f)
@@ -65,7 +65,7 @@ slice-read-own-joined-2 : tie.Need-slice-read-own-joined-2 Inv-loop μ-loop
 slice-read-own-joined-2 c = omega (arith, from-below (c .before .before) .0)
 
 own-joined-requires : tie.Need-own-joined-requires Inv-loop μ-loop
-own-joined-requires c κs = search needs
+own-joined-requires c κs = let z = c .before .before .before .before .before .before .before .before in two-or-four (z .args .f) (right-shape (z .pre .0))
 
 add-b : tie.Need-add-b Inv-loop μ-loop
 add-b c = omega (arith, to-below (c .before .before .before) .1)

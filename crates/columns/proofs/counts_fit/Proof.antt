@@ -16,43 +16,43 @@ use Rattle.columns.proofs.counts_fit.Statement.{statement}
 use Rattle.columns.proofs.counts_fit.Tie as tie
 
 abbrev Inv-loop : tie.InvT-loop
-Inv-loop tally odd n root wrong₀ s₀ wrong s = (1 ≤ s) × (s ≤ n) × (wrong ≡ merged s (λ i. faultOf (countTest tally odd i)))
+Inv-loop tally odd q n root wrong₀ s₀ wrong s = (1 ≤ s) × (s ≤ n) × (wrong ≡ merged s (λ i. faultOf (countTest q tally odd i)))
 
 abbrev μ-loop : tie.MeasureT-loop
-μ-loop tally odd n root wrong₀ s₀ wrong s = n - s
+μ-loop tally odd q n root wrong₀ s₀ wrong s = n - s
 
 last-lane-requires : tie.Need-last-lane-requires Inv-loop μ-loop
 last-lane-requires c κs = search needs
 
 element-copy-out-root-counts : tie.Need-element-copy-out-root-counts Inv-loop μ-loop
-element-copy-out-root-counts c = last-counted _ _ (omega arith) (c .last-lane .ensures)
+element-copy-out-root-counts c = last-counted (search needs) _ _ (omega arith) (c .last-lane .ensures)
 
 element-copy-out-root-counts-2 : tie.Need-element-copy-out-root-counts-2 Inv-loop μ-loop
-element-copy-out-root-counts-2 c = last-counted _ _ (omega arith) (c .before .last-lane .ensures)
+element-copy-out-root-counts-2 c = last-counted (search needs) _ _ (omega arith) (c .before .last-lane .ensures)
 
 root-counts-requires : tie.Need-root-counts-requires Inv-loop μ-loop
 root-counts-requires c κs = search needs
 
 returns : tie.Need-returns Inv-loop μ-loop
-returns c = all-stop 0 _ _ (search needs) (count-root _ _ _ _ (c .before .before .before .before .last-lane .ensures) (c .before .root-counts .ensures) ∙ not-true _ (c .if1 .taken))
+returns c = all-stop 0 _ _ (search needs) (count-root _ _ _ _ _ (c .before .before .before .before .last-lane .ensures) (c .before .root-counts .ensures) ∙ not-true _ (c .if1 .taken))
 
 loop-holds : tie.Need-loop-holds Inv-loop μ-loop
 loop-holds c =
     let a = c .before .before .before .before .before .args in (
       search needs,
       search needs,
-      first-fault (countTest (a .tally .now) (a .odd .now))
-          (count-root _ _ _ _ (c .before .before .before .before .last-lane .ensures) (c .before .root-counts .ensures) ∙ not-false _ (c .if1 .left)),
+      first-fault (countTest (a .q) (a .tally .now) (a .odd .now))
+          (count-root _ _ _ _ _ (c .before .before .before .before .last-lane .ensures) (c .before .root-counts .ensures) ∙ not-false _ (c .if1 .left)),
     )
 
 last-lane-requires-2 : tie.Need-last-lane-requires-2 Inv-loop μ-loop
 last-lane-requires-2 c κs = search needs
 
 element-copy-out-other-counts : tie.Need-element-copy-out-other-counts Inv-loop μ-loop
-element-copy-out-other-counts c = last-counted _ _ (search needs) (c .last-lane2 .ensures)
+element-copy-out-other-counts c = last-counted (search needs) _ _ (search needs) (c .last-lane2 .ensures)
 
 element-copy-out-other-counts-2 : tie.Need-element-copy-out-other-counts-2 Inv-loop μ-loop
-element-copy-out-other-counts-2 c = last-counted _ _ (search needs) (c .before .last-lane2 .ensures)
+element-copy-out-other-counts-2 c = last-counted (search needs) _ _ (search needs) (c .before .last-lane2 .ensures)
 
 other-counts-requires : tie.Need-other-counts-requires Inv-loop μ-loop
 other-counts-requires c κs = search needs
@@ -73,8 +73,8 @@ loop-again c =
       search needs,
       search needs,
       ap (λ (x : ℕ). bitOr (l .wrong) x)
-          (c .fault .ensures ∙ ap faultOf (count-other _ _ _ _ _ (l .inv .0) (c .before .before .before .before .last-lane2 .ensures) (c .before .other-counts .ensures)))
-          ∙ merged-more (l .s) (λ i. faultOf (countTest (a .tally .now) (a .odd .now) i)) (l .wrong) (l .inv .2),
+          (c .fault .ensures ∙ ap faultOf (count-other _ _ _ _ _ _ (l .inv .0) (c .before .before .before .before .last-lane2 .ensures) (c .before .other-counts .ensures)))
+          ∙ merged-more (l .s) (λ i. faultOf (countTest (a .q) (a .tally .now) (a .odd .now) i)) (l .wrong) (l .inv .2),
     )
 
 returns-2 : tie.Need-returns-2 Inv-loop μ-loop

@@ -5,7 +5,7 @@ use native.Mathlib.Omega.{arith}
 use mathlib.Core.Path.{_≡_}
 use mathlib.Core.Bool.{true}
 use borrow.Author.Tests.{not-true, not-false}
-use lib.ListN.{length}
+use lib.ListN.{length, getD}
 use Rattle.matrix.specs.Bounded.{all}
 use Rattle.lanes.specs.Lanes.{rowBytes, rowPlace}
 use Rattle.lanes.specs.LaneLaws.{first-place, next-place, row-room}
@@ -16,10 +16,10 @@ use Rattle.columns.proofs.each_subject.Statement.{statement}
 use Rattle.columns.proofs.each_subject.Tie as tie
 
 abbrev Inv-loop : tie.InvT-loop
-Inv-loop b seen tally odd m rows at₀ s₀ at s = (s ≤ rows) × (at ≡ rowPlace m s) × (all s (subjectTest b m seen tally odd) ≡ true)
+Inv-loop b seen tally odd m q rows at₀ s₀ at s = (s ≤ rows) × (at ≡ rowPlace m s) × (all s (subjectTest q b m (λ j. getD seen j 0) tally odd) ≡ true)
 
 abbrev μ-loop : tie.MeasureT-loop
-μ-loop b seen tally odd m rows at₀ s₀ at s = rows - s
+μ-loop b seen tally odd m q rows at₀ s₀ at s = rows - s
 
 loop-holds : tie.Need-loop-holds Inv-loop μ-loop
 loop-holds c = (search needs, first-place (c .before .args .m), all-none _)
@@ -38,12 +38,12 @@ subject-requires c κs =
     let s = c .before .before .before .before in
     let h = s .pre .0 in
     let t = c .before .loop-test .taken in
-    (record { subject = omega (arith, h .subjects, t); column = cell-inside _ _ _ h t; row = omega (arith, c .before .before .loop .inv .1, within c); room = s .pre .1 .columns }, s .pre .1 .sums, s .pre .1 .parity)
+    (record { cells = h .cells; subject = omega (arith, h .subjects, t); column = cell-inside _ _ _ _ h t; row = omega (arith, c .before .before .loop .inv .1, within c); room = s .pre .2 }, s .pre .1 .sums, s .pre .1 .parity)
 
 returns : tie.Need-returns Inv-loop μ-loop
 returns c =
     let l = c .before .before .before .before .loop in
-    all-stop (l .s) _ _ (c .before .before .before .loop-test .taken) (subject-test _ _ _ _ _ (l .s) (l .at) _ _ (l .inv .1) (c .before .subject .ensures) (not-true _ (c .if1 .taken)))
+    all-stop (l .s) _ _ (c .before .before .before .loop-test .taken) (subject-test _ _ _ _ _ _ (l .s) (l .at) _ _ (l .inv .1) (c .before .subject .ensures) (not-true _ (c .if1 .taken)))
 
 mul-at : tie.Need-mul-at Inv-loop μ-loop
 mul-at c = record { fits = omega (arith, within (c .before .before .before)) }
@@ -62,7 +62,7 @@ loop-again c =
     let l = c .before .before .before .before .before .loop in (
       search needs,
       next-place (c .before .before .before .before .before .before .before .args .m) (l .s) (l .at) (l .inv .1),
-      all-more (l .s) _ (l .inv .2) (subject-test _ _ _ _ _ (l .s) (l .at) _ _ (l .inv .1) (c .before .before .subject .ensures) (not-false _ (c .before .if1 .left))),
+      all-more (l .s) _ (l .inv .2) (subject-test _ _ _ _ _ _ (l .s) (l .at) _ _ (l .inv .1) (c .before .before .subject .ensures) (not-false _ (c .before .if1 .left))),
     )
 
 returns-2 : tie.Need-returns-2 Inv-loop μ-loop

@@ -1,9 +1,9 @@
--- `columns::exists` meets its contract. The byte that is read is the upper one of the last lane of the subject's own cell.
+-- `columns::exists` meets its contract.
+use borrow.Author.Needs.{needs}
 use Prim.Native.Nat.{ℕ, _+_, _*_}
 use mathlib.Core.Path.{_∙_, ap}
 use lib.ListN.{getD}
 use Rattle.matrix.specs.Bytes.{bit}
-use borrow.Author.Needs.{needs}
 use Rattle.columns.proofs.exists.Statement.{statement}
 use Rattle.columns.proofs.exists.Tie as tie
 
@@ -27,8 +27,8 @@ controls-requires c κs = search needs
 
 returns : tie.Need-returns
 returns c =
-    let a = c .before .before .before .before .args in
-    c .controls .ensures ∙ ap (λ (j : ℕ). bit 1 (getD (a .b .now) (a .at + (2 * j + 1)) 0)) (c .before .before .last-lane .ensures)
+    let s = c .before .before .before .before in
+    c .controls .ensures ∙ ap (λ (j : ℕ). bit 1 (getD (s .args .b .now) (s .args .at + (2 * j + 1)) 0)) (c .before .before .last-lane .ensures)
 
 pub exists-spec : {M : Type 1} → statement M
 exists-spec =

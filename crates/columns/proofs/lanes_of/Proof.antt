@@ -1,12 +1,13 @@
--- `columns::lanes_of` meets its contract. By the number of a cell's lanes.
+-- `columns::lanes_of` meets its contract.
+use native.Mathlib.Omega.{arith}
 use mathlib.Core.Path.{refl}
-use Rattle.columns.specs.Cells.{lanesOf}
-use borrow.Author.Needs.{needs}
+use Rattle.columns.specs.Cells.{lanesOf, lanes-most}
 use Rattle.columns.proofs.lanes_of.Statement.{statement}
 use Rattle.columns.proofs.lanes_of.Tie as tie
 
 mul-result : tie.Need-mul-result
-mul-result c = search needs
+unfolding lanesOf
+mul-result c = record { fits = omega (arith, lanes-most (c .pre .0) (c .args .k)) }
 
 returns : tie.Need-returns
 unfolding lanesOf

@@ -18,32 +18,32 @@ absent-requires : tie.Need-absent-requires
 absent-requires c κs = search needs
 
 -- the subject exists
-here : (c : tie.Else1) → let a = c .before .before .before .args in bit 1 (getD (a .b .now) (a .at + (2 * lastLane (a .s) + 1)) 0) ≡ true
+here : (c : tie.Else1) → let a = c .before .before .before .args in bit 1 (getD (a .b .now) (a .at + (2 * lastLane (a .q) (a .s) + 1)) 0) ≡ true
 here c = sym (c .before .exists .ensures) ∙ not-false _ (c .if1 .left)
 
 returns : tie.Need-returns
 returns c =
     let a = c .before .before .before .before .args in
-    subject-absent (a .b .now) (a .bytes) (a .seen .now) (a .tally .now) (a .odd .now) (a .s) (a .at) _
+    subject-absent (a .q) (a .b .now) (a .bytes) (λ j. getD (a .seen .now) j 0) (a .tally .now) (a .odd .now) (a .s) (a .at) _
     (sym (c .before .before .exists .ensures) ∙ not-true _ (c .before .if1 .taken)) (c .absent .ensures)
 
 last-lane-requires : tie.Need-last-lane-requires
 last-lane-requires c κs = search needs
 
 element-copy-out-root-counts : tie.Need-element-copy-out-root-counts
-element-copy-out-root-counts c = last-counted _ _ (search needs) (c .before .last-lane .ensures)
+element-copy-out-root-counts c = last-counted (search needs) _ _ (search needs) (c .before .last-lane .ensures)
 
 element-copy-out-root-counts-2 : tie.Need-element-copy-out-root-counts-2
-element-copy-out-root-counts-2 c = last-counted _ _ (search needs) (c .before .before .last-lane .ensures)
+element-copy-out-root-counts-2 c = last-counted (search needs) _ _ (search needs) (c .before .before .last-lane .ensures)
 
 root-counts-requires : tie.Need-root-counts-requires
 root-counts-requires c κs = search needs
 
 element-copy-out-other-counts : tie.Need-element-copy-out-other-counts
-element-copy-out-other-counts c = last-counted _ _ (search needs) (c .before .last-lane .ensures)
+element-copy-out-other-counts c = last-counted (search needs) _ _ (search needs) (c .before .last-lane .ensures)
 
 element-copy-out-other-counts-2 : tie.Need-element-copy-out-other-counts-2
-element-copy-out-other-counts-2 c = last-counted _ _ (search needs) (c .before .before .last-lane .ensures)
+element-copy-out-other-counts-2 c = last-counted (search needs) _ _ (search needs) (c .before .before .last-lane .ensures)
 
 other-counts-requires : tie.Need-other-counts-requires
 other-counts-requires c κs = search needs
@@ -51,13 +51,13 @@ other-counts-requires c κs = search needs
 returns-2 : tie.Need-returns-2
 returns-2 c =
     let a = c .before .before .before .before .before .before .before .before .args in
-    subject-root (a .b .now) (a .bytes) (a .seen .now) (a .tally .now) (a .odd .now) (a .s) (a .at) _ _ (c .before .before .before .before .last-lane .ensures)
+    subject-root (a .q) (a .b .now) (a .bytes) (λ j. getD (a .seen .now) j 0) (a .tally .now) (a .odd .now) (a .s) (a .at) _ _ (c .before .before .before .before .last-lane .ensures)
     (here (c .before .before .before .before .before)) (c .before .before .before .if2 .taken) (c .root-counts .ensures)
 
 returns-3 : tie.Need-returns-3
 returns-3 c =
     let a = c .before .before .before .before .before .before .before .before .args in
-    subject-other (a .b .now) (a .bytes) (a .seen .now) (a .tally .now) (a .odd .now) (a .s) (a .at) _ _ (c .before .before .before .before .last-lane .ensures)
+    subject-other (a .q) (a .b .now) (a .bytes) (λ j. getD (a .seen .now) j 0) (a .tally .now) (a .odd .now) (a .s) (a .at) _ _ (c .before .before .before .before .last-lane .ensures)
     (here (c .before .before .before .before .before)) (c .before .before .before .if2 .left) (c .other-counts .ensures)
 
 pub subject-spec : {M : Type 1} → statement M

@@ -1,22 +1,16 @@
 -- `holding::mask_of` meets its contract: neither shift reaches the bits of a word.
 use Prim.Native.Nat.{ℕ, _^_, _<_}
-use mathlib.Core.Path.{_≡_, refl, sym, _∙_, ap, ap₂, subst}
-use mathlib.Core.Bool.{Bool, true, false}
+use mathlib.Core.Path.{_≡_, sym, _∙_, ap, ap₂, subst}
 use lib.Bits.{bitOr}
 use lib.Dec.{ltb}
 use mir.Val.{boolByte}
-use Rattle.matrix.specs.Numbers.{truth}
+use Rattle.laws.specs.Numbers.{digit}
 use Rattle.codec.specs.Bits.{wordBits, one-shifted}
 use Rattle.holding.specs.Mask.{maskOf}
 use Rattle.holding.specs.MaskHolds.{starred-below}
 use borrow.Author.Needs.{needs}
 use Rattle.holding.proofs.mask_of.Statement.{statement}
 use Rattle.holding.proofs.mask_of.Tie as tie
-
--- a test as a number
-digit : (t : Bool) → truth t ≡ boolByte t
-digit true = refl
-digit false = refl
 
 starred-small : (c : ℕ) → c < wordBits → bitOr c (boolByte (ltb 1 c)) < wordBits
 starred-small c h = subst (λ (d : ℕ). bitOr c d < wordBits) (digit (ltb 1 c)) (starred-below 8 c h)

@@ -1,7 +1,7 @@
--- `opening::shape` meets its contract, field by field.
+-- `opening::shape` meets its contract.
 use borrow.Author.Needs.{needs}
-use mathlib.Core.Path.{_∙_, ap}
-use Rattle.matrix.specs.Shape.{shapeOf, widthOf, firstOf}
+use mathlib.Core.Path.{_∙_}
+use Rattle.matrix.specs.Shape.{shapeOf, shapeIn}
 use Rattle.opening.proofs.shape.Statement.{statement}
 use Rattle.opening.proofs.shape.Tie as tie
 
@@ -14,31 +14,13 @@ byte-requires-2 c κs = search needs
 byte-requires-3 : tie.Need-byte-requires-3
 byte-requires-3 c κs = search needs
 
-width-of-requires : tie.Need-width-of-requires
-width-of-requires c κs = search needs
-
-first-of-requires : tie.Need-first-of-requires
-first-of-requires c κs = search needs
+shape-in-requires : tie.Need-shape-in-requires
+shape-in-requires c κs = search needs
 
 returns : tie.Need-returns
 unfolding shapeOf
-returns c =
-    let v = c .before .before .before .before .byte .ensures in
-    λ i. record {
-      version = v i;
-      n = c .before .before .before .byte2 .ensures i;
-      p = c .before .before .byte3 .ensures i;
-      width = (c .before .width-of .ensures ∙ ap widthOf v) i;
-      first = (c .first-of .ensures ∙ ap firstOf v) i;
-    }
+returns c = c .shape-in .ensures ∙ (λ i. shapeIn (c .before .before .before .byte .ensures i) (c .before .before .byte2 .ensures i) (c .before .byte3 .ensures i))
 
 pub shape-spec : {M : Type 1} → statement M
 shape-spec =
-    tie.close
-    (tie.spec
-    byte-requires
-    byte-requires-2
-    byte-requires-3
-    width-of-requires
-    first-of-requires
-    returns)
+    tie.close (tie.spec byte-requires byte-requires-2 byte-requires-3 shape-in-requires returns)

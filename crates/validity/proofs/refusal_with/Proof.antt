@@ -8,7 +8,7 @@ use Rattle.matrix.specs.declared.Shape.{Shape}
 use Rattle.matrix.specs.Shape.{limits, shapeOf, knownVersion, inRange, sized}
 use Rattle.matrix.specs.Shaped.{Octets}
 use Rattle.validity.specs.Header.{Headed, refused-1, refused-2, refused-3, refused-4, refused-5, refused-none}
-use Rattle.validity.specs.Whole.{unread, version-read, version-wrong, range-read, headed, station-read}
+use Rattle.validity.specs.Whole.{unread, version-read, range-read, headed, station-read}
 use borrow.Author.Needs.{needs}
 use Rattle.validity.proofs.refusal_with.Statement.{statement}
 use Rattle.validity.proofs.refusal_with.Tie as tie
@@ -38,7 +38,7 @@ octets c = record { octet = λ j. c .before .before .shared-slice-known .given j
 
 -- the tests that are passed at each place
 version-here : (c : tie.Else2) → knownVersion (shapeOf (bytes (made2 c)) .version) ≡ true
-version-here c = version-read _ _ (made2 c .shape .ensures) (c .if2 .left)
+version-here c = version-read _ _ (made2 c .shape .ensures) _ _ (c .before .known-version .ensures) (not-false _ (c .if2 .left))
 
 range-here : (c : tie.Else3) → inRange limits (shapeOf (bytes (made3 c))) ≡ true
 range-here c = range-read _ _ (made3 c .shape .ensures) _ _ (c .before .in-range .ensures) (not-false _ (c .if3 .left))
@@ -58,7 +58,10 @@ shape-requires c κs = search needs
 returns-2 : tie.Need-returns-2
 returns-2 c =
     let m = c .before .before in
-    (refused-2 _ (m .before .if1 .left) (version-wrong _ _ (m .shape .ensures) (c .if2 .taken)), unread _ (start m .pre))
+    (refused-2 _ (m .before .if1 .left) (version-read _ _ (m .shape .ensures) _ _ (c .before .known-version .ensures) (not-true _ (c .if2 .taken))), unread _ (start m .pre))
+
+known-version-requires : tie.Need-known-version-requires
+known-version-requires c κs = search needs
 
 in-range-requires : tie.Need-in-range-requires
 in-range-requires c κs = search needs
@@ -104,6 +107,7 @@ refusal-with-spec =
     (tie.spec
     returns
     shape-requires
+    known-version-requires
     returns-2
     in-range-requires
     returns-3

@@ -11,10 +11,3 @@ pub fn part<const N: usize>(bytes: &[u8], at: usize) -> &Part<N> {
     let lanes = bytes[at..at + N * LANE].as_chunks().0;
     lanes.first_chunk().expect("the slice has N lanes")
 }
-
-/// The N lanes from a place on, to be written.
-#[inline(always)]
-pub fn part_mut<const N: usize>(bytes: &mut [u8], at: usize) -> &mut Part<N> {
-    let lanes = bytes[at..at + N * LANE].as_chunks_mut().0;
-    lanes.first_chunk_mut().expect("the slice has N lanes")
-}

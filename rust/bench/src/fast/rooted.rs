@@ -1,10 +1,6 @@
 //! Whether following owners from every subject comes to U.
 
-use super::tables::{SUBJECTS, Tables};
-
-/// The entries of the table of owners: more than there are subjects, so that a number of six bits needs no test of bounds.
-const ENTRIES: usize = 64;
-const _: () = assert!(SUBJECTS < ENTRIES);
+use super::tables::ENTRIES;
 
 /// Whether the owners of owners come to U from every subject, where each has at most one owner and U none. By doubling: in a
 /// round each entry becomes the entry of the subject that it names, and one that was renewed earlier in the round is only
@@ -14,11 +10,9 @@ const _: () = assert!(SUBJECTS < ENTRIES);
 ///
 /// Measured at n = 40, p = 120, with every owner higher, this takes about 70 ns, and the lowest first 110; rounds from one
 /// table into another 140; following each subject's owners up to one that is known to come to U 115.
-pub fn rooted(tables: &Tables, n: usize) -> bool {
-    let mut owners = [0; ENTRIES];
-    for (s, owner) in owners.iter_mut().enumerate().take(n) {
-        *owner = tables.owner[2 * s + 1];
-    }
+#[inline(never)]
+pub fn rooted(owner: &[u8; ENTRIES], n: usize) -> bool {
+    let mut owners = *owner;
     for _ in 0..ENTRIES.ilog2() {
         let mut some = 0;
         for s in (0..n).rev() {

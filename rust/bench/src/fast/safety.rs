@@ -1,15 +1,16 @@
 //! The safety question: whether the right is held, can be passed on by an untrusted holder of the star, or can be given by an
 //! untrusted subject above o.
 
-use super::scan::scan;
-use super::tables::{SUBJECTS, Tables};
+use super::cell::{CONTROL, OWN};
+use super::scan::{FIRST, scan};
+use super::tables::{Owners, SUBJECTS};
 use super::witness::Witness;
-use super::{cell, held_mask, question_fits};
+use super::{cell_of, held_mask, question_fits, wide};
 
 /// A question on a valid record with its tables, and the buffer for the list.
-pub struct Question<'a> {
+pub struct Question<'a, const W: usize> {
     pub record: &'a [u8],
-    pub tables: &'a Tables,
+    pub owners: &'a Owners,
     pub n: usize,
     pub trust: u64,
     pub s: usize,
@@ -19,21 +20,34 @@ pub struct Question<'a> {
 
 /// The safety question: the refusal, and 0 for safe or N + 1 for leaks by N commands.
 pub fn safety(record: &[u8], trust: u64, s: u64, o: u64, right: u64, out: &mut [u8]) -> (u64, u64) {
-    let mut tables = Tables::new();
-    let refusal = scan(record, &mut tables);
-    if refusal != 0 {
+    if wide(record) {
+        safety_in::<4>(record, trust, (s, o, right), out)
+    } else {
+        safety_in::<2>(record, trust, (s, o, right), out)
+    }
+}
+
+#[inline(always)]
+fn safety_in<const W: usize>(
+    record: &[u8],
+    trust: u64,
+    (s, o, right): (u64, u64, u64),
+    out: &mut [u8],
+) -> (u64, u64) {
+    let mut owners = Owners::new();
+    if let Err(refusal) = scan::<W, _>(record, &mut owners) {
         return (refusal, 0);
     }
     let n = record[5] as usize;
-    if !question_fits(record, s, o, right) || trust >> n != 0 {
+    if !question_fits::<W>(record, s, o, right) || trust >> n != 0 {
         return (7, 0);
     }
     if out.len() < 5 + 6 * (n + 2) {
         return (15, 0);
     }
-    let question = Question {
+    let question = Question::<W> {
         record,
-        tables: &tables,
+        owners: &owners,
         n,
         trust,
         s: s as usize,
@@ -43,9 +57,35 @@ pub fn safety(record: &[u8], trust: u64, s: u64, o: u64, right: u64, out: &mut [
     (0, question.answer(Witness::new(out)))
 }
 
-impl Question<'_> {
+impl<const W: usize> Question<'_, W> {
     fn trusted(&self, subject: usize) -> bool {
         self.trust >> subject & 1 == 1
+    }
+
+    /// Whether the name of a column exists.
+    pub fn exists(&self, o: usize) -> bool {
+        if o < self.n {
+            self.owners.exists(o)
+        } else {
+            self.rows(o, OWN) != 0
+        }
+    }
+
+    /// Whether another than subject o itself controls it.
+    pub fn controlled(&self, o: usize) -> bool {
+        self.rows(o, CONTROL) & !(1 << o) != 0
+    }
+
+    /// The rows that have own or control over column o, each as a bit.
+    #[inline(always)]
+    fn rows(&self, o: usize, bit: usize) -> u64 {
+        let width = W * (self.n + self.record[6] as usize);
+        let (mut rows, mut at) = (0u64, FIRST + W * o + W - 1);
+        while let Some(byte) = self.record.get(at) {
+            rows = (rows | u64::from(byte >> bit & 1)).rotate_right(1);
+            at += width;
+        }
+        rows.rotate_left(self.n as u32)
     }
 
     /// Whether a valid state may have s with the right over o.
@@ -60,7 +100,7 @@ impl Question<'_> {
 
     /// The lowest subject that exists and is untrusted.
     fn lowest_untrusted(&self) -> Option<usize> {
-        (0..self.n).find(|&v| !self.trusted(v) && self.tables.exists(v))
+        (0..self.n).find(|&v| !self.trusted(v) && self.owners.exists(v))
     }
 
     /// The lowest untrusted subject with the star of a basic right over o.
@@ -72,7 +112,7 @@ impl Question<'_> {
         let mut untrusted = !self.trust & !0 >> (64 - self.n);
         while untrusted != 0 {
             let v = untrusted.trailing_zeros() as usize;
-            if cell(self.record, v, self.o) & star != 0 {
+            if cell_of::<W>(self.record, v, self.o) & star != 0 {
                 return Some(v);
             }
             untrusted &= untrusted - 1;
@@ -96,36 +136,28 @@ impl Question<'_> {
             *passed |= 1 << at;
             path[count] = at as u8;
             count += 1;
-            at = self.tables.owner(at);
+            at = self.owners.owner[at] as usize;
         }
         Some((at, count))
     }
 
     /// The way up from the lowest owner of o that has an untrusted subject at or above it.
-    fn way_up(&self, path: &mut [u8; SUBJECTS]) -> Option<(usize, usize)> {
+    fn way_up(&self, mut owners: u64, path: &mut [u8; SUBJECTS]) -> Option<(usize, usize)> {
         let mut passed = 0;
-        if self.o < self.n {
-            if self.o == 0 {
-                return None;
+        while owners != 0 {
+            let w = owners.trailing_zeros() as usize;
+            let found = self.climb(w, &mut passed, path);
+            if found.is_some() {
+                return found;
             }
-            return self.climb(self.tables.owner(self.o), &mut passed, path);
-        }
-        let stride = 2 * (self.n + self.record[6] as usize);
-        let low_bytes = self.record[8 + 2 * self.o..].iter().step_by(stride);
-        for (w, low) in low_bytes.enumerate() {
-            if low & 1 != 0 {
-                let found = self.climb(w, &mut passed, path);
-                if found.is_some() {
-                    return found;
-                }
-            }
+            owners &= owners - 1;
         }
         None
     }
 
     /// 0 for safe, or N + 1 with the list written.
     fn answer(&self, list: Witness) -> u64 {
-        if cell(self.record, self.s, self.o) & held_mask(self.right as u64) != 0 {
+        if cell_of::<W>(self.record, self.s, self.o) & held_mask(self.right as u64) != 0 {
             return 1 + list.finish();
         }
         if !self.possible() {
@@ -134,14 +166,20 @@ impl Question<'_> {
         if let Some(holder) = self.star_holder() {
             return 1 + list.by_star(self, holder);
         }
-        if !self.tables.exists(self.o) {
+        let owners = match self.o {
+            0 => return 0,
+            o if o >= self.n => self.rows(o, OWN),
+            o if self.owners.exists(o) => 1 << self.owners.owner[o],
+            _ => 0,
+        };
+        if owners == 0 {
             return match self.lowest_untrusted() {
                 Some(v) => 1 + list.by_creation(self, v),
                 None => 0,
             };
         }
         let mut path = [0; SUBJECTS];
-        match self.way_up(&mut path) {
+        match self.way_up(owners, &mut path) {
             Some((v, count)) => 1 + list.by_owner(self, v, &path[..count]),
             None => 0,
         }

@@ -1,109 +1,89 @@
-//! The validity of a record, by one pass over its rows in blocks of byte columns.
+//! The refusals 1 to 5 of a record.
 
-use super::lanes::{BLOCK, LANE, Lane};
-use super::parts::{part, part_mut};
-use super::rooted::rooted;
-use super::subjects::subject_columns;
-use super::tables::{PLAIN, SUBJECTS, Tables};
+use super::absent::existing;
+use super::plains::plains_fit;
+use super::small::small_fits;
+use super::subjects::{AT_ONCE, subjects_fit};
+use super::tables::{Keep, PLAIN, SUBJECTS};
 
 /// The place of the first cell.
-const FIRST: usize = 7;
+pub const FIRST: usize = 7;
 
-/// The lanes that are united at once: as many as eight vector registers have.
-const UNION: usize = 128 / LANE;
+/// The rows of a record with the right length.
+#[derive(Clone, Copy)]
+pub struct Rows<'a> {
+    pub cells: &'a [u8],
+    pub n: usize,
+    /// The bytes of a row.
+    pub width: usize,
+}
 
-/// The refusal 1 to 5 of a record, or 0 with its tables filled. The tables are zero at first.
-#[inline]
-pub fn scan(record: &[u8], tables: &mut Tables) -> u64 {
+/// The rows of a record with cells of W bytes, or its refusal, 1 to 4.
+#[inline(always)]
+fn rows<const W: usize>(record: &[u8]) -> Result<Rows<'_>, u64> {
     let Some((head, cells)) = record.split_at_checked(FIRST) else {
-        return 1;
+        return Err(1);
     };
-    if head[0] != 1 {
-        return 2;
+    if head[0] as usize != W / 2 {
+        return Err(2);
     }
     let (n, p) = (head[5] as usize, head[6] as usize);
     if !(1..=SUBJECTS).contains(&n) || p > PLAIN {
-        return 3;
+        return Err(3);
     }
-    let width = 2 * (n + p);
+    let width = W * (n + p);
     let length = u32::from_be_bytes([head[1], head[2], head[3], head[4]]);
     if length as usize != 2 + n * width || cells.len() != n * width {
-        return 4;
+        return Err(4);
     }
-    let fits = if width < BLOCK * LANE {
-        narrow(cells, n, width, tables)
+    Ok(Rows { cells, n, width })
+}
+
+/// The rows of a valid record with cells of W bytes, or its refusal, 1 to 5.
+#[inline(always)]
+pub fn scan<'a, const W: usize, K: Keep>(record: &'a [u8], keep: &mut K) -> Result<Rows<'a>, u64> {
+    let rows = rows::<W>(record)?;
+    let Rows { cells, n, width } = rows;
+    let fits = if width < AT_ONCE * W {
+        small_fits::<W, K>(cells, n, width, keep)
     } else {
-        valid(cells, n, width, tables)
+        fits::<W, K>(cells, n, width, keep)
     };
-    if fits { 0 } else { 5 }
+    if fits { Ok(rows) } else { Err(5) }
 }
 
-/// Whether the n rows of `width` bytes are a valid matrix.
-#[inline(always)]
-fn valid(cells: &[u8], n: usize, width: usize, tables: &mut Tables) -> bool {
-    let subjects = subject_columns(cells, n, width, tables);
-    plain_columns(cells, n, width, tables);
-    let root = cells[1] & 2 != 0 && tables.tally[1] == 2;
-    root && !subjects.wrong.any()
-        && plains_fit(n, width, tables)
-        && (!subjects.absent.any() || zero_rows(&cells[..n * width], width))
-        && (!subjects.higher.any() || rooted(tables, n))
-}
-
-/// Whether rows that are shorter than a block, under 16 bytes on every side, are a valid matrix. They are copied, so that a
-/// block may go on into the next rows and beyond the last; what it finds there isn't looked at.
+/// Whether rows of at least sixteen columns are a valid matrix.
 #[inline(never)]
-fn narrow(cells: &[u8], n: usize, width: usize, tables: &mut Tables) -> bool {
-    let mut copy = [0; 128];
-    copy[..cells.len()].copy_from_slice(cells);
-    valid(&copy, n, width, tables)
+fn fits<const W: usize, K: Keep>(cells: &[u8], n: usize, width: usize, keep: &mut K) -> bool {
+    let rows = Rows { cells, n, width };
+    exist::<W, K>(rows, all_exist::<W>(rows), keep)
+        && subjects_fit::<W, K>(rows, keep)
+        && plains_fit::<W, K>(rows, keep)
 }
 
-/// The bits set in some row of N lanes from byte column j on, written into the table.
+/// Whether every subject exists: its own cell has control. Two rows at a time, so that one needn't wait for another.
 #[inline(always)]
-fn union<const N: usize>(cells: &[u8], n: usize, width: usize, j: usize, tables: &mut Tables) {
-    let mut seen = [Lane::every(0); N];
-    for row in 0..n {
-        let bytes = part::<N>(cells, row * width + j);
-        for (seen, bytes) in seen.iter_mut().zip(bytes) {
-            *seen |= Lane::of(bytes);
-        }
+fn all_exist<const W: usize>(Rows { cells, width, .. }: Rows) -> bool {
+    let step = width + W;
+    let mut all = [255; 2];
+    let mut at = W - 1;
+    while let (Some(one), Some(two)) = (cells.get(at), cells.get(at + step)) {
+        all[0] &= one;
+        all[1] &= two;
+        at += 2 * step;
     }
-    for (to, seen) in part_mut::<N>(&mut tables.seen, j).iter_mut().zip(seen) {
-        seen.store(to);
-    }
+    all[0] &= cells.get(at).unwrap_or(&255);
+    all[0] & all[1] & 2 != 0
 }
 
-/// The bits seen in the plain columns, which begin at byte column 2 n. A last part that would go beyond the row begins
-/// earlier and repeats some.
+/// Whether U exists, and of absent subjects the column and the row are zero. Where all exist there is nothing else to look at.
 #[inline(always)]
-fn plain_columns(cells: &[u8], n: usize, width: usize, tables: &mut Tables) {
-    if width < UNION * LANE {
-        let last = width.saturating_sub(BLOCK * LANE);
-        for j in (2 * n..width).step_by(BLOCK * LANE) {
-            union::<BLOCK>(cells, n, width, j.min(last), tables);
-        }
-        return;
-    }
-    for j in (2 * n..width).step_by(UNION * LANE) {
-        union::<UNION>(cells, n, width, j.min(width - UNION * LANE), tables);
-    }
-}
-
-/// Whether the rows of absent subjects are all zero.
-fn zero_rows(cells: &[u8], width: usize) -> bool {
-    let rows = cells.chunks_exact(width).enumerate();
-    let mut absent = rows.filter(|(s, row)| row[2 * s + 1] & 2 == 0);
-    absent.all(|(_, row)| row.iter().fold(0, |any, byte| any | byte) == 0)
-}
-
-/// Every plain column: an owner and no control, or all zero.
-#[inline(always)]
-fn plains_fit(n: usize, width: usize, tables: &Tables) -> bool {
-    let mut wrong = false;
-    for pair in tables.seen[2 * n..width].chunks_exact(2) {
-        let seen = u16::from_be_bytes([pair[0], pair[1]]);
-        wrong |= seen != 0 && seen & 3 != 1;
-    }
-    !wrong
+pub fn exist<const W: usize, K: Keep>(rows: Rows, all: bool, keep: &mut K) -> bool {
+    let subjects = if all {
+        !0 >> (64 - rows.n)
+    } else {
+        existing::<W>(rows)
+    };
+    keep.exist(subjects);
+    subjects & 1 == 1
 }

@@ -1,212 +1,175 @@
-//! One command after another on a valid record: the tests 6 to 14 in number order. The tables are kept up to date, so that a
-//! command looks at few cells and never scans a column to find an owner or whether a name exists.
+//! One command after another on a valid record. The subjects that exist, their owners and their other controllers are kept in tables, so that a
+//! command looks at few cells and never searches a column. A command is accepted by the tests that are not implied by others; where one
+//! fails, all are made in their order.
 
-use super::tables::{PLAIN, SUBJECTS, Tables};
+use super::cell::{self, CONTROL, OWN, basic};
+use super::scan::FIRST;
+use super::tables::{COLUMNS, ENTRIES, NOBODY, SUBJECTS, Tables};
 
 /// A valid record with its tables.
-pub struct Station<'a> {
-    pub(super) record: &'a mut [u8],
+pub struct Station<'a, const W: usize> {
+    pub(super) cells: &'a mut [[u8; W]],
     pub(super) tables: &'a mut Tables,
+    /// The subjects that exist, each as a bit.
+    pub(super) subjects: u64,
     pub(super) n: usize,
     /// n + p.
     pub(super) columns: usize,
 }
 
-/// The bits of a cell.
-pub const OWN: u16 = 1;
-pub const CONTROL: u16 = 2;
+impl<'a, const W: usize> Station<'a, W> {
+    /// The number of basic rights.
+    pub const BASICS: usize = 4 * W - 1;
 
-/// The bit of basic right k, plain or starred.
-#[inline(always)]
-fn basic(k: usize, starred: bool) -> u16 {
-    4 << (2 * k + usize::from(starred))
-}
-
-impl<'a> Station<'a> {
     /// A valid record, with the tables that its scan filled. That it keeps the limits is asserted: then the compiler knows that a
     /// column of the record is in the tables, and no command tests it again.
     #[inline(always)]
-    pub fn new(record: &'a mut [u8], tables: &'a mut Tables) -> Station<'a> {
+    pub fn new(record: &'a mut [u8], tables: &'a mut Tables) -> Self {
         let n = record[5] as usize;
         let columns = n + record[6] as usize;
-        assert!(n <= SUBJECTS && columns <= SUBJECTS + PLAIN);
+        assert!(n <= SUBJECTS && columns <= COLUMNS);
         Station {
-            record,
+            cells: record[FIRST..].as_chunks_mut().0,
+            subjects: tables.owners.subjects,
             tables,
             n,
             columns,
         }
     }
 
-    /// The place of a cell's first byte.
+    /// Whether subject s exists. A number of 64 or more is none.
     #[inline(always)]
-    pub(super) fn at(&self, row: usize, column: usize) -> usize {
-        7 + 2 * (row * self.columns + column)
+    pub(super) fn subject(&self, s: usize) -> bool {
+        s < ENTRIES && self.subjects >> s & 1 == 1
     }
 
-    /// Whether a row has any of these bits over a column.
+    /// Whether a row has a bit over a column. One that the record doesn't have has none.
     #[inline(always)]
-    fn has(&self, row: usize, column: usize, bits: u16) -> bool {
-        let at = self.at(row, column);
-        let cell = &self.record[at..at + 2];
-        u16::from_be_bytes([cell[0], cell[1]]) & bits != 0
+    pub(super) fn has(&self, row: usize, column: usize, bit: usize) -> bool {
+        match self.cells.get(row * self.columns + column) {
+            Some(cell) => cell::has(*cell, bit),
+            None => false,
+        }
     }
 
-    /// One command: the refusal, 0 if accepted, and the links of the owner walk.
+    /// The cell of a row over a column.
     #[inline(always)]
-    pub fn step(&mut self, [code, i, s, o, k]: [usize; 5]) -> (u64, u64) {
-        let refusal = match code {
-            1 | 2 | 4 | 5 | 8 | 9 => self.basic_command(code, i, s, o, k),
-            3 if k == 0 => return self.transfer_own(i, s, o),
+    pub(super) fn cell(&mut self, row: usize, column: usize) -> &mut [u8; W] {
+        &mut self.cells[row * self.columns + column]
+    }
+
+    /// One command: the links of the owner walk if it is accepted. Else the record is as it was.
+    #[inline(always)]
+    pub fn accepted(&mut self, fields: &[u8; 5]) -> Option<u64> {
+        let [code, i, s, o, k] = fields.each_ref().map(|field| usize::from(*field));
+        let accepted = match code {
+            1 => self.put_basic(i, s, o, k, (0, basic(k, 1))),
+            2 => self.put_basic(i, s, o, k, (1, basic(k, 1))),
+            3 if k == 0 && o < self.n => return self.transfer_subject(i, s, o),
+            3 if k == 0 => self.give_own(i, s, o, false),
+            4 => self.put_basic(i, s, o, k, (0, OWN)),
+            5 => self.put_basic(i, s, o, k, (1, OWN)),
             6 if k == 0 => self.grant_control(i, s, o),
-            7 if k == 0 => self.grant_own(i, s, o),
-            10 | 11 if s == 0 && k == 0 => self.object(code == 10, i, o),
-            12 | 13 if o == 0 && k == 0 => self.subject(code == 12, i, s),
-            1..=13 => 7,
-            _ => 6,
+            7 if k == 0 => self.give_own(i, s, o, true),
+            8 | 9 => self.delete(i, s, o, k, code - 8),
+            10 if s == 0 && k == 0 => self.create_object(i, o),
+            11 if s == 0 && k == 0 => self.destroy_object(i, o),
+            12 if o == 0 && k == 0 => self.create_subject(i, s),
+            13 if o == 0 && k == 0 => self.destroy_subject(i, s),
+            _ => false,
         };
-        (refusal, 0)
+        accepted.then_some(0)
     }
 
-    /// Tests 7 to 10 of a command over s and o that both have to exist. `kind` is the columns that o may be of.
-    #[inline(always)]
-    fn parties(&self, i: usize, s: usize, o: usize, kind: std::ops::Range<usize>) -> u64 {
-        if i >= self.n || s >= self.n || o >= self.columns {
-            return 7;
-        }
-        if !self.tables.exists(i) {
-            return 8;
-        }
-        if !kind.contains(&o) {
-            return 9;
-        }
-        if !self.tables.exists(s) || !self.tables.exists(o) {
-            return 10;
-        }
-        0
-    }
-
-    /// The codes that set or clear the bit of a basic right: transfer 1, 2, grant 4, 5 and delete 8, 9.
-    #[inline(always)]
-    fn basic_command(&mut self, code: usize, i: usize, s: usize, o: usize, k: usize) -> u64 {
-        if k > 6 {
-            return 7;
-        }
-        let refusal = self.parties(i, s, o, 0..self.columns);
-        if refusal != 0 {
-            return refusal;
-        }
-        let allowed = match code {
-            1 | 2 => self.has(i, o, basic(k, true)),
-            4 | 5 => self.has(i, o, OWN),
-            _ => self.has(i, o, OWN) || self.has(i, s, CONTROL),
-        };
-        if !allowed {
-            return 12;
-        }
-        let bit = basic(k, matches!(code, 2 | 5 | 9));
-        if code < 8 {
-            self.set(s, o, bit);
+    /// Whether the name of a column exists.
+    #[cold]
+    pub(super) fn exists(&self, o: usize) -> bool {
+        if o < self.n {
+            self.subject(o)
         } else {
-            self.clear(s, o, bit);
+            self.tables.plain[o] != 0
         }
-        0
     }
 
-    /// Code 3, whose answers over a subject carry the links of the walk from s.
-    fn transfer_own(&mut self, i: usize, s: usize, o: usize) -> (u64, u64) {
-        let refusal = self.parties(i, s, o, 0..self.columns);
-        if refusal != 0 {
-            return (refusal, 0);
+    /// Codes 1, 2, 4 and 5: s gets a basic right over o in a form, where i has the bit that is needed for it. Then i and o exist.
+    #[inline(always)]
+    fn put_basic(
+        &mut self,
+        i: usize,
+        s: usize,
+        o: usize,
+        k: usize,
+        (form, needed): (usize, usize),
+    ) -> bool {
+        let allowed =
+            k < Self::BASICS && o < self.columns && self.subject(s) && self.has(i, o, needed);
+        if allowed {
+            cell::set(self.cell(s, o), basic(k, form));
         }
-        if !self.has(i, o, OWN) {
-            return (12, 0);
+        allowed
+    }
+
+    /// Codes 8 and 9.
+    #[inline(always)]
+    fn delete(&mut self, i: usize, s: usize, o: usize, k: usize, form: usize) -> bool {
+        let fits = k < Self::BASICS && o < self.columns && self.subject(s);
+        let allowed = fits && (self.has(i, o, OWN) || self.has(i, s, CONTROL) && self.exists(o));
+        if allowed {
+            cell::clear(self.cell(s, o), basic(k, form));
         }
-        if o >= self.n {
-            self.clear(i, o, OWN);
-            self.set(s, o, OWN);
-            return (0, 0);
+        allowed
+    }
+
+    /// Codes 3 and 7 over a plain object: s gets own of it, and i loses it first or keeps it.
+    #[inline(always)]
+    fn give_own(&mut self, i: usize, s: usize, o: usize, keeps: bool) -> bool {
+        let plain = self.n <= o && o < self.columns;
+        let allowed = plain && self.subject(s) && self.has(i, o, OWN);
+        if allowed && !keeps {
+            cell::clear(self.cell(i, o), OWN);
         }
+        if allowed {
+            cell::set(self.cell(s, o), OWN);
+        }
+        allowed
+    }
+
+    /// The owner walk from s for subject o: the subject at which it ends, o or U, and the links.
+    #[inline(always)]
+    pub(super) fn walk(&self, s: usize, o: usize) -> (usize, u64) {
         let (mut at, mut links) = (s, 0);
         while at != o && at != 0 {
-            at = self.tables.owner(at);
+            at = self.tables.owners.owner[at] as usize;
             links += 1;
         }
-        if at == o {
-            return (13, links);
+        (at, links)
+    }
+
+    /// Code 3 over a subject.
+    #[inline(always)]
+    fn transfer_subject(&mut self, i: usize, s: usize, o: usize) -> Option<u64> {
+        if !self.subject(s) || !self.has(i, o, OWN) {
+            return None;
         }
-        self.clear(i, o, OWN);
-        self.set(s, o, OWN);
-        self.tables.set_owner(o, s);
-        (0, links)
+        let (end, links) = self.walk(s, o);
+        if end == o {
+            return None;
+        }
+        cell::clear(self.cell(i, o), OWN);
+        cell::set(self.cell(s, o), OWN);
+        self.tables.owners.owner[o] = s as u8;
+        Some(links)
     }
 
     /// Code 6.
-    fn grant_control(&mut self, i: usize, s: usize, o: usize) -> u64 {
-        let refusal = self.parties(i, s, o, 0..self.n);
-        if refusal != 0 {
-            return refusal;
+    #[inline(always)]
+    fn grant_control(&mut self, i: usize, s: usize, o: usize) -> bool {
+        let allowed =
+            o < self.n && self.subject(s) && self.has(i, o, OWN) && self.tables.other[o] == NOBODY;
+        if allowed {
+            cell::set(self.cell(s, o), CONTROL);
+            self.tables.other[o] = if s == o { NOBODY } else { s as u8 };
         }
-        if !self.has(i, o, OWN) {
-            return 12;
-        }
-        if self.tables.controlled(o) {
-            return 14;
-        }
-        self.set(s, o, CONTROL);
-        self.tables.set_controlled(o, s != o);
-        0
-    }
-
-    /// Code 7.
-    fn grant_own(&mut self, i: usize, s: usize, o: usize) -> u64 {
-        let refusal = self.parties(i, s, o, self.n..self.columns);
-        if refusal != 0 {
-            return refusal;
-        }
-        if !self.has(i, o, OWN) {
-            return 12;
-        }
-        self.set(s, o, OWN);
-        0
-    }
-
-    /// Codes 10 and 11: a plain object is created or destroyed.
-    fn object(&mut self, create: bool, i: usize, o: usize) -> u64 {
-        if i >= self.n || o >= self.columns {
-            return 7;
-        }
-        if !self.tables.exists(i) {
-            return 8;
-        }
-        if o < self.n {
-            return 9;
-        }
-        match (create, self.tables.exists(o)) {
-            (true, true) => return 11,
-            (false, false) => return 10,
-            (true, false) => self.create_object(i, o),
-            (false, true) if !self.has(i, o, OWN) => return 12,
-            (false, true) => self.destroy_object(o),
-        }
-        0
-    }
-
-    /// Codes 12 and 13: a subject is created or destroyed.
-    fn subject(&mut self, create: bool, i: usize, s: usize) -> u64 {
-        if i >= self.n || s >= self.n {
-            return 7;
-        }
-        if !self.tables.exists(i) {
-            return 8;
-        }
-        match (create, self.tables.exists(s)) {
-            (true, true) => return 11,
-            (false, false) => return 10,
-            (true, false) => self.create_subject(i, s),
-            (false, true) if !self.has(i, s, OWN) => return 12,
-            (false, true) => self.destroy_subject(i, s),
-        }
-        0
+        allowed
     }
 }

@@ -1,224 +1,307 @@
-//! The subject columns of a record, in blocks of byte columns: what is found in each, and its tests.
+//! The subject columns of a record, sixteen at once: what is counted in each, and its tests.
 
-use super::eight::Eight;
-use super::lanes::{BLOCK, EIGHTHS, LANE, Lane, MIDDLE, WIDE, eight_rows};
-use super::parts::{Part, part, part_mut};
-use super::tables::{SUBJECT_BYTES, SUBJECTS, Tables};
+use super::lanes::{BLOCK, LANE, Lane};
+use super::parts::{Part, part};
+use super::rooted::rooted;
+use super::scan::Rows;
+use super::tables::{ENTRIES, Keep, NOBODY, SUBJECTS};
 
-/// In the low byte of each column its number, but for U; everywhere else 255, which no row's number reaches.
-const NUMBERS: [u8; SUBJECT_BYTES] = {
-    let mut numbers = [255; SUBJECT_BYTES];
-    let mut s = 1;
-    while s < SUBJECTS {
-        numbers[2 * s + 1] = s as u8;
-        s += 1;
+/// The columns that are counted at once.
+pub const AT_ONCE: usize = 16;
+
+/// Sixteen columns are as many groups as a cell has bytes. The columns of group q are counted at places q, q + w and so on, and the last bytes
+/// of their cells stand there if sixteen bytes are taken from this one on.
+const fn offset(w: usize, q: usize) -> usize {
+    AT_ONCE * q + w - 1 - q
+}
+
+/// Own and control at the places of a group.
+const fn mask(w: usize, q: usize) -> [u8; AT_ONCE] {
+    let mut mask = [0; AT_ONCE];
+    let mut at = q;
+    while at < AT_ONCE {
+        mask[at] = 3;
+        at += w;
+    }
+    mask
+}
+
+/// The place at which a column of sixteen is counted.
+const fn place(w: usize, column: usize) -> usize {
+    let group = AT_ONCE / w;
+    w * (column % group) + column / group
+}
+
+/// The number of the column that is counted at each place.
+const fn numbers(w: usize) -> [u8; AT_ONCE] {
+    let mut numbers = [0; AT_ONCE];
+    let mut column = 0;
+    while column < AT_ONCE {
+        numbers[place(w, column)] = column as u8;
+        column += 1;
     }
     numbers
-};
+}
 
-/// The low byte of each column but U's.
-const LOW_BYTES: [u8; SUBJECT_BYTES] = {
-    let mut low = [0; SUBJECT_BYTES];
-    let mut s = 1;
-    while s < SUBJECTS {
-        low[2 * s + 1] = 255;
-        s += 1;
-    }
-    low
-};
+/// Sixteen bytes as lanes.
+type Block = [Lane; BLOCK];
 
-/// Bytes of ones, as many as the subject columns have, and as many zeros. The part that begins 2 n before the ones end says
-/// which byte columns are of subjects.
-const ONES: [u8; 2 * SUBJECT_BYTES] = {
-    let mut ones = [0; 2 * SUBJECT_BYTES];
-    let mut j = 0;
-    while j < SUBJECT_BYTES {
-        ones[j] = 255;
-        j += 1;
-    }
-    ones
-};
-
-/// A last block that goes beyond the subject columns is still within the tables.
-const _: () = assert!(SUBJECT_BYTES.is_multiple_of(BLOCK * LANE));
-
-/// Eight rows at a time hold every row, and as many times as that are looked at in the end.
-const _: () = assert!(SUBJECTS <= 8 * EIGHTHS && EIGHTHS <= 8);
-
-/// What the tests of the subjects found: set bits. U is tested apart; a record without it is refused whatever is found here.
+/// What is counted of sixteen columns, a byte for each.
 #[derive(Clone, Copy)]
-pub struct Tests {
-    /// An existing one with another number of owners or controllers, or an absent one with bits in its column.
-    pub wrong: Lane,
-    /// An absent one.
-    pub absent: Lane,
-    /// One whose owner has a higher number. Where there is none, no cycle of owners is possible.
-    pub higher: Lane,
-}
-
-/// What is found of the N lanes of one block.
-struct Found<const N: usize> {
-    /// The bits set in some of each eight rows.
-    seen: [[Lane; N]; EIGHTHS],
+struct Counts {
     /// The number of owners plus twice the number of controllers: at most three times the number of rows, which fits a byte.
-    tally: [Lane; N],
-    /// The bits set in an odd number of rows.
-    odd: [Lane; N],
-    /// The bits set in some row whose number has the lowest bit, the second, the third. Where there is one owner, its bit in
-    /// each says that bit of its number.
-    low: [[Lane; N]; 3],
+    tally: Block,
+    /// Own and control where an odd number of rows has it.
+    odd: Block,
+    /// From how many rows on an odd number has owned it. Where there is one owner, that is how many rows are that row or after it.
+    since: Block,
+    /// The tallies after each row added up, where other controllers are kept.
+    sum: Block,
 }
 
-impl<const N: usize> Found<N> {
-    /// The n rows of a block from byte column j on.
-    #[inline(always)]
-    fn new(cells: &[u8], n: usize, width: usize, j: usize) -> Found<N> {
-        let zero = Lane::every(0);
-        let mut found = Found {
-            seen: [[zero; N]; EIGHTHS],
-            tally: [zero; N],
-            odd: [zero; N],
-            low: [[zero; N]; 3],
-        };
-        for eighth in 0..n / 8 {
-            found.eight(eight_rows(cells, 8 * eighth * width + j, width), eighth);
-        }
-        if !n.is_multiple_of(8) {
-            let mut rows = [&[[0; LANE]; N]; 8];
-            for (to, row) in rows.iter_mut().zip(n / 8 * 8..n) {
-                *to = part(cells, row * width + j);
-            }
-            found.eight(rows, n / 8);
-        }
-        found
-    }
-
-    /// Eight rows join, the first of which has 8 times the number given.
-    #[inline(always)]
-    fn eight(&mut self, rows: [&Part<N>; 8], eighth: usize) {
-        let seen = &mut self.seen[eighth];
-        let [first, second, third] = &mut self.low;
-        for at in 0..N {
-            let mut v = Eight([Lane::every(0); 8]);
-            for (lane, row) in v.0.iter_mut().zip(rows) {
-                *lane = Lane::of(&row[at]);
-            }
-            self.tally[at] = self.tally[at] + v.tally();
-            self.odd[at] = self.odd[at] ^ v.odd();
-            seen[at] = v.seen();
-            first[at] |= v.first();
-            second[at] |= v.second();
-            third[at] |= v.third();
-        }
-    }
-
-    /// The owner's row where there is one owner, with what is seen in each eight rows.
-    #[inline(always)]
-    fn owner(&self, eighths: &Eight, at: usize) -> Lane {
-        let one = Lane::every(1);
-        let low = (self.low[0][at] & one)
-            | (self.low[1][at] & one).raise::<1>()
-            | (self.low[2][at] & one).raise::<2>();
-        low | (eighths.first() & one).raise::<3>()
-            | (eighths.second() & one).raise::<4>()
-            | (eighths.third() & one).raise::<5>()
-    }
-
-    /// Whether an existing subject doesn't fit: set bits. It fits if it has one owner and one or two controllers. The tally,
-    /// plus 2 where the number of controllers is odd, is 5 then, and else only where there is no controller.
-    #[inline(always)]
-    fn unfit(&self, at: usize) -> Lane {
-        (self.tally[at] + (self.odd[at] & Lane::every(2))) ^ Lane::every(5)
-    }
-
-    /// The tests of the block's subjects, and what was found written into the tables, from byte column j on. It is kept
-    /// aside until the end of the loop, as the compiler doesn't know that the tables lie apart from what is read.
-    #[inline(always)]
-    fn finish(&self, columns: &mut Columns, j: usize) {
-        let own = part::<N>(&columns.own, j);
-        let within = part::<N>(&ONES, SUBJECT_BYTES - 2 * columns.n + j);
-        let (numbers, low_bytes) = (part::<N>(&NUMBERS, j), part::<N>(&LOW_BYTES, j));
-        let mut kept = [[[0; LANE]; N]; 3];
-        let [all, tallies, owners] = &mut kept;
-        let mut tests = columns.tests;
-        for at in 0..N {
-            let mut eighths = Eight([Lane::every(0); 8]);
-            for (lane, seen) in eighths.0.iter_mut().zip(&self.seen) {
-                *lane = seen[at];
-            }
-            let (seen, owner) = (eighths.seen(), self.owner(&eighths, at));
-            seen.store(&mut all[at]);
-            self.tally[at].store(&mut tallies[at]);
-            owner.store(&mut owners[at]);
-            let control = Lane::of(&own[at]) & Lane::every(2);
-            let exists = control.at_least(Lane::every(2));
-            let within = Lane::of(&within[at]);
-            let unfit = self.unfit(at) & Lane::of(&low_bytes[at]);
-            tests.wrong |= within & (exists & unfit | seen.outside(exists));
-            tests.absent |= within.outside(exists);
-            tests.higher |= owner.at_least(Lane::of(&numbers[at]));
-        }
-        columns.tests = tests;
-        *part_mut(&mut columns.tables.seen, j) = kept[0];
-        *part_mut(&mut columns.tables.tally, j) = kept[1];
-        *part_mut(&mut columns.tables.owner, j) = kept[2];
-    }
-}
-
-/// The subject columns of n rows of `width` bytes.
-struct Columns<'a> {
-    cells: &'a [u8],
-    n: usize,
-    width: usize,
-    /// Over both bytes of a subject's column, the low byte of its own cell, which has its control of itself if it exists.
-    own: [u8; SUBJECT_BYTES],
-    tests: Tests,
-    tables: &'a mut Tables,
-}
-
-impl Columns<'_> {
-    /// The block of N lanes from byte column j on.
-    #[inline(always)]
-    fn block<const N: usize>(&mut self, j: usize) {
-        let found = Found::<N>::new(self.cells, self.n, self.width, j);
-        found.finish(self, j);
-    }
-
-    /// Whole blocks of N lanes from byte column j on, as many as there are. It gives the column after them.
-    #[inline(always)]
-    fn blocks<const N: usize>(&mut self, mut j: usize) -> usize {
-        while j + N * LANE <= 2 * self.n {
-            self.block::<N>(j);
-            j += N * LANE;
-        }
-        j
-    }
-}
-
-/// The tables and tests of the subject columns. A last block that would go beyond the row begins earlier and repeats some.
+/// A block of zeros.
 #[inline(always)]
-pub fn subject_columns(cells: &[u8], n: usize, width: usize, tables: &mut Tables) -> Tests {
-    let zero = Lane::every(0);
-    let mut columns = Columns {
-        cells,
-        n,
-        width,
-        own: [0; SUBJECT_BYTES],
-        tests: Tests {
-            wrong: zero,
-            absent: zero,
-            higher: zero,
-        },
-        tables,
+fn zeros() -> Block {
+    [Lane::every(0); BLOCK]
+}
+
+/// B times sixteen cells of each row, from byte `start` of a row on.
+#[inline(always)]
+fn count<const W: usize, const B: usize, K: Keep>(rows: Rows, start: usize) -> [Counts; B] {
+    let Rows { cells, width, .. } = rows;
+    let mut all = [Counts {
+        tally: zeros(),
+        odd: zeros(),
+        since: zeros(),
+        sum: zeros(),
+    }; B];
+    let bytes = AT_ONCE * W;
+    assert!(width >= B * bytes && start <= width - B * bytes);
+    let mut rest = cells;
+    while let Some((row, after)) = rest.split_at_checked(width) {
+        rest = after;
+        let cells = &row[start..][..B * bytes];
+        for b in 0..B {
+            let counts = &mut all[b];
+            for at in 0..BLOCK {
+                let bits = low_bits::<W>(&cells[b * bytes..][..bytes], at);
+                counts.tally[at] = counts.tally[at] + bits;
+                counts.odd[at] = counts.odd[at] ^ bits;
+                counts.since[at] = counts.since[at] + (counts.odd[at] & Lane::every(1));
+                if K::OTHERS {
+                    counts.sum[at] = counts.sum[at] + counts.tally[at];
+                }
+            }
+        }
+    }
+    all
+}
+
+/// Own and control of sixteen cells of W bytes, each at its place; of these a lane.
+#[inline(always)]
+fn low_bits<const W: usize>(cells: &[u8], at: usize) -> Lane {
+    let taken = |q: usize| {
+        let bytes: &Part<BLOCK> = part(cells, offset(W, q));
+        let masks = const { &[mask(W, 0), mask(W, 1), mask(W, 2), mask(W, 3)] };
+        let mask: &Part<BLOCK> = part(&masks[q], 0);
+        Lane::of(&bytes[at]) & Lane::of(&mask[at])
     };
-    for (s, to) in columns.own.as_chunks_mut().0.iter_mut().enumerate().take(n) {
-        *to = [cells[s * (width + 2) + 1]; 2];
+    let first = taken(0) | taken(1);
+    if W == 2 {
+        first
+    } else {
+        first | (taken(2) | taken(3))
     }
-    let mut j = columns.blocks::<WIDE>(0);
-    j = columns.blocks::<MIDDLE>(j);
-    j = columns.blocks::<BLOCK>(j);
-    if j < 2 * n {
-        columns.block::<BLOCK>(j.min(width.saturating_sub(BLOCK * LANE)));
+}
+
+/// The numbers of the columns of a block that begins with column `first`; of these a lane.
+#[inline(always)]
+fn columns<const W: usize>(first: usize, at: usize) -> Lane {
+    let numbers: &Part<BLOCK> = part(const { &numbers(W) }, 0);
+    Lane::of(&numbers[at]) + Lane::every(first as u8)
+}
+
+impl Counts {
+    /// The owner of each column that has one, and U of one that has none.
+    #[inline(always)]
+    fn owners(&self, n: usize) -> Block {
+        let mut owners = zeros();
+        for (owner, &since) in owners.iter_mut().zip(&self.since) {
+            *owner = (Lane::every(n as u8) - since) & since.at_least(Lane::every(1));
+        }
+        owners
     }
-    columns.tests
+}
+
+/// A block as bytes.
+#[inline(always)]
+fn stored(block: &Block) -> [u8; AT_ONCE] {
+    let mut bytes = [[0; LANE]; BLOCK];
+    for (to, lane) in bytes.iter_mut().zip(block) {
+        lane.store(to);
+    }
+    *bytes
+        .as_flattened()
+        .first_chunk()
+        .expect("a block has sixteen bytes")
+}
+
+/// The bytes at even places, and after them the others.
+#[inline(always)]
+fn even_first(bytes: [u8; AT_ONCE]) -> [u8; AT_ONCE] {
+    let mut halves = [0; AT_ONCE];
+    for (at, pair) in bytes.as_chunks::<2>().0.iter().enumerate() {
+        let both = u16::from_le_bytes(*pair);
+        halves[at] = both as u8;
+        halves[AT_ONCE / 2 + at] = (both >> 8) as u8;
+    }
+    halves
+}
+
+/// The bytes of a block in the columns' order: those of the first group, and so on.
+#[inline(always)]
+fn in_order<const W: usize>(bytes: [u8; AT_ONCE]) -> [u8; AT_ONCE] {
+    let halves = even_first(bytes);
+    if W == 2 { halves } else { even_first(halves) }
+}
+
+/// What is found of the subjects, over all blocks.
+struct Found {
+    /// Bits are set where one but U that has an owner or a controller has another number of owners than one, or more controllers than two.
+    wrong: Block,
+    /// Bits are set where one but U has an owner with a higher number. If there is none, no cycle of owners is possible.
+    higher: Block,
+    /// Bits are set where one but U has two controllers.
+    shared: Block,
+    /// The tally of U, which has no owner and no other controller if it is 2.
+    root: u8,
+    /// The owners in each block.
+    owners: [[u8; AT_ONCE]; BLOCKS],
+    /// The tallies and the sums in each block, where other controllers are kept.
+    tallies: [[u8; AT_ONCE]; BLOCKS],
+    sums: [[u8; AT_ONCE]; BLOCKS],
+}
+
+/// The blocks of the most subjects, and the first column of one of them. A last block that would go beyond the subjects begins earlier and repeats
+/// some, or is the only one and goes on into the plain columns.
+const BLOCKS: usize = SUBJECTS.div_ceil(AT_ONCE);
+
+#[inline(always)]
+fn first_column(block: usize, n: usize) -> usize {
+    (AT_ONCE * block).min(n.saturating_sub(AT_ONCE))
+}
+
+impl Found {
+    #[inline(always)]
+    fn new() -> Found {
+        Found {
+            wrong: zeros(),
+            higher: zeros(),
+            shared: zeros(),
+            root: 0,
+            owners: [[0; AT_ONCE]; BLOCKS],
+            tallies: [[0; AT_ONCE]; BLOCKS],
+            sums: [[0; AT_ONCE]; BLOCKS],
+        }
+    }
+
+    /// A block joins. A subject that exists fits if it has one owner and one or two controllers: the tally, plus 2 where an odd number controls
+    /// it, is 5. Otherwise that is so only where nobody controls it.
+    #[inline(always)]
+    fn join<const W: usize, K: Keep>(
+        &mut self,
+        counts: &Counts,
+        block: usize,
+        n: usize,
+        keep: &mut K,
+    ) {
+        let first = first_column(block, n);
+        let owners = counts.owners(n);
+        for (at, &owner) in owners.iter().enumerate() {
+            let column = columns::<W>(first, at);
+            let tested = Lane::every(n as u8 - 1).at_least(column)
+                & column.at_least(Lane::every(1))
+                & counts.tally[at].at_least(Lane::every(1));
+            let sum = counts.tally[at] + (counts.odd[at] & Lane::every(2));
+            self.wrong[at] |= (sum ^ Lane::every(5)) & tested;
+            self.higher[at] |= owner.at_least(column) & tested;
+            if K::OTHERS {
+                self.shared[at] |= counts.tally[at].at_least(Lane::every(5)) & tested;
+            }
+        }
+        self.owners[block] = stored(&owners);
+        if K::OWNERS {
+            keep.owners(first, &in_order::<W>(self.owners[block]));
+        }
+        if K::OTHERS {
+            self.tallies[block] = stored(&counts.tally);
+            self.sums[block] = stored(&counts.sum);
+        }
+        if block == 0 {
+            self.root = stored(&counts.tally)[0];
+        }
+    }
+
+    /// Whether following owners comes to U from each of n subjects.
+    #[cold]
+    #[inline(never)]
+    fn rooted<const W: usize>(&self, n: usize) -> bool {
+        let mut owner = [0; ENTRIES];
+        for block in 0..n.div_ceil(AT_ONCE) {
+            let ordered = in_order::<W>(self.owners[block]);
+            owner[first_column(block, n)..][..AT_ONCE].copy_from_slice(&ordered);
+        }
+        rooted(&owner, n)
+    }
+
+    /// Keeps the other controllers of n subjects that fit. Of the sum of tallies each row that owns a subject has made as many as there are rows
+    /// from it on, and each that controls it twice as many.
+    #[cold]
+    #[inline(never)]
+    fn keep_others<const W: usize, K: Keep>(&self, n: usize, keep: &mut K) {
+        for block in 0..n.div_ceil(AT_ONCE) {
+            let first = first_column(block, n);
+            let others: [u8; AT_ONCE] = std::array::from_fn(|column| {
+                let at = place(W, column);
+                let from_owner = n as u8 - self.owners[block][at];
+                let from_both = self.sums[block][at].wrapping_sub(from_owner) / 2;
+                let other = (2 * n).wrapping_sub(first + column) as u8;
+                match self.tallies[block][at] {
+                    5 => other.wrapping_sub(from_both),
+                    _ => NOBODY,
+                }
+            });
+            keep.others(first, &others);
+        }
+    }
+}
+
+/// Whether no bit is set.
+#[inline(never)]
+fn none(block: &Block) -> bool {
+    u128::from_ne_bytes(stored(block)) == 0
+}
+
+/// Whether the subjects that exist fit, and following owners comes to U from each, in a record of at least sixteen columns in which all with an
+/// owner or a controller exist.
+#[inline(always)]
+pub fn subjects_fit<const W: usize, K: Keep>(rows: Rows, keep: &mut K) -> bool {
+    let n = rows.n;
+    let mut found = Found::new();
+    let mut block = 0;
+    while AT_ONCE * (block + 2) <= n {
+        let [one, two] = count::<W, 2, K>(rows, W * AT_ONCE * block);
+        found.join::<W, K>(&one, block, n, keep);
+        found.join::<W, K>(&two, block + 1, n, keep);
+        block += 2;
+    }
+    while AT_ONCE * block < n {
+        let [counts] = count::<W, 1, K>(rows, W * first_column(block, n));
+        found.join::<W, K>(&counts, block, n, keep);
+        block += 1;
+    }
+    if K::OTHERS && !none(&found.shared) {
+        found.keep_others::<W, K>(n, keep);
+    }
+    found.root == 2 && none(&found.wrong) && (none(&found.higher) || found.rooted::<W>(n))
 }

@@ -31,8 +31,8 @@ impl<'a> Witness<'a> {
     }
 
     /// i, which has the star, creates s where it is absent and passes it the right.
-    pub fn by_star(mut self, q: &Question, i: usize) -> u64 {
-        if !q.tables.exists(q.s) {
+    pub fn by_star<const W: usize>(mut self, q: &Question<W>, i: usize) -> u64 {
+        if !q.exists(q.s) {
             self.put(12, i, q.s, 0, 0);
         }
         let starred = (q.right % 2) as u8;
@@ -41,7 +41,7 @@ impl<'a> Witness<'a> {
     }
 
     /// v creates the absent o, and gives the right over it.
-    pub fn by_creation(mut self, q: &Question, v: usize) -> u64 {
+    pub fn by_creation<const W: usize>(mut self, q: &Question<W>, v: usize) -> u64 {
         let subject = q.o < q.n;
         if subject {
             self.put(12, v, q.o, 0, 0);
@@ -52,14 +52,14 @@ impl<'a> Witness<'a> {
         if held {
             return self.finish();
         }
-        if !q.tables.exists(q.s) && q.s != q.o {
+        if !q.exists(q.s) && q.s != q.o {
             self.put(12, v, q.s, 0, 0);
         }
         self.give(q, v)
     }
 
     /// v destroys the subjects between it and o, the highest first, so that it owns o, and gives the right over it.
-    pub fn by_owner(mut self, q: &Question, v: usize, path: &[u8]) -> u64 {
+    pub fn by_owner<const W: usize>(mut self, q: &Question<W>, v: usize, path: &[u8]) -> u64 {
         for &w in path.iter().rev() {
             self.put(13, v, w as usize, 0, 0);
         }
@@ -68,30 +68,30 @@ impl<'a> Witness<'a> {
         }
         let refused = match q.right {
             0 => q.o < q.n && self.below(q),
-            1 => q.tables.controlled(q.o),
+            1 => q.controlled(q.o),
             _ => false,
         };
         if refused {
             self.put(13, v, q.o, 0, 0);
             self.put(12, v, q.o, 0, 0);
         }
-        if !q.tables.exists(q.s) || path.contains(&(q.s as u8)) {
+        if !q.exists(q.s) || path.contains(&(q.s as u8)) {
             self.put(12, v, q.s, 0, 0);
         }
         self.give(q, v)
     }
 
     /// Whether the owner walk from an existing s meets subject o, so that own of o can't go to s as things stand.
-    fn below(&self, q: &Question) -> bool {
+    fn below<const W: usize>(&self, q: &Question<W>) -> bool {
         let mut at = q.s;
-        while at != q.o && at != 0 && q.tables.exists(at) {
-            at = q.tables.owner(at);
+        while at != q.o && at != 0 && q.exists(at) {
+            at = q.owners.owner[at] as usize;
         }
         at == q.o
     }
 
     /// v, which owns o, gives s the right over it.
-    fn give(mut self, q: &Question, v: usize) -> u64 {
+    fn give<const W: usize>(mut self, q: &Question<W>, v: usize) -> u64 {
         match q.right {
             0 if q.o < q.n => self.put(3, v, q.s, q.o, 0),
             0 => self.put(7, v, q.s, q.o, 0),

@@ -1,4 +1,4 @@
-//! The eight calls in plain Rust: safe, with no intrinsics, in loops that LLVM turns into vector instructions.
+//! The ten calls in plain Rust: safe, with no intrinsics, in loops that LLVM turns into vector instructions.
 
 #![forbid(unsafe_code)]
 
@@ -6,4 +6,7 @@
 mod fast;
 mod lanes;
 
-pub use fast::{command, held, run, safety, valid, window_count, window_empty, window_put};
+pub use fast::{
+    command, held, run, safety, to_version_1, to_version_2, valid, window_count, window_empty,
+    window_put,
+};

@@ -38,7 +38,7 @@ fn asked(given: &Given, station: &Station) -> Answered<Question> {
     let trust = spoken::trusted(given.text(1)?, record, names)?;
     let login = spoken::login(given.text(2)?, names)?;
     let column = spoken::column(given.text(3)?, record, names)?;
-    let right = spoken::right(given.text(4)?, names)?;
+    let right = spoken::right(given.text(4)?, record, names)?;
     Ok(Question {
         trust,
         login,

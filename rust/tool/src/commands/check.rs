@@ -1,6 +1,6 @@
 //! `check FILE`: whether a record is valid, and if not, why.
 
-use crate::answer::Answer;
+use crate::answer::{Answer, first_lines};
 use crate::faults::{Fault, reasons};
 use crate::input::{called, names_of, record_bytes};
 use crate::json;
@@ -10,9 +10,6 @@ use crate::no_answer::Answered;
 use crate::record::{Record, sizes};
 use crate::words::Given;
 
-/// How many reasons are printed.
-const MOST_REASONS: usize = 20;
-
 pub fn check(given: &Given) -> Answered<Answer> {
     let path = &given.words[0];
     let bytes = record_bytes(path)?;
@@ -20,12 +17,12 @@ pub fn check(given: &Given) -> Answered<Answer> {
     let record = Record::shaped(&bytes).ok();
     let record = record.filter(|_| matches!(refusal, None | Some(Refusal::NotValid)));
     let names = match &record {
-        Some(record) => names_of(path, given.names.as_ref(), Some(record))?,
+        Some(record) => names_of(path, given.names.as_ref(), &[record])?,
         None => Names::default(),
     };
     let faults = reasons(&bytes, refusal, &names);
     let text = match (given.json, refusal, record) {
-        (true, _, _) => in_json(refusal, &faults, &names),
+        (true, _, _) => in_json(&bytes, refusal, &faults, &names),
         (false, Some(refusal), _) => text(&called(path), refusal, &faults),
         (false, None, record) => {
             let sizes = record.map_or(String::new(), |record| sizes(&record));
@@ -36,17 +33,17 @@ pub fn check(given: &Given) -> Answered<Answer> {
 }
 
 fn text(file: &str, refusal: Refusal, faults: &[Fault]) -> String {
-    let mut text = format!("{file} is not valid (refusal {}):\n", refusal.number());
-    for fault in faults.iter().take(MOST_REASONS) {
-        text.push_str(&format!("  {}\n", fault.sentence));
-    }
-    if faults.len() > MOST_REASONS {
-        text.push_str(&format!("  and {} more\n", faults.len() - MOST_REASONS));
-    }
-    text
+    let reasons = faults.iter().map(|fault| fault.sentence.clone());
+    format!(
+        "{file} is not valid (refusal {}):\n{}",
+        refusal.number(),
+        first_lines(&reasons.collect::<Vec<String>>())
+    )
 }
 
-fn in_json(refusal: Option<Refusal>, faults: &[Fault], names: &Names) -> String {
+/// The version is the first byte, whatever it is.
+fn in_json(bytes: &[u8], refusal: Option<Refusal>, faults: &[Fault], names: &Names) -> String {
+    let version = bytes.first().map_or(String::from("null"), u8::to_string);
     let reasons = faults.iter().map(|fault| {
         let at = fault.at.iter().map(|name| json::name(*name, names));
         json::object(&[
@@ -57,6 +54,7 @@ fn in_json(refusal: Option<Refusal>, faults: &[Fault], names: &Names) -> String 
     let answer = json::object(&[
         ("valid", refusal.is_none().to_string()),
         ("refusal", refusal.map_or(0, |r| r.number()).to_string()),
+        ("version", version),
         ("reasons", json::array(reasons)),
     ]);
     format!("{answer}\n")

@@ -1,7 +1,5 @@
 //! `diff OLD NEW`: every right gained and lost and every name made or gone, grouped by login.
 
-use std::ffi::OsString;
-
 use crate::answer::Answer;
 use crate::changes::{Changes, by_login, changes};
 use crate::input::{Station, beside, names_of, opened, record_bytes};
@@ -24,23 +22,27 @@ pub fn diff(given: &Given) -> Answered<Answer> {
     let same = changes.is_empty() && !resized;
     let text = if given.json {
         in_json(&old_record, &station, &changes, !same)
-    } else if same {
-        String::from("No difference.\n")
     } else {
-        resize_text(&old_record, &station.record) + &by_login(&changes, &station.names)
+        let differences = if same {
+            String::from("No difference.\n")
+        } else {
+            resize_text(&old_record, &station.record) + &by_login(&changes, &station.names)
+        };
+        version_text(&old_record, &station.record) + &differences
     };
     Ok(Answer::new(text, same))
 }
 
-/// The new record with the names given, or those beside it, or those beside the old one. Names are read for the record whose file
-/// has them.
+/// The new record with the names given, or those beside it, or those beside the old one. Names beside a record are read for it, those
+/// given for both.
 fn named(given: &Given, old: &Record, new: Record) -> Answered<Station> {
     let (old_path, new_path) = (&given.words[0], &given.words[1]);
-    let by_option: Option<&OsString> = given.names.as_ref();
-    let names = if by_option.is_some() || beside(new_path).is_some() {
-        names_of(new_path, by_option, Some(&new))?
+    let names = if given.names.is_some() {
+        names_of(new_path, given.names.as_ref(), &[old, &new])?
+    } else if beside(new_path).is_some() {
+        names_of(new_path, None, &[&new])?
     } else {
-        names_of(old_path, None, Some(old))?
+        names_of(old_path, None, &[old])?
     };
     Ok(Station {
         file: crate::input::called(new_path),
@@ -51,6 +53,16 @@ fn named(given: &Given, old: &Record, new: Record) -> Answered<Station> {
 
 fn sizes(record: &Record) -> (u64, u64) {
     (record.logins(), record.logs())
+}
+
+/// That the two have different versions, if they have. That is no difference of what anybody may do.
+fn version_text(old: &Record, new: &Record) -> String {
+    match (old.version(), new.version()) {
+        (old, new) if old == new => String::new(),
+        (old, new) => format!(
+            "The old record is of version {old}, the new one of version {new}; their rights are compared.\n"
+        ),
+    }
 }
 
 /// That the two have different sizes, if they have.
@@ -76,6 +88,7 @@ fn in_json(old: &Record, new: &Station, changes: &Changes, differs: bool) -> Str
     let names = &new.names;
     let size = |r: &Record| {
         json::object(&[
+            ("version", r.version().to_string()),
             ("logins", r.logins().to_string()),
             ("logs", r.logs().to_string()),
         ])

@@ -14,7 +14,7 @@ pub fn held(given: &Given) -> Answered<Answer> {
     let Station { record, names, .. } = &station;
     let login = spoken::login(given.text(1)?, names)?;
     let column = spoken::column(given.text(2)?, record, names)?;
-    let right = spoken::right(given.text(3)?, names)?;
+    let right = spoken::right(given.text(3)?, record, names)?;
     let held = library::held(&record.bytes, login, column, right)
         .map_err(|refusal| beyond(refusal, &station, &[login], column))?;
     let (who, over) = (Name::Login(login), record.name(column));
@@ -42,7 +42,7 @@ pub fn who(given: &Given) -> Answered<Answer> {
     let station = station(&given.words[0], given.names.as_ref())?;
     let Station { record, names, .. } = &station;
     let column = spoken::column(given.text(1)?, record, names)?;
-    let right = spoken::right(given.text(2)?, names)?;
+    let right = spoken::right(given.text(2)?, record, names)?;
     let mut holders = Vec::new();
     for login in 0..record.logins() {
         let held = library::held(&record.bytes, login, column, right);

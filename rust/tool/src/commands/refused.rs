@@ -15,7 +15,7 @@ use crate::words::Given;
 pub fn refused(given: &Given) -> Answered<Answer> {
     let path = &given.words[0];
     let window = window_file::read(path)?;
-    let names = names_of(path, given.names.as_ref(), None)?;
+    let names = names_of(path, given.names.as_ref(), &[])?;
     let counts = counts(&window);
     let text = if given.json {
         let counts = counts.iter().map(ToString::to_string);

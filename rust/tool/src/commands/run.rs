@@ -9,7 +9,7 @@ use crate::answer::Answer;
 use crate::changes::{by_login, changes};
 use crate::command_text::{Commands, Ran, read};
 use crate::input::{self, MOST_TEXT, Station, called, names_of, opened, record_bytes};
-use crate::library::MOST_RECORD;
+use crate::library::MOST_RECORD_BYTES;
 use crate::names::counted;
 use crate::no_answer::{Answered, NoAnswer, no_answer};
 use crate::record::Record;
@@ -80,11 +80,11 @@ fn is_one_file(path: &OsStr, other: &OsStr) -> bool {
 fn station(given: &Given, locked: Option<&Locked>) -> Answered<Station> {
     let path = &given.words[0];
     let before = match locked {
-        Some(file) => file.read(MOST_RECORD)?,
+        Some(file) => file.read(MOST_RECORD_BYTES)?,
         None => record_bytes(path)?,
     };
     let record = opened(path, before)?;
-    let names = names_of(path, given.names.as_ref(), Some(&record))?;
+    let names = names_of(path, given.names.as_ref(), &[&record])?;
     Ok(Station {
         file: called(path),
         record,

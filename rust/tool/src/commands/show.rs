@@ -7,7 +7,7 @@ use crate::html;
 use crate::input::{Station, station};
 use crate::no_answer::Answered;
 use crate::record::sizes;
-use crate::table::table;
+use crate::table::{between, table};
 use crate::tree::tree;
 use crate::words::Given;
 
@@ -38,7 +38,8 @@ fn text(station: &Station) -> String {
         names,
     } = station;
     let width = width();
-    let last = record.logins() - 1;
+    let (last, last_basic) = (record.logins() - 1, record.basics() - 1);
+    let (_, commas) = between(record);
     let logs = match record.logs() {
         0 => String::new(),
         _ => format!(", then logs from column {}", last + 1),
@@ -51,7 +52,7 @@ fn text(station: &Station) -> String {
         "{file}: {}.\n\n{}\n\
          Rows are logins; columns are logins 0 to {last}{logs}.\n\
          What does not exist is left out, and rows that have nothing in a block.\n\
-         o is own, c control, 0 to 6 the basic rights, * with the star{}.\n\n\
+         o is own, c control, 0 to {last_basic} the basic rights, * with the star{commas}{}.\n\n\
          Who owns whom:\n{}",
         sizes(record),
         table(record, names, width),

@@ -4,7 +4,7 @@ use crate::html::escape;
 use crate::library::Right;
 use crate::names::Names;
 use crate::record::{Name, Record, column_of, rights_in};
-use crate::table::short;
+use crate::table::{between, short};
 
 /// The most columns with each right in words; grids of more have short cells, with the words as each cell's title.
 const MOST_WORDY: usize = 14;
@@ -111,13 +111,13 @@ impl Grid<'_> {
         }
         let content = if self.is_small() {
             classes.push(strongest(cell));
-            let lost = short(before & !cell);
+            let lost = short(before & !cell, self.record);
             let lost = if lost.is_empty() {
                 lost
             } else {
                 format!("<s>{lost}</s>")
             };
-            format!("{}{lost}", short(cell))
+            format!("{}{lost}", short(cell, self.record))
         } else {
             self.chips(before, cell)
         };
@@ -131,7 +131,7 @@ impl Grid<'_> {
     }
 
     /// Each right as a word; those lost are struck out.
-    fn chips(&self, before: u16, cell: u16) -> String {
+    fn chips(&self, before: u32, cell: u32) -> String {
         let chip = |right: Right| {
             let change = match (right.in_cell(before), right.in_cell(cell)) {
                 (false, _) => " gained",
@@ -145,7 +145,7 @@ impl Grid<'_> {
     }
 
     /// A cell in words.
-    fn title(&self, login: u64, name: Name, before: u16, cell: u16) -> String {
+    fn title(&self, login: u64, name: Name, before: u32, cell: u32) -> String {
         let names = self.names;
         let (who, over) = (names.label(Name::Login(login)), names.label(name));
         let mut parts = Vec::new();
@@ -173,7 +173,7 @@ fn kind(right: Right) -> &'static str {
 }
 
 /// The class of a short cell: that of the first of own, control, a starred and a plain right that is in it.
-fn strongest(cell: u16) -> &'static str {
+fn strongest(cell: u32) -> &'static str {
     let kinds: Vec<&str> = rights_in(cell).into_iter().map(kind).collect();
     let order = ["own", "control", "star", "plain"];
     order
@@ -182,8 +182,8 @@ fn strongest(cell: u16) -> &'static str {
         .unwrap_or("")
 }
 
-/// What the colours and letters mean.
-pub fn legend(columns: usize, names: &Names) -> String {
+/// What the colours and letters mean, in a grid of so many columns.
+pub fn legend(columns: usize, record: &Record, names: &Names) -> String {
     let chip = |class: &str, word: &str| format!("<span class=\"x {class}\">{word}</span>");
     let rights = names.of_rights.iter();
     let rights: Vec<String> = rights
@@ -194,10 +194,13 @@ pub fn legend(columns: usize, names: &Names) -> String {
         false => format!(" Here {}.", rights.join(", ")),
     };
     let short = if columns > MOST_WORDY {
-        "<p class=\"legend\">In a cell o is own, c control, 0 to 6 are the basic rights r0 to r6, and * is the star. \
-         A cell has the colour of the strongest right in it. Rest the pointer on it for its rights in words.</p>\n"
+        let (last, (_, commas)) = (record.basics() - 1, between(record));
+        format!(
+            "<p class=\"legend\">In a cell o is own, c control, 0 to {last} are the basic rights r0 to r{last}{commas}, and * is the \
+             star. A cell has the colour of the strongest right in it. Rest the pointer on it for its rights in words.</p>\n"
+        )
     } else {
-        ""
+        String::new()
     };
     format!(
         "<p class=\"legend\">A row says what a login has over each column: {}{}{}{}\

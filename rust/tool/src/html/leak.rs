@@ -19,7 +19,11 @@ pub fn page(q: &Question, station: &Station, leak: Option<&[Step]>) -> String {
     let changed = Part::of(q, station, steps, true);
     let shared = Some(&changed).filter(|part| part.is_small());
     let named = Part::of(q, station, steps, false);
-    body.push_str(&legend(changed.columns.len(), &station.names));
+    body.push_str(&legend(
+        changed.columns.len(),
+        &station.record,
+        &station.names,
+    ));
     body.push_str("<p>The cell that is asked about has a violet frame.");
     if !steps.is_empty() {
         body.push_str(" What a command gives is framed green, what it takes is struck out.");

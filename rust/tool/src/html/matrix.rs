@@ -27,7 +27,7 @@ pub fn page(station: &Station) -> String {
          those with other owners too in a broken frame.</p>\n\
          <div class=\"wide\">{}</div>\n<h2>In words</h2>\n{}",
         escape(&sizes(record)),
-        legend(grid.columns.len(), names),
+        legend(grid.columns.len(), record, names),
         grid.html(),
         owners::drawing(record, names),
         in_words(station, grid.columns.len() <= 8)

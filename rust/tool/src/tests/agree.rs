@@ -4,11 +4,12 @@ use std::collections::BTreeSet;
 
 use crate::changes::changes;
 use crate::command_text::{Ran, read};
-use crate::library::{Command, Refusal, Right, command, held, new_record, witness};
+use crate::library::{Command, Header, Refusal, Right, command, held, new_record, witness};
 use crate::names::Names;
 use crate::record::{Name, Record, column_of};
 use crate::sentence::{numbers as five, parse, sentence};
 use crate::tests::random::{LARGEST, Numbers, any_command, station};
+use crate::version::Version;
 use crate::why;
 
 fn open(bytes: &[u8]) -> Record {
@@ -33,17 +34,19 @@ fn differences_make_the_new_record_of_the_old() {
     for _ in 0..2_000 {
         let old = station(&mut numbers);
         let mut new = old.clone();
-        let (n, columns) = (u64::from(old[5]), u64::from(old[5]) + u64::from(old[6]));
+        let header = Header::read(&old).expect("a record has a header");
+        let (columns, width) = (u64::from(header.columns()), header.cell_bytes());
         for _ in 0..numbers.below(12) {
-            let _ = command(&mut new, any_command(&mut numbers, n, columns));
+            let _ = command(&mut new, any_command(&mut numbers, &old));
         }
         let (before, after) = (open(&old), open(&new));
         let differences = changes(&before, &after);
         let mut made = old.clone();
         for moved in &differences.moved {
-            let low = 8 + 2 * (moved.login * columns + column_of(moved.over)) as usize;
+            let place = (moved.login * columns + column_of(moved.over)) as usize;
+            let after_cell = Header::SIZE + width * (place + 1);
             let code = moved.right.code();
-            made[low - (code / 8) as usize] ^= 1 << (code % 8);
+            made[after_cell - 1 - (code / 8) as usize] ^= 1 << (code % 8);
             assert_eq!(
                 after.bit(moved.login, column_of(moved.over), moved.right),
                 moved.gained
@@ -53,6 +56,11 @@ fn differences_make_the_new_record_of_the_old() {
         }
         assert_eq!(made, new);
         assert_eq!(differences.is_empty(), old == new);
+        // Versions play no part.
+        for version in [Version::One, Version::Two] {
+            let other = version.convert(&new).map(|new| open(&new));
+            assert!(other.is_err() || other.is_ok_and(|new| changes(&before, &new) == differences));
+        }
         for column in 0..columns {
             let name = after.name(column);
             let states = (before.exists(name), after.exists(name));
@@ -72,7 +80,7 @@ fn sentences_are_read_as_the_commands_they_tell() {
             0 => Names::default(),
             _ => names_for_all(&record),
         };
-        let c = any_command(&mut numbers, record.logins(), record.columns());
+        let c = any_command(&mut numbers, &record.bytes);
         let told = sentence(c, &record, &names).expect("each of these commands has words");
         let kind_fits = match c.code {
             10 | 11 => c.o >= record.logins(),
@@ -94,11 +102,11 @@ fn refusals_of_commands_are_told() {
     for _ in 0..200_000 {
         let bytes = station(&mut numbers);
         let record = open(&bytes);
-        let mut c = any_command(&mut numbers, record.logins(), record.columns());
+        let mut c = any_command(&mut numbers, &record.bytes);
         match numbers.below(20) {
             0 => c.code = numbers.pick(&[0, 14, u64::MAX]),
             1 => c.i = numbers.pick(&[record.logins(), u64::MAX]),
-            2 => c.k = 7,
+            2 => c.k = numbers.pick(&[record.basics(), 15, u64::MAX]),
             3 => c.o = record.columns(),
             _ => {}
         }

@@ -1,9 +1,12 @@
-//! The reasons that `check` prints agree with the library's refusal on 100,000 damaged records, and each kind of reason occurs.
+//! The reasons that `check` prints agree with the library's refusal on 100,000 damaged records of both versions, and each kind of
+//! reason occurs.
 
 use std::collections::BTreeMap;
 
 use crate::faults::{faults, reasons};
-use crate::library::{MOST_PLAIN, MOST_RECORD, MOST_SUBJECTS, Refusal, Right, check, valid};
+use crate::library::{
+    Header, MOST_PLAIN, MOST_RECORD_BYTES, MOST_SUBJECTS, Refusal, Right, check, valid,
+};
 use crate::names::Names;
 use crate::tests::random::{Numbers, station};
 
@@ -18,13 +21,16 @@ fn kinds() -> Vec<String> {
             "says {} logs, and a record has 0 to {MOST_PLAIN}",
             MOST_PLAIN + 1
         ),
-        format!("more than {MOST_RECORD} bytes"),
+        format!("more than {MOST_RECORD_BYTES} bytes"),
     ];
     let others = [
         "of the 7 bytes",
-        "its version",
-        "bytes 1 to 4 say",
-        "a record has ",
+        "its version, byte 0, is 0, and",
+        "its version, byte 0, is 3, and",
+        "more bytes, and in a record of version 1 with",
+        "more bytes, and in a record of version 2 with",
+        " bytes, and a record of version 1 with",
+        " bytes, and a record of version 2 with",
         "does not control itself, so it is absent",
         "has no owner, so it is absent",
         "a log has no controller",
@@ -82,12 +88,15 @@ fn reasons_agree_with_the_library() {
     }
 }
 
-/// A record of any sizes, with the length that belongs to them. Where it has logins, U alone exists.
-fn whole(n: u8, p: u8) -> Vec<u8> {
-    let cells = 2 * usize::from(n) * (usize::from(n) + usize::from(p));
-    let mut record = vec![1];
+/// A record of any version and sizes, with the length that belongs to them. Where it has logins, U alone exists.
+fn whole(version: u8, n: u8, p: u8) -> Vec<u8> {
+    let width = if version == 1 { 2 } else { 4 };
+    let cells = width * usize::from(n) * (usize::from(n) + usize::from(p));
+    let mut record = vec![version];
     record.extend((2 + cells as u32).to_be_bytes());
-    record.extend([n, p, 0, 2]);
+    record.extend([n, p]);
+    record.resize(6 + width, 0);
+    record.push(2);
     record.resize(7 + cells, 0);
     record
 }
@@ -95,8 +104,8 @@ fn whole(n: u8, p: u8) -> Vec<u8> {
 /// Of whole records exactly those beyond the limits are refused, each with the sizes that are wrong.
 #[test]
 fn sizes_of_whole_records() {
-    let sizes = |n| (0..=u8::MAX).map(move |p| (n, p));
-    for (n, p) in (0..=u8::MAX).flat_map(sizes) {
+    let sizes = |n| (0..=u8::MAX).flat_map(move |p| [(1, n, p), (2, n, p)]);
+    for (version, n, p) in (0..=u8::MAX).flat_map(sizes) {
         let mut wrong = Vec::new();
         if n == 0 || n > MOST_SUBJECTS {
             wrong.push(format!(
@@ -109,12 +118,12 @@ fn sizes_of_whole_records() {
             ));
         }
         let wanted = wrong.join("; ");
-        let record = whole(n, p);
+        let record = whole(version, n, p);
         let refusal = (!wanted.is_empty()).then_some(Refusal::Counts);
-        assert_eq!(check(&record).err(), refusal, "{n} {p}");
+        assert_eq!(check(&record).err(), refusal, "{version} {n} {p}");
         let told = faults(&record, &Names::default());
         let told: Vec<String> = told.into_iter().map(|fault| fault.sentence).collect();
-        assert_eq!(told.concat(), wanted, "{n} {p}");
+        assert_eq!(told.concat(), wanted, "{version} {n} {p}");
     }
 }
 
@@ -125,14 +134,17 @@ fn damage(record: &mut Vec<u8>, numbers: &mut Numbers) {
     }
     let length = record.len() as u64;
     match numbers.below(24) {
-        0 => record[0] = numbers.below(256) as u8,
+        0 => {
+            let any = numbers.below(256) as u8;
+            record[0] = numbers.pick(&[0, 1, 2, 3, any]);
+        }
         1 => record[5] = numbers.pick(&[0, 1, 2, MOST_SUBJECTS, MOST_SUBJECTS + 1, 255]),
         2 => record[6] = numbers.pick(&[0, 1, MOST_PLAIN, MOST_PLAIN + 1, 255]),
         3 => record[1 + numbers.below(4) as usize] ^= 1 << numbers.below(8),
         4 => record.truncate(numbers.below(length) as usize),
         5 => record.resize(record.len() + 1 + numbers.below(9) as usize, 0),
         6 => record.truncate(numbers.below(9) as usize),
-        7 if numbers.below(9) == 0 => record.resize(MOST_RECORD + 1, 0),
+        7 if numbers.below(9) == 0 => record.resize(MOST_RECORD_BYTES + 1, 0),
         8..16 => {
             let byte = 7 + numbers.below(length - 7) as usize;
             record[byte] ^= 1 << numbers.below(8);
@@ -143,17 +155,16 @@ fn damage(record: &mut Vec<u8>, numbers: &mut Numbers) {
 
 /// Changes own or control of logins, or moves a login below another.
 fn damage_matrix(record: &mut [u8], numbers: &mut Numbers) {
-    let (n, columns) = (
-        u64::from(record[5]),
-        u64::from(record[5]) + u64::from(record[6]),
-    );
-    if n == 0 || record.len() as u64 != 7 + 2 * n * columns {
+    let header = Header::read(record).expect("a record has a header");
+    let (n, columns) = (u64::from(header.n), u64::from(header.columns()));
+    if n == 0 || record.len() != header.expected_length() {
         return;
     }
     let bound = numbers.pick(&[n, n, columns]);
     let (s, o) = (numbers.below(n), numbers.below(bound));
     let put = |record: &mut [u8], s: u64, o: u64, right: Right, set: bool| {
-        let low = 8 + 2 * (s * columns + o) as usize;
+        let place = (s * columns + o) as usize;
+        let low = Header::SIZE + header.cell_bytes() * (place + 1) - 1;
         let bit = 1 << right.code();
         record[low] = if set {
             record[low] | bit

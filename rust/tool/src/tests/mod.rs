@@ -5,4 +5,5 @@ mod damaged;
 mod pages;
 mod random;
 mod spoken_names;
+mod versions;
 mod windows;

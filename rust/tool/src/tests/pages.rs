@@ -3,7 +3,7 @@
 use crate::html;
 use crate::input::Station;
 use crate::leak::{Question, answer};
-use crate::library::{Basic, Right, trust_mask};
+use crate::library::{Basic, trust_mask};
 use crate::names::Names;
 use crate::record::Record;
 use crate::tests::random::{Numbers, station};
@@ -41,6 +41,9 @@ fn any_station(numbers: &mut Numbers) -> Station {
         names.of_names.insert(name, format!("<b>&\"{column}'"));
     }
     names.of_rights.insert(Basic::R0, String::from("<i>"));
+    if record.version() == 2 {
+        names.of_rights.insert(Basic::R14, String::from("<i>14"));
+    }
     Station {
         file: String::from("<file>"),
         record,
@@ -71,7 +74,7 @@ fn pages_of_leaks() {
             login: numbers.below(n),
             over: station.record.name(column),
             column,
-            right: numbers.pick(&Right::ALL),
+            right: numbers.pick(station.record.rights()),
         };
         let leak = answer(&station, &q).expect("the question is in range");
         leaks += u64::from(leak.as_ref().is_some_and(|steps| !steps.is_empty()));

@@ -1,8 +1,9 @@
-//! Seeded random stations and commands.
+//! Seeded random stations of both versions, and commands.
 
 use std::hash::{DefaultHasher, Hash, Hasher};
 
-use crate::library::{Command, MOST_PLAIN, MOST_SUBJECTS, command, new_record};
+use crate::library::{Command, Header, MOST_PLAIN, MOST_SUBJECTS, Right, command, new_record};
+use crate::version::Version;
 
 /// The most logins and the most logs of a station.
 pub const LARGEST: (u64, u64) = (MOST_SUBJECTS as u64, MOST_PLAIN as u64);
@@ -32,33 +33,48 @@ impl Numbers {
     }
 }
 
-/// A valid record: a new station, and commands on it of which the library takes what it accepts.
+/// A valid record of either version: a new station, and commands on it of which the library takes what it accepts.
 pub fn station(numbers: &mut Numbers) -> Vec<u8> {
     let (n, p) = match numbers.below(40) {
         0 => LARGEST,
         1..4 => (1 + numbers.below(LARGEST.0), numbers.below(LARGEST.1 + 1)),
         _ => (1 + numbers.below(6), numbers.below(5)),
     };
-    let mut record = new_record(n, p).expect("the sizes are in range");
+    let version = numbers.pick(&[Version::One, Version::Two]);
+    let new = new_record(n, p).and_then(|record| version.convert(&record));
+    let mut record = new.expect("the sizes are in range");
     for _ in 0..numbers.below(20 + 6 * n) {
-        let mut c = any_command(numbers, n, n + p);
-        if numbers.below(2) == 0 {
-            c = numbers.pick(&[
-                Command::create_subject(c.i, c.s),
-                Command::create_object(c.i, c.o),
-            ]);
-        }
+        let c = any_command(numbers, &record);
+        let c = match numbers.below(8) {
+            0 | 1 => Command::create_subject(c.i, c.s),
+            2 | 3 => Command::create_object(c.i, c.o),
+            4 | 5 => any_grant(numbers, &record),
+            _ => c,
+        };
         let _ = command(&mut record, c);
     }
     record
 }
 
-/// A command over a record's names, mostly with 0 where its code uses nothing.
-pub fn any_command(numbers: &mut Numbers, n: u64, columns: u64) -> Command {
+/// A grant of any basic right over a column by its owner, where it has one, so that more are accepted.
+fn any_grant(numbers: &mut Numbers, record: &[u8]) -> Command {
+    let header = Header::read(record).expect("a record has a header");
+    let n = u64::from(header.n);
+    let (s, o) = (numbers.below(n), numbers.below(u64::from(header.columns())));
+    let owns = |i: &u64| Right::Own.in_cell(header.cell(record, *i, o).unwrap_or(0));
+    let owner = (0..n).find(owns).unwrap_or(0);
+    let k = numbers.below(header.basic_rights());
+    Command::new(numbers.pick(&[4, 5]), owner, s, o, k)
+}
+
+/// A command over a record's names and basic rights, mostly with 0 where its code uses nothing.
+pub fn any_command(numbers: &mut Numbers, record: &[u8]) -> Command {
+    let header = Header::read(record).expect("a record has a header");
+    let (n, columns) = (u64::from(header.n), u64::from(header.columns()));
     let code = 1 + numbers.below(13);
     let (i, s, o) = (numbers.below(n), numbers.below(n), numbers.below(columns));
     let k = if matches!(code, 1 | 2 | 4 | 5 | 8 | 9) {
-        numbers.below(7)
+        numbers.below(header.basic_rights())
     } else {
         0
     };

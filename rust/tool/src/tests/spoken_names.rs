@@ -14,7 +14,7 @@ fn record() -> Record {
 }
 
 fn names(text: &str) -> Names {
-    parse(text, Some(&record())).unwrap_or_else(|why| panic!("{why}"))
+    parse(text, &[&record()]).unwrap_or_else(|why| panic!("{why}"))
 }
 
 #[test]
@@ -40,7 +40,10 @@ fn lines_that_are_refused() {
         ("login 1 =", "there is no name"),
         ("login 3 = a", "login 3 is beyond the record"),
         ("log 2 = a", "the record has logs 3 to 4"),
-        ("right 7 = a", "basic rights are 0 to 6"),
+        (
+            "right 7 = a",
+            "r7 is beyond the record, which is of version 1 and has the basic rights r0 to r6",
+        ),
         ("login 1 = 2", "'2' is a number"),
         ("login 1 = -2", "'-2' is a number"),
         ("login 1 = a,b", "has a comma"),
@@ -58,7 +61,7 @@ fn lines_that_are_refused() {
             "line 2: it has the name 'a' already",
         ),
     ] {
-        match parse(text, Some(&record())) {
+        match parse(text, &[&record()]) {
             Ok(_) => panic!("{text:?} is taken"),
             Err(why) => assert!(why.contains(said), "{text:?}: {why}"),
         }
@@ -70,8 +73,10 @@ fn lines_that_are_refused() {
 fn names_without_a_record() {
     let (logins, columns) = (LARGEST.0, LARGEST.0 + LARGEST.1);
     let (login, log) = (logins - 1, columns - 1);
-    let text = format!("login {login} = ann\nlog 1 = bed 1\nlog {log} = far\nright 0 = read");
-    let names = parse(&text, None).unwrap_or_else(|why| panic!("{why}"));
+    let text = format!(
+        "login {login} = ann\nlog 1 = bed 1\nlog {log} = far\nright 0 = read\nright 14 = bill"
+    );
+    let names = parse(&text, &[]).unwrap_or_else(|why| panic!("{why}"));
     assert_eq!(names.login(login), "ann");
     assert_eq!(names.label(Name::Log(log)), "far");
     let logs_are = format!("is in no record, and logs are 1 to {log}");
@@ -86,11 +91,15 @@ fn names_without_a_record() {
             format!("log {columns} {logs_are}"),
         ),
         (
+            String::from("right 15 = a"),
+            String::from("right 15 is in no record, and basic rights are 0 to 14"),
+        ),
+        (
             String::from("login 1 = a\nlog 3 = a"),
             String::from("line 2: 'a' is given twice"),
         ),
     ] {
-        let why = parse(&text, None).err().unwrap_or_default();
+        let why = parse(&text, &[]).err().unwrap_or_default();
         assert!(why.contains(&said), "{text:?}: {why}");
     }
 }
@@ -116,11 +125,12 @@ fn words_by_name_and_number() {
     assert_eq!(column("9", &record, &names), Ok(9));
     assert!(column("log 2", &record, &names).is_err());
     assert!(column("login 3", &record, &names).is_err());
-    assert_eq!(right("read*", &names), Ok(Right::Starred(Basic::R2)));
-    assert_eq!(right("r2", &names), Ok(Right::Plain(Basic::R2)));
-    assert_eq!(right("15", &names), Ok(Right::Starred(Basic::R6)));
+    let right = |word| right(word, &record, &names);
+    assert_eq!(right("read*"), Ok(Right::Starred(Basic::R2)));
+    assert_eq!(right("r2"), Ok(Right::Plain(Basic::R2)));
+    assert_eq!(right("15"), Ok(Right::Starred(Basic::R6)));
     for wrong in ["16", "r7", "r10", "own*", "rr", "*", "", "r+1"] {
-        assert!(right(wrong, &names).is_err(), "{wrong}");
+        assert!(right(wrong).is_err(), "{wrong}");
     }
     assert_eq!(trusted("ann,0", &record, &names), Ok(3));
     assert_eq!(trusted("none", &record, &names), Ok(0));
