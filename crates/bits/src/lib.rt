@@ -24,11 +24,7 @@ fn with_bit(v: u8, j: usize, on: bool) -> u8
     requires { ⌜ j < 8 ⌝ }
     ensures { λ r. ⌜ r ≡ withBit j on v ⌝ }
 {
-    if cells::bit_of(v as usize, j) {
-        if on { v } else { v - (1 << j) }
-    } else {
-        if on { v + (1 << j) } else { v }
-    }
+    if on { v | (1 << j) } else { v - (v & (1 << j)) }
 }
 
 // Right y is given to row w in column c, or taken from it.

@@ -28,7 +28,7 @@ fn transfer(b: &mut [u8], f: Shape, c: Command, y: Right)
 }
 
 // Subject s is created by i, which owns it.
-fn create_subject(b: &mut [u8], f: Shape, c: Command)
+pub fn create_subject(b: &mut [u8], f: Shape, c: Command)
     requires { ⌜ CommandIn (now b) f c ⌝ }
     ensures { λ _. ⌜ Became (now (b .entry)) (now (b .exit)) (change (stateOf (now (b .entry))) c Act.CreateSubject) ⌝ }
 {
@@ -37,7 +37,7 @@ fn create_subject(b: &mut [u8], f: Shape, c: Command)
 }
 
 // Subject s is destroyed by i, which inherits what s owns.
-fn destroy_subject(b: &mut [u8], f: Shape, c: Command)
+pub fn destroy_subject(b: &mut [u8], f: Shape, c: Command)
     requires { ⌜ CommandIn (now b) f c ⌝ }
     ensures { λ _. ⌜ Became (now (b .entry)) (now (b .exit)) (change (stateOf (now (b .entry))) c Act.DestroySubject) ⌝ }
 {

@@ -124,6 +124,33 @@ pub fn command_on(b: &mut [u8], owners: &mut [u8; MOST_SUBJECTS], c: Fields) -> 
     }
 }
 
+// The guesses follow a command over a subject that went a short way, given by its fields.
+fn follow_fields(owners: &mut [u8; MOST_SUBJECTS], c: Fields)
+    requires { ⌜ (length (now owners) ≡ mostSubjects) × (c .s < mostSubjects) × (c .i < mostSubjects) ⌝ }
+    ensures { λ _. ⌜ length (now (owners .exit)) ≡ mostSubjects ⌝ }
+{
+    if c.code == 12 {
+        guess(owners, c.s, c.i);
+        return;
+    }
+    if c.code == 13 {
+        hand_on(owners, c.s, c.i);
+    }
+}
+
+// The same fields, made anew: handed on by themselves, they stand in memory only where they are handed on.
+fn anew(c: Fields) -> Fields
+    ensures { λ r. ⌜ r ≡ c ⌝ }
+{
+    Fields {
+        code: c.code,
+        i: c.i,
+        s: c.s,
+        o: c.o,
+        k: c.k,
+    }
+}
+
 // The same in a list, where most commands are accepted: the short ways are tried first.
 pub fn command_in_list(
     b: &mut [u8],
@@ -138,8 +165,12 @@ pub fn command_in_list(
     if short_ways::by_right(b, f, c) {
         return Answer::Accepted(0);
     }
-    if !short_ways::over_object(b, f, c) {
-        return command_on(b, owners, c);
+    if short_ways::over_object(b, f, c) {
+        return Answer::Accepted(0);
     }
+    if !subject_ways::over_subject(b, f, c) {
+        return command_on(b, owners, anew(c));
+    }
+    follow_fields(owners, c);
     Answer::Accepted(0)
 }

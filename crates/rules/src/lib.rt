@@ -45,7 +45,7 @@ fn both_exist(b: &[u8], f: Shape, c: Command) -> bool
     false
 }
 
-// Whether the names that a command needs exist.
+// Whether the names that a command needs exist: for a transfer, a grant and a delete both.
 pub fn names_present(b: &[u8], f: Shape, c: Command) -> bool
     requires { ⌜ CommandIn (now b) f c × Valid (stateOf (now b)) ⌝ }
     ensures { λ t. ⌜ t ≡ present (stateOf (now (b .entry))) c (c .act) ⌝ }
@@ -53,13 +53,11 @@ pub fn names_present(b: &[u8], f: Shape, c: Command) -> bool
     let act = c.act;
     let o = c.o;
     match act {
-        Act::Transfer(_) => both_exist(b, f, c),
-        Act::Grant(_) => both_exist(b, f, c),
-        Act::Delete(_) => both_exist(b, f, c),
         Act::CreateObject => true,
         Act::DestroyObject => states::exists_by(b, f, c.i, c.s, o),
         Act::CreateSubject => true,
         Act::DestroySubject => states::subject_exists(b, f, c.s),
+        _ => both_exist(b, f, c),
     }
 }
 
