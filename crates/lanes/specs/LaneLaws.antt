@@ -52,6 +52,14 @@ lows-counts (suc n) f =
     let q : f n / 2 % 2 ≡ cond (bit 1 (f n)) 1 0 = bit-count 1 (f n) in
     omega arith
 
+-- the two low bits of a number are bits 0 and 1
+pub low-bits : (x : ℕ) → (bit 0 (x % 4) ≡ bit 0 x) × (bit 1 (x % 4) ≡ bit 1 x)
+unfolding bit
+low-bits x =
+    let e : x % 4 / 1 % 2 ≡ x / 1 % 2 = omega arith in
+    let f : x % 4 / 2 % 2 ≡ x / 2 % 2 = omega arith in
+    (ap (λ (y : ℕ). eqb y 1) e, ap (λ (y : ℕ). eqb y 1) f)
+
 -- whether an odd number of them have a bit, as a number and as a test
 paired-digit : (k n : ℕ) (f : ℕ → ℕ) → paired n f / 2 ^ k % 2 ≡ count n (λ i. bit k (f i)) % 2
 unfolding paired count

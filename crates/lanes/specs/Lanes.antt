@@ -82,9 +82,9 @@ pub record Seen (b : List ℕ) (m : Matrix) (c k room : ℕ) (seen : List ℕ) :
   pub value : (j : ℕ) → j < k → getD seen j 0 ≡ seenAt b m (c + j)
 
 -- Of each lane below `upto`, in lists of `room` places: the low two bits of its upper byte added up, which is how many rows have the lower one
--- and twice how many have the other; the bits that an odd number of rows have; and the row that has the lowest bit, where just one has it, or
--- 0 where none has.
+-- and twice how many have the other; which of these two bits an odd number of rows have; and the row that has the lowest bit, where just one has
+-- it, or 0 where none has.
 pub record Counted (room : ℕ) (b : List ℕ) (m : Matrix) (upto : ℕ) (tally odd marks : List ℕ) : Type 0 where
   pub sums : Holds room upto (λ j. lows (m .rows) (λ v. upperAt b m v j)) tally
-  pub parity : Holds room upto (λ j. paired (m .rows) (λ v. upperAt b m v j)) odd
+  pub parity : Holds room upto (λ j. paired (m .rows) (λ v. upperAt b m v j) % 4) odd
   pub owner : Holds room upto (λ j. markOf (m .rows) (bitIn b m 0 j)) marks

@@ -1,8 +1,8 @@
 -- Lists that a loop fills from the front, and what a filled list holds.
-use Prim.Native.Nat.{ℕ, _+_, _≤_, _<_}
+use Prim.Native.Nat.{ℕ, _+_, _-_, _≤_, _<_}
 use native.Mathlib.Omega.{arith}
 use native.Mathlib.Nat.{not-suc-le-zero}
-use mathlib.Core.Path.{_≡_, refl, sym, _∙_, subst}
+use mathlib.Core.Path.{_≡_, refl, sym, _∙_, ap, subst}
 use mathlib.Core.Logic.{⊎-elim}
 use mathlib.Core.List.{List}
 use lib.Dec.{ltb}
@@ -76,6 +76,22 @@ filled-done j w at g old new h l s = subst (λ (i : ℕ). Filled at i g old new)
 -- values that are the same at those places
 pub filled-same : (at w : ℕ) (f g : ℕ → ℕ) (old new : List ℕ) → ((c : ℕ) → at ≤ c → c < at + w → f c ≡ g c) → Filled at w f old new → Filled at w g old new
 filled-same at w f g old new e s = record { size = s .size; inside = λ c l b. s .inside c l b ∙ e c l b; before = s .before }
+
+-- values of a function whose first one stands at place `at`
+pub filled-from : (at w : ℕ) (f g : ℕ → ℕ) (old new : List ℕ) → ((j : ℕ) → j < w → f j ≡ g (at + j)) → Filled at w (λ x. f (x - at)) old new → Filled at w g old new
+filled-from at w f g old new e =
+    filled-same at w (λ x. f (x - at)) g old new (λ x l b. e (x - at) (omega arith) ∙ ap g (omega arith))
+
+-- some places are filled, and then those after them
+pub filled-both : (at w u : ℕ) (g : ℕ → ℕ) (old mid new : List ℕ) → Filled at w g old mid → Filled (at + w) u g mid new → Filled at (w + u) g old new
+filled-both at w u g old mid new s t =
+    record {
+      size = t .size ∙ s .size;
+      inside = λ x l b.
+          ⊎-elim (λ e. let q : x < at + w = ltb-true x (at + w) e in t .before x q ∙ s .inside x l q)
+          (λ e. t .inside x (ltb-false x (at + w) e) (omega arith)) (way (ltb x (at + w)));
+      before = λ x b. t .before x (omega arith) ∙ s .before x b;
+    }
 
 -- w places from `start` on that lie below k and bring those that are reached from below c to below c + w
 pub record Part (w k c start : ℕ) : Type 0 where

@@ -18,7 +18,7 @@ use Rattle.laws.specs.BitOps.{bit-or}
 use Rattle.codec.specs.Bits.{bit-zero}
 use Rattle.lanes.specs.declared.Matrix.{Matrix}
 use Rattle.lanes.specs.Lanes.{merged, paired, rowBytes, rowPlace, laneAt, upperAt, seenAt, Counted}
-use Rattle.lanes.specs.LaneLaws.{lows-counts, paired-bit, lane-bit}
+use Rattle.lanes.specs.LaneLaws.{lows-counts, low-bits, paired-bit, lane-bit}
 use Rattle.lanes.specs.Zeros.{row-zero}
 use Rattle.columns.specs.Cells.{OneOrTwo, mostCounted, lanesOf, lastLane, ownBit, controlBit, zeroCell, last-inside, column-cells, row-cells}
 use Rattle.columns.specs.Checks.{zeroFrom, judged, unseen, subjectTest}
@@ -121,14 +121,14 @@ module _ (b : List ℕ) (octets : Octets b) (m : Matrix) (k : ℕ) {q : ℕ} (ce
       tally-read : getD tally (lastLane q s) 0 ≡ owners + 2 * controllers
       tally-read = kept .sums .value (lastLane q s) (last-inside cells s n l) ∙ lows-counts n uppers
 
-      odd-read : getD odd (lastLane q s) 0 ≡ paired n uppers
+      odd-read : getD odd (lastLane q s) 0 ≡ paired n uppers % 4
       odd-read = kept .parity .value (lastLane q s) (last-inside cells s n l)
 
-      parity : bit 1 (paired n uppers) ≡ eqb (controllers % 2) 1
-      parity = paired-bit 1 n uppers
+      parity : bit 1 (paired n uppers % 4) ≡ eqb (controllers % 2) 1
+      parity = low-bits (paired n uppers) .1 ∙ paired-bit 1 n uppers
 
       go : (C s s ≡ true) ⊎ (C s s ≡ false) → (eqb s 0 ≡ true) ⊎ (eqb s 0 ≡ false)
-          → judged (C s s) s (owners + 2 * controllers) (paired n uppers) (unseen q (seenAt b m) s && zeros)
+          → judged (C s s) s (owners + 2 * controllers) (paired n uppers % 4) (unseen q (seenAt b m) s && zeros)
           ≡ cond (C s s) (cond (eqb s 0) (eqb owners 0 && eqb controllers 1) (eqb owners 1 && leb controllers 2))
           (not (eqb s 0) && (all n (λ w. Z w s) && zeros))
       go (inl e) (inl z) = rw (e, z, parity) (root-tally owners controllers)

@@ -1,20 +1,21 @@
 -- `counting::row` meets its contract. The invariant: in each of the three lists the lanes below j have the row, those from j on are as before.
 use borrow.Author.Needs.{needs}
-use Prim.Native.Nat.{_-_, _≤_}
+use Prim.Native.Nat.{ℕ, _-_, _*_, _%_, _≤_}
 use native.Mathlib.Nat.{le-refl}
 use native.Mathlib.Omega.{arith}
-use Rattle.counting.specs.Blocks.{atOnce, Joined, joined-none, joined-step, joined-done}
+use mathlib.Core.Path.{ap}
+use Rattle.counting.specs.Blocks.{atOnce, lowBits, lanesFrom, ownUpper, Joined, joined-none, joined-step, joined-done}
 use Rattle.counting.proofs.row.Statement.{statement}
 use Rattle.counting.proofs.row.Tie as tie
 
 abbrev Inv-loop : tie.InvT-loop
-Inv-loop low₀ odd₀ since₀ b at j₀ low odd since j = (j ≤ atOnce) × Joined b at j low₀ odd₀ since₀ low odd since
+Inv-loop low₀ odd₀ since₀ b at j₀ low odd since j = (j ≤ atOnce) × Joined (lowBits b at) (lanesFrom b at) ownUpper j low₀ odd₀ since₀ low odd since
 
 abbrev μ-loop : tie.MeasureT-loop
 μ-loop low₀ odd₀ since₀ b at j₀ low odd since j = atOnce - j
 
 loop-holds : tie.Need-loop-holds Inv-loop μ-loop
-loop-holds c = (search needs, joined-none _ _ _ _ _)
+loop-holds c = (search needs, joined-none _ _ _ _ _ _)
 
 mul-lane : tie.Need-mul-lane Inv-loop μ-loop
 mul-lane c = search needs
@@ -94,10 +95,10 @@ loop-again : tie.Need-loop-again Inv-loop μ-loop
 loop-again c =
     let i = c .before .before .before .before in
     let l = i .before .before .loop in
-    (search needs, joined-step _ _ _ _ _ _ _ _ _ _ (l .inv .1) (i .before .before .before .before .pre) (i .before .loop-test .taken) (i .lane .ensures .0) (i .lane .ensures .1))
+    (search needs, joined-step _ _ _ _ _ _ _ _ _ _ _ _ (l .inv .1) (i .before .before .before .before .pre .sized) (i .before .loop-test .taken) (ap (λ (x : ℕ). x % 4 * 256) (i .lane .ensures .1)) (i .lane .ensures .0))
 
 returns : tie.Need-returns Inv-loop μ-loop
-returns c = let l = c .before .loop in joined-done _ _ _ _ _ _ _ _ _ _ (l .inv .0) (c .loop-test .left) (l .inv .1)
+returns c = let l = c .before .loop in joined-done _ _ _ _ _ _ _ _ _ _ _ (l .inv .0) (c .loop-test .left) (l .inv .1)
 
 pub row-spec : {M : Type 1} → statement M
 row-spec =

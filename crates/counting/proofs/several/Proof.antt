@@ -6,7 +6,7 @@ use mathlib.Core.Path.{_≡_, refl, ap}
 use lib.ListN.{length, getD}
 use Rattle.lanes.specs.Lanes.{rowBytes, rowPlace, upperAt}
 use Rattle.lanes.specs.LaneLaws.{first-place, first-room, next-place, row-room}
-use Rattle.counting.specs.Blocks.{atOnce, Column, column-low, column-count, column-odd, column-done, Several, several-none, several-room, several-next, Filling, filling-none, filling-step, filling-done}
+use Rattle.counting.specs.Blocks.{atOnce, Column, column-low, column-count, column-done, Several, several-none, several-room, several-next, Filling, filling-none, filling-step, filling-done}
 use Rattle.counting.proofs.several.Statement.{statement}
 use Rattle.counting.proofs.several.Tie as tie
 
@@ -101,7 +101,7 @@ array-read-odd : tie.Need-array-read-odd Inv-loop μ-loop Inv-loop2 μ-loop2
 array-read-odd c = search needs
 
 cast-odd : tie.Need-cast-odd Inv-loop μ-loop Inv-loop2 μ-loop2
-cast-odd c = record { fits = omega (arith, column-odd _ _ _ _ _ (λ v. c .before .before .before .before .before .shared-slice-known .given _ .fits) (counted c)) }
+cast-odd c = search needs
 
 add-odd : tie.Need-add-odd Inv-loop μ-loop Inv-loop2 μ-loop2
 add-odd c = search needs
