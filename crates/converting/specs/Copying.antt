@@ -5,20 +5,24 @@ use native.Mathlib.Numerals.{add-one}
 use native.Mathlib.Omega.{arith}
 use mathlib.Core.Path.{_≡_, sym, _∙_, ap, ap₂, subst}
 use mathlib.Core.Logic.{⊎-elim}
-use mathlib.Core.List.{List}
+use mathlib.Core.List.{List, _++_, append-nil}
 use lib.Arith.{digits-lt, digits-div, digits-mod}
-use lib.ListN.{length}
+use lib.ListN.{length, take, drop}
+use lib.Seq.{take-length, drop-length}
 use Rattle.matrix.specs.declared.Shape.{Shape}
 use Rattle.matrix.specs.Bytes.{numberAt, setNumber}
 use Rattle.matrix.specs.Shape.{shapeOf, bitsOf, columns, sizeOf}
 use Rattle.matrix.specs.Reading.{cellAt, setCell, stateOf, content, bytesOf}
 use Rattle.matrix.specs.Shaped.{Within}
+use Rattle.matrix.specs.Converting.{inVersion}
 use Rattle.laws.specs.Bounded.{below-suc}
 use Rattle.codec.specs.ShapeRight.{ShapeRight}
 use Rattle.codec.specs.Cells.{shape-set, shaped-set, octets-set, cell-set-same, cell-set-other}
+use Rattle.codec.specs.RoundTrip.{read-write}
+use Rattle.codec.specs.InVersion.{own-version}
 use Rattle.codec.specs.OtherShape.{cell-fits, cells-write}
 use Rattle.cells.specs.Station.{Station, right-shape}
-use Rattle.converting.specs.Needs.{Fits, Copied, same-n, same-p, same-columns, within-wanted}
+use Rattle.converting.specs.Needs.{Wanted, Fits, Copied, same-n, same-p, same-columns, within-wanted}
 use Rattle.converting.specs.Places.{cellsOf, placeOf, row-of, column-of, number-of, cell-numbered, store-numbered}
 
 pub copied-none : {out : List ℕ} {g : Shape} (b : List ℕ) → Station out g → Copied b g out 0
@@ -138,3 +142,20 @@ module _ {b : List ℕ} {f g : Shape} (h : Fits b f g) where
           let l : c < columns g = subst (λ (m : Shape). c < columns m) (sym shape) column in
           let m : r < g .n = subst (λ (m : Shape). r < m .n) (sym shape) row in
           q .cells r c l (subst (λ (x : ℕ). r * columns g + c < x) same-cells (digits-lt m l))
+
+-- a record of the wanted version, in that version, is the record itself
+pub own-shape : {b : List ℕ} {f g : Shape} → Wanted b f g → f .version ≡ g .version → g ≡ shapeOf b
+own-shape {b} {f} h e =
+    h .shape ∙ ap (λ (v : ℕ). inVersion v f) (sym e) ∙ ap (λ (m : Shape). inVersion (m .version) m) (h .station .shape) ∙ own-version b
+
+pub own-record : {b : List ℕ} {f g : Shape} → Wanted b f g → f .version ≡ g .version → b ≡ bytesOf (content g (stateOf b))
+own-record {b} h e = sym (read-write b (h .station .shaped) (h .station .octets)) ∙ ap (λ (m : Shape). bytesOf (content m (stateOf b))) (sym (own-shape h e))
+
+-- and has as many bytes
+pub own-size : {b : List ℕ} {f g : Shape} → Wanted b f g → f .version ≡ g .version → length b ≡ sizeOf g
+own-size h e = h .station .shaped .size ∙ ap sizeOf (sym (own-shape h e))
+
+-- bytes copied over as many
+pub copied-over : (b out : List ℕ) → length out ≡ length b → take (length b) b ++ drop (length b) out ≡ b
+copied-over b out e =
+    ap₂ {C = List ℕ} (λ x y. x ++ y) (take-length b) (ap (λ (m : ℕ). drop m out) (sym e) ∙ drop-length out) ∙ append-nil b

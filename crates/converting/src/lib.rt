@@ -107,6 +107,18 @@ fn write(b: &[u8], f: Shape, out: &mut [u8], g: Shape)
     }
 }
 
+// The same, where the record may already be of the version: then it is copied.
+fn fill(b: &[u8], f: Shape, out: &mut [u8], g: Shape)
+    requires { ⌜ Fits (now b) f g × (length (now out) ≡ sizeOf g) ⌝ }
+    ensures { λ _. ⌜ now (out .exit) ≡ bytesOf (content g (stateOf (now (b .entry)))) ⌝ }
+{
+    if f.version == g.version {
+        bytes::copy(b, out);
+        return;
+    }
+    write(b, f, out, g);
+}
+
 // Which of 18 and 15 a conversion is refused by, 18 first; 0 where by neither.
 fn refusal_of(above: bool, short: bool) -> u64
     ensures { λ r. ⌜ r ≡ later above short ⌝ }
@@ -132,7 +144,7 @@ pub fn convert(b: &[u8], f: Shape, version: usize, out: &mut [u8]) -> Numbers
     if refusal != 0 {
         return Numbers { refusal, value: 0 };
     }
-    write(b, f, &mut out[..size], g);
+    fill(b, f, &mut out[..size], g);
     Numbers {
         refusal: 0,
         value: size as u64,

@@ -60,16 +60,16 @@ returns c =
     let q = refused (z .args .version) (z .args .b .now) (z .args .out .now) (z .pre .0 .shape) (h .shape-in .ensures) (z .pre .1) (refusal r) (c .if1 .taken) in
     (q .result, q .output)
 
-slice-relend-prefix-write : tie.Need-slice-relend-prefix-write
-slice-relend-prefix-write c = room c
+slice-relend-prefix-fill : tie.Need-slice-relend-prefix-fill
+slice-relend-prefix-fill c = room c
 
-slice-aggregate-write : tie.Need-slice-aggregate-write
-slice-aggregate-write c =
+slice-aggregate-fill : tie.Need-slice-aggregate-fill
+slice-aggregate-fill c =
     let s = c .before .before .before .before in
     sym (length-take-le (s .size-of .result) (s .before .before .before .before .args .out .now) (room (c .before)))
 
-write-requires : tie.Need-write-requires
-write-requires c κs =
+fill-requires : tie.Need-fill-requires
+fill-requires c κs =
     let e = c .before in
     let s = e .before .before .before in
     let long = length-take-le (s .size-of .result) (s .before .before .before .before .args .out .now) (room e) in
@@ -86,7 +86,7 @@ returns-2 c =
     let h = s .before in
     let z = h .before .before .before in
     let q = answered (z .args .version) (z .args .b .now) (z .args .out .now) (z .pre .0 .shape) (h .shape-in .ensures) (z .pre .1) (refusal (e .before)) (e .if1 .left) in
-    (ap (numbers 0) (s .size-of .ensures) ∙ q .result, ap₂ {C = List ℕ} (λ x m. x ++ drop m (z .args .out .now)) (k .write .ensures) (s .size-of .ensures) ∙ q .output)
+    (ap (numbers 0) (s .size-of .ensures) ∙ q .result, ap₂ {C = List ℕ} (λ x m. x ++ drop m (z .args .out .now)) (k .fill .ensures) (s .size-of .ensures) ∙ q .output)
 
 pub convert-spec : {M : Type 1} → statement M
 convert-spec =
@@ -97,8 +97,8 @@ convert-spec =
     too-wide-requires
     refusal-of-requires
     returns
-    slice-relend-prefix-write
-    slice-aggregate-write
-    write-requires
+    slice-relend-prefix-fill
+    slice-aggregate-fill
+    fill-requires
     same-length
     returns-2)
