@@ -3,7 +3,7 @@ use Prim.Native.Nat.{ℕ, _+_, _≤_, _<_}
 use native.Mathlib.Omega.{arith}
 use mathlib.Core.Path.{_≡_, refl, sym, _∙_, ap, subst}
 use mathlib.Core.Logic.{⊎-elim, _≢_}
-use mathlib.Core.Bool.{Bool, true, false, cond, not, _&&_, _||_, false≢true}
+use mathlib.Core.Bool.{Bool, true, false, cond, not, _&&_, _||_}
 use mathlib.Core.List.{List, [], _++_}
 use lib.Dec.{eqb}
 use lib.ListN.{length, length-append}
@@ -17,18 +17,18 @@ use Rattle.matrix.specs.declared.Shape.{Shape}
 use Rattle.matrix.specs.Names.{isSubject}
 use Rattle.matrix.specs.State.{State, held, exists, existsName}
 use Rattle.matrix.specs.Owners.{walk, meets}
-use Rattle.laws.specs.Tests.{way, clash, or-left, or-none-left}
+use Rattle.laws.specs.Tests.{way, clash, and-left, and-right, or-none-left}
 use Rattle.question.specs.Leaks.{Untrusted, LeaksBy}
-use Rattle.route.specs.Parts.{finish, destroysAll, among}
+use Rattle.route.specs.Parts.{heldByOwn, finish, destroysAll, among}
 use Rattle.steps.specs.Runs.{untrusted-append}
 use Rattle.finish.specs.Reaches.{reaches-none, reaches-append, reaches-leak}
+use Rattle.finish.specs.States.{own-held}
 use Rattle.finish.specs.Finish.{Gainable, Ready, againNeeded, finish-runs}
 use Rattle.finish.specs.Lists.{finish-untrusted, finish-length}
 use Rattle.chain.specs.Distinct.{among-here}
 use Rattle.chain.specs.Chain.{chain-name}
 use Rattle.chain.specs.Rising.{Met}
 use Rattle.chain.specs.Destroyed.{Cleared, clears, cleared-alone, cleared-apart, destroys-begun, destroys-length}
-use Rattle.ways.specs.Ways.{isOwn}
 use Rattle.decision.specs.Sought.{Sought, gainable, absent-walk, not-both, subject-same}
 
 module _ (f : Shape) (S : State) (trusted : ℕ → Bool) (s : ℕ) (o : Name) where
@@ -101,27 +101,27 @@ module _ (f : Shape) (S : State) (trusted : ℕ → Bool) (s : ℕ) (o : Name) w
     begun : Untrusted trusted (destroysAll v ws)
     begun = destroys-begun trusted v ws (m .untrusted)
 
-    owned-now : (x : Right) → (isOwn x && eqb s v) ≡ true → held T x s o ≡ true
+    owned-now : (heldByOwn x && eqb s v) ≡ true → held T x s o ≡ true
     unfolding T
-    owned-now Own e = or-left false (subst (λ (u : ℕ). cleared .0 .owns u o ≡ true) (sym (eqb-true s v e)) (cleared .1 .owning))
-    owned-now Control e = absurd (false≢true e)
-    owned-now (Basic k g) e = absurd (false≢true e)
+    owned-now e =
+        own-held (cleared .0) x s o (and-left (heldByOwn x) (eqb s v) e)
+        (subst (λ (u : ℕ). cleared .0 .owns u o ≡ true) (sym (eqb-true s v (and-right (heldByOwn x) (eqb s v) e))) (cleared .1 .owning))
 
     list-length : (ds : List Fields) → length (destroysAll v ws ++ ds) ≡ length ws + length ds
     list-length ds = length-append (destroysAll v ws) ds ∙ ap (λ (k : ℕ). k + length ds) (destroys-length v ws)
 
-    pub above-leaks : LeaksBy f S trusted s o x (destroysAll v ws ++ cond (isOwn x && eqb s v) [] (finish v s o x (not (exists S s) || among s ws) (againNeeded S s o x)))
+    pub above-leaks : LeaksBy f S trusted s o x (destroysAll v ws ++ cond (heldByOwn x && eqb s v) [] (finish v s o x (not (exists S s) || among s ws) (againNeeded S s o x)))
     unfolding T absentNow again
-    above-leaks = ⊎-elim (λ h. at-once h) (λ h. later h) (way (isOwn x && eqb s v))
+    above-leaks = ⊎-elim (λ h. at-once h) (λ h. later h) (way (heldByOwn x && eqb s v))
       where
-        at-once : (isOwn x && eqb s v) ≡ true → LeaksBy f S trusted s o x (destroysAll v ws ++ cond (isOwn x && eqb s v) [] (finish v s o x absentNow again))
+        at-once : (heldByOwn x && eqb s v) ≡ true → LeaksBy f S trusted s o x (destroysAll v ws ++ cond (heldByOwn x && eqb s v) [] (finish v s o x absentNow again))
         at-once h =
             let z : length ws + 1 ≤ f .n = subst (λ (k : ℕ). length ws + 1 ≤ k) top-is (m .few) in
             rw h
-            (reaches-leak (untrusted-append trusted (destroysAll v ws) [] begun tt) (reaches-append (cleared .1 .runs) (reaches-none (owned-now x h)))
+            (reaches-leak (untrusted-append trusted (destroysAll v ws) [] begun tt) (reaches-append (cleared .1 .runs) (reaches-none (owned-now h)))
             (subst (λ (k : ℕ). k ≤ f .n + 2) (sym (list-length [])) (omega arith)))
 
-        later : (isOwn x && eqb s v) ≡ false → LeaksBy f S trusted s o x (destroysAll v ws ++ cond (isOwn x && eqb s v) [] (finish v s o x absentNow again))
+        later : (heldByOwn x && eqb s v) ≡ false → LeaksBy f S trusted s o x (destroysAll v ws ++ cond (heldByOwn x && eqb s v) [] (finish v s o x absentNow again))
         later h =
             let there : existsName S o ≡ true = chain-name (q .valid) (m .chain) in
             rw h

@@ -15,16 +15,16 @@ use Rattle.matrix.specs.declared.Right.the-variants.{Own, Control, Basic}
 use Rattle.matrix.specs.declared.Shape.{Shape}
 use Rattle.matrix.specs.Names.{named, sameName}
 use Rattle.matrix.specs.State.{State, exists, existsName}
-use Rattle.laws.specs.Tests.{way, or-cases}
+use Rattle.laws.specs.Tests.{way, and-left, and-right, or-cases}
 use Rattle.laws.specs.Same.{sameName-eq}
 use Rattle.question.specs.Leaks.{LeaksBy}
-use Rattle.route.specs.Parts.{creates, createsName, finish}
+use Rattle.route.specs.Parts.{creates, createsName, heldByOwn, finish}
 use Rattle.safe.specs.Conditions.{hasStar}
 use Rattle.steps.specs.Runs.{untrusted-append}
 use Rattle.finish.specs.Reaches.{Reaches, reaches-leak}
 use Rattle.finish.specs.Finish.{absent-runs, absent-own-runs, absent-control-runs, pass-runs}
 use Rattle.finish.specs.Lists.{create-untrusted, finish-untrusted, pass-untrusted, finish-length, pass-length}
-use Rattle.ways.specs.Ways.{isOwn, isControl, passesRight, madeHeld}
+use Rattle.ways.specs.Ways.{isControl, passesRight, madeHeld}
 use Rattle.decision.specs.Sought.{Sought, gainable}
 
 module _ (f : Shape) (S : State) (trusted : ℕ → Bool) (s : ℕ) (o : Name) where
@@ -48,12 +48,12 @@ module _ (f : Shape) (S : State) (trusted : ℕ → Bool) (s : ℕ) (o : Name) w
     lv = subst (λ (m : ℕ). v < m) (q .within .top) l
 
     made-now : madeHeld v s o x ≡ true → Reaches f S (createsName v o ∷ []) s o x
-    made-now h = ⊎-elim (λ e. own-made x e) (λ e. control-made x e) (or-cases (isOwn x && eqb s v) (isControl x && sameName (Subject s) o) h)
+    made-now h = ⊎-elim (λ e. own-made e) (λ e. control-made x e) (or-cases (heldByOwn x && eqb s v) (isControl x && sameName (Subject s) o) h)
       where
-        own-made : (x : Right) → (isOwn x && eqb s v) ≡ true → Reaches f S (createsName v o ∷ []) s o x
-        own-made Own e = subst (λ (u : ℕ). Reaches f S (createsName v o ∷ []) u o Own) (sym (eqb-true s v e)) (absent-own-runs f v o lv (q .object) there gone)
-        own-made Control e = absurd (false≢true e)
-        own-made (Basic k g) e = absurd (false≢true e)
+        own-made : (heldByOwn x && eqb s v) ≡ true → Reaches f S (createsName v o ∷ []) s o x
+        own-made e =
+            subst (λ (u : ℕ). Reaches f S (createsName v o ∷ []) u o x) (sym (eqb-true s v (and-right (heldByOwn x) (eqb s v) e)))
+            (absent-own-runs f v o x (and-left (heldByOwn x) (eqb s v) e) lv (q .object) there gone)
 
         control-made : (x : Right) → (isControl x && sameName (Subject s) o) ≡ true → Reaches f S (createsName v o ∷ []) s o x
         control-made Own e = absurd (false≢true e)

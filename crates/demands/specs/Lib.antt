@@ -20,6 +20,8 @@ pub mod Demand2
 pub mod Demand2Holds
 pub mod Demand3
 pub mod Demand3Holds
+pub mod OwnersRead
+pub mod OwnersReadHold
 pub mod Limits
 pub mod LimitsHold
 pub mod Conversions

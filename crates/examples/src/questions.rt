@@ -53,8 +53,14 @@ pub fn all() {
     question(15, 31, 7, 1, 3, 2, 34);
     question(0, 31, 7, 1, 3, 2, 35);
     question(7, 31, 8, 1, 3, 2, 34);
+    // subject 1 destroys 2 and so owns log 3, which is enough for itself; to 0 it grants the right
     question(0, 31, 5, 1, 3, 2, 35);
+    question(0, 31, 5, 0, 3, 2, 35);
+    // the owner, who is trusted, holds own and basic rights at the start; own of a subject is not control of it
     question(0, 31, 7, 2, 3, 0, 35);
+    question(0, 31, 7, 2, 3, 2, 35);
+    question(0, 31, 7, 2, 3, 3, 35);
+    question(0, 31, 7, 1, 2, 1, 35);
     question(0, 31, 6, 0, 2, 0, 35);
     // nobody owns itself, also where the subject is absent
     question(0, 31, 1, 1, 1, 0, 35);
@@ -65,9 +71,13 @@ pub fn all() {
     question(0, 31, 6, 2, 1, 0, 35);
     question(0, 19, 0, 1, 2, 3, 35);
     question(0, 19, 1, 1, 2, 3, 35);
+    // the creator holds the right as soon as it creates log 2
+    question(0, 19, 0, 0, 2, 3, 35);
     // basic right 14, which version 2 alone has; the codes beyond are out of bounds there too
     question(7, 31, 5, 1, 3, 30, 35);
     question(0, 55, 5, 1, 3, 30, 35);
+    question(0, 55, 5, 0, 3, 30, 35);
     question(0, 55, 7, 1, 3, 30, 35);
+    question(0, 55, 7, 2, 3, 31, 35);
     question(7, 55, 5, 1, 3, 32, 35);
 }

@@ -109,21 +109,37 @@ fn further() {
     row(12, 31, 21, 0x40, 3, 0, 1, 3, 0, 15);
 }
 
-// Rights that version 2 alone has: on A out of bounds, as k and as a code; on A2 given, and held by its code.
+// Rights that version 2 alone has: on A out of bounds, as k and as a code; on A2 given to one who does not own o, and held by its code.
 fn versions() {
-    row(7, 31, 0, 1, 4, 2, 2, 3, 0, 16);
-    row(0, 55, 0, 2, 4, 2, 2, 3, 0, 16);
-    row(7, 31, 0, 1, 4, 1, 1, 2, 7, 15);
-    row(0, 55, 0, 2, 4, 1, 1, 2, 7, 16);
-    row(7, 31, 0, 1, 5, 1, 1, 2, 14, 31);
-    row(0, 55, 0, 2, 5, 1, 1, 2, 14, 31);
-    row(7, 55, 0, 2, 4, 1, 1, 2, 15, 32);
+    row(7, 31, 0, 1, 4, 2, 1, 3, 0, 16);
+    row(0, 55, 0, 2, 4, 2, 1, 3, 0, 16);
+    row(7, 31, 0, 1, 4, 1, 0, 2, 7, 15);
+    row(0, 55, 0, 2, 4, 1, 0, 2, 7, 16);
+    row(7, 31, 0, 1, 5, 1, 0, 2, 14, 31);
+    row(0, 55, 0, 2, 5, 1, 0, 2, 14, 31);
+    row(7, 55, 0, 2, 4, 1, 0, 2, 15, 32);
     // in the cell's first byte the highest basic right: by r* it holds r, by r not r*
     row(12, 55, 35, 0x80, 3, 0, 1, 3, 0, 30);
     row(12, 55, 35, 0x40, 3, 0, 1, 3, 0, 31);
     // on A2 the walk meets o, and log 3 goes from 2 to 1
     row(13, 55, 0, 2, 3, 0, 2, 1, 0, 0);
     row(0, 55, 0, 2, 3, 2, 1, 3, 0, 0);
+}
+
+// Subject 2 owns log 3 and has no other bit over it.
+fn owners() {
+    // it holds r0 and r0* over it, and on A2 r14 and r14* too; it may not transfer them, since the star is not set
+    row(12, 31, 0, 1, 1, 2, 2, 3, 0, 2);
+    row(12, 31, 0, 1, 2, 2, 2, 3, 0, 3);
+    row(12, 55, 0, 2, 1, 2, 2, 3, 14, 30);
+    row(12, 55, 0, 2, 2, 2, 2, 3, 14, 31);
+    // own of subject 2 is not control of it, and 1, who controls itself and does not own itself, holds no basic right over itself
+    row(0, 31, 0, 1, 8, 1, 1, 2, 0, 1);
+    row(12, 31, 0, 1, 1, 1, 1, 1, 0, 2);
+    // with the bit of r0 set beside own, r0 is still held when that bit is deleted
+    row(0, 31, 30, 5, 8, 2, 2, 3, 0, 2);
+    // when the log goes to 1, 2 holds nothing over it, and 1 holds r0
+    row(0, 31, 0, 1, 3, 2, 1, 3, 0, 2);
 }
 
 // A number that a byte cannot hold is not cut: with i = 0 the command would be accepted.
@@ -146,5 +162,6 @@ pub fn all() {
     rows_6_to_14();
     further();
     versions();
+    owners();
     large();
 }

@@ -23,10 +23,10 @@ use Rattle.laws.specs.Tests.{clash, fails}
 use Rattle.kept.specs.Subjects.{destroyed-keeps}
 use Rattle.kept.specs.Cells.{put-new}
 use Rattle.frame.specs.Top.{controller-found}
-use Rattle.route.specs.Parts.{creates, createsName, gives, passes, basicNumber, finish}
+use Rattle.route.specs.Parts.{creates, createsName, gives, passes, basicNumber, heldByOwn, finish}
 use Rattle.steps.specs.Accepted.{Givable, created, destroy-accepted, create-accepted, give-accepted, pass-accepted}
 use Rattle.finish.specs.Reaches.{Reaches, reaches-step, reaches-one, reaches-created}
-use Rattle.finish.specs.States.{walk-apart, walk-beside, created-valid, created-owned, created-owns, created-controller, created-exists, created-alone, created-bare, destroyed, destroyed-absent, destroyed-exists, has-held, put-held, given-held}
+use Rattle.finish.specs.States.{walk-apart, walk-beside, created-valid, created-owned, created-owns, created-controller, created-exists, created-alone, created-bare, destroyed, destroyed-absent, destroyed-exists, has-held, own-held, put-held, given-held}
 
 -- ---- v owns o
 
@@ -135,11 +135,11 @@ absent-runs {S} f v s o x absent h lv ls inside lk ev none e fit =
     (give-runs f v s o x absent (created-valid v o h ev none) lv ls inside lk (created-owned v o S)
     (e ∙ ap not (sym (created-exists v o S s))) (givable-created v s o x h ev none fit))
 
--- Creating o is enough for own by v itself, and for control of a subject over itself.
-pub absent-own-runs : {S : State} (f : Shape) (v : ℕ) (o : Name) → v < f .n → named (f .n) (f .p) o ≡ true → exists S v ≡ true
-    → existsName S o ≡ false → Reaches f S (createsName v o ∷ []) v o Own
-absent-own-runs {S} f v o lv inside ev none =
-    reaches-one (create-accepted f v o lv inside ev none) (has-held (created v o S) Own v o (created-owned v o S))
+-- Creating o is enough for what own makes held, by v itself, and for control of a subject over itself.
+pub absent-own-runs : {S : State} (f : Shape) (v : ℕ) (o : Name) (x : Right) → heldByOwn x ≡ true → v < f .n → named (f .n) (f .p) o ≡ true
+    → exists S v ≡ true → existsName S o ≡ false → Reaches f S (createsName v o ∷ []) v o x
+absent-own-runs {S} f v o x e lv inside ev none =
+    reaches-one (create-accepted f v o lv inside ev none) (own-held (created v o S) x v o e (created-owned v o S))
 
 pub absent-control-runs : {S : State} (f : Shape) (v s : ℕ) → v < f .n → named (f .n) (f .p) (Subject s) ≡ true → exists S v ≡ true
     → exists S s ≡ false → Reaches f S (createsName v (Subject s) ∷ []) s (Subject s) Control

@@ -18,7 +18,7 @@ use Rattle.matrix.specs.Changes.{inherit, inCross}
 use Rattle.matrix.specs.Touched.{isBit}
 use Rattle.matrix.specs.Tests.{otherController}
 use Rattle.matrix.specs.Valid.{Valid}
-use Rattle.laws.specs.Tests.{clash, fails, and-both, or-left}
+use Rattle.laws.specs.Tests.{clash, fails, and-both, or-left, or-right}
 use Rattle.laws.specs.Same.{eqb-same, sameRight-refl, isCell-same}
 use Rattle.laws.specs.Changed.{has-put}
 use Rattle.owners.specs.Walk.{walk-found}
@@ -27,6 +27,7 @@ use Rattle.kept.specs.Parts.{above-owns}
 use Rattle.kept.specs.Bits.{object-keeps}
 use Rattle.kept.specs.Subjects.{created-keeps}
 use Rattle.frame.specs.Top.{controller-found}
+use Rattle.route.specs.Parts.{heldByOwn}
 use Rattle.steps.specs.Accepted.{created, given}
 
 -- ---- a walk that does not meet a subject
@@ -120,8 +121,15 @@ destroyed-exists v a S s apart = rw (ne-eqb s a apart) refl
 pub has-held : (S : State) (x : Right) (s : ℕ) (o : Name) → has S x s o ≡ true → held S x s o ≡ true
 has-held S Own s o h = or-left false h
 has-held S Control s o h = or-left false h
-has-held S (Basic k Form.Plain) s o h = or-left (S .basic k Starred s o || false) h
-has-held S (Basic k Starred) s o h = or-left false h
+has-held S (Basic k Form.Plain) s o h = or-left (S .basic k Starred s o || (S .owns s o || false)) h
+has-held S (Basic k Starred) s o h = or-left (S .owns s o || false) h
+
+-- and so is one that own makes held, where s owns o
+pub own-held : (S : State) (x : Right) (s : ℕ) (o : Name) → heldByOwn x ≡ true → S .owns s o ≡ true → held S x s o ≡ true
+own-held S Own s o e h = or-left false h
+own-held S Control s o e h = absurd (clash e refl)
+own-held S (Basic k Form.Plain) s o e h = or-right (S .basic k Form.Plain s o) (or-right (S .basic k Starred s o) (or-left false h))
+own-held S (Basic k Starred) s o e h = or-right (S .basic k Starred s o) (or-left false h)
 
 pub put-held : (x : Right) (s : ℕ) (o : Name) (S : State) → held (put x s o true S) x s o ≡ true
 put-held x s o S =

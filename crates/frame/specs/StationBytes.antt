@@ -49,3 +49,7 @@ B =
 -- code 3 (i, s, o): k is not used, so it is 0
 abbrev pub transferOwn : ℕ → ℕ → ℕ → Fields
 transferOwn i s o = record { code = 3; i = i; s = s; o = o; k = 0 }
+
+-- code 1 (i, s, o, 0): the plain r0 goes from i to s
+abbrev pub transferPlain : ℕ → ℕ → ℕ → Fields
+transferPlain i s o = record { code = 1; i = i; s = s; o = o; k = 0 }

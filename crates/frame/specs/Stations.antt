@@ -18,7 +18,7 @@ use Rattle.matrix.specs.Reading.{cellAt, bitAt, stateOf, bytesOf}
 use Rattle.matrix.specs.Record.{climb, validMatrix, recordRefusal}
 use Rattle.matrix.specs.Calls.{validAnswer, refusalOn, linksOn, nextOn, commandAnswer, commandBytes, heldRefusal, heldAnswer}
 use Rattle.matrix.specs.Converting.{basicFrom, convertRefusal, converted, convertResult, convertOutput}
-use Rattle.frame.specs.StationBytes.{A, A2, A2-high, A-ends-00, A-handed, B, transferOwn}
+use Rattle.frame.specs.StationBytes.{A, A2, A2-high, A-ends-00, A-handed, B, transferOwn, transferPlain}
 
 -- The rows, under one proof.
 pub record Stations : Type 0 where
@@ -40,9 +40,19 @@ pub record Stations : Type 0 where
   pub a2-to-1-output : convertOutput limits 1 A2 (replicate 31 0) ≡ A
   -- With r7 set in its last cell A2 does not become a record of version 1: 18, also where there is no output at all.
   pub a2-high-to-1 : convertResult limits 1 A2-high [] ≡ numbers 18 0
-  -- Right 16 is r7: on A2 subject 2 does not hold it over log 3, and on A it is out of bounds.
-  pub a2-held : heldAnswer limits A2 2 3 16 ≡ Holding.No
-  pub a-held : heldAnswer limits A 2 3 16 ≡ Holding.Refused 7
+  -- Right 16 is r7: on A2 subject 1 does not hold it over log 3, and on A it is out of bounds.
+  pub a2-held : heldAnswer limits A2 1 3 16 ≡ Holding.No
+  pub a-held : heldAnswer limits A 1 3 16 ≡ Holding.Refused 7
+  -- Subject 2 owns log 3: on A it holds r0 over it, plain (2) and starred (3), and on A2 r7 and r14* too. It doesn't hold control.
+  pub owner-plain : heldAnswer limits A 2 3 2 ≡ Holding.Yes
+  pub owner-starred : heldAnswer limits A 2 3 3 ≡ Holding.Yes
+  pub owner-high : heldAnswer limits A2 2 3 16 ≡ Holding.Yes
+  pub owner-last : heldAnswer limits A2 2 3 31 ≡ Holding.Yes
+  pub owner-control : heldAnswer limits A 2 3 1 ≡ Holding.No
+  -- It has no star over log 3, and so may not transfer r0.
+  pub owner-transfers : commandAnswer limits A (transferPlain 2 1 3) ≡ Refused 12 0
+  -- Subject 1 controls itself and doesn't own itself: it holds no basic right over itself.
+  pub controller-plain : heldAnswer limits A 1 1 2 ≡ Holding.No
   -- On A code 3 (0, 2, 1) is refused by 13, with 1 link, and no byte changes.
   pub walk-meets : commandAnswer limits A (transferOwn 0 2 1) ≡ Refused 13 1
   pub walk-meets-bytes : commandBytes limits A (transferOwn 0 2 1) ≡ A
@@ -80,6 +90,13 @@ stations =
       a2-high-to-1 = refl;
       a2-held = refl;
       a-held = refl;
+      owner-plain = refl;
+      owner-starred = refl;
+      owner-high = refl;
+      owner-last = refl;
+      owner-control = refl;
+      owner-transfers = refl;
+      controller-plain = refl;
       walk-meets = refl;
       walk-meets-bytes = refl;
       to-itself = refl;

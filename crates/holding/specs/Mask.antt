@@ -24,9 +24,9 @@ basicDigit c = truth (ltb 1 c)
 abbrev pub starredCode : ℕ → ℕ
 starredCode c = bitOr c (basicDigit c)
 
--- the bit of the right's code, and that of its starred form
+-- the bit of the right's code, that of its starred form, and for a basic right that of own, which is bit 0 and so the digit itself
 unfoldable pub maskOf : ℕ → ℕ
-maskOf c = bitOr (2 ^ c) (2 ^ starredCode c)
+maskOf c = bitOr (bitOr (2 ^ c) (2 ^ starredCode c)) (basicDigit c)
 
 -- j is the code of one of these rights
 abbrev pub codeAmong : ℕ → List Right → Bool

@@ -2,13 +2,13 @@
 use Prim.Native.Nat.{ℕ, zero, suc, _+_, _*_, _/_, _%_, _^_, _<_, max}
 use native.Mathlib.Nat.{lt-of-le-of-lt}
 use native.Mathlib.Omega.{arith}
-use mathlib.Core.Path.{_≡_, refl, sym, _∙_, ap, ap₂}
+use mathlib.Core.Path.{_≡_, refl, sym, _∙_, ap, ap₂, subst}
 use mathlib.Core.Logic.{⊎-elim}
 use mathlib.Core.Bool.{Bool, true, false, not, _||_, or-false}
-use mathlib.Core.List.{List, [], _∷_}
+use mathlib.Core.List.{List, [], _∷_, _++_}
 use lib.Bits.{bitAnd, bitOr, or-step, or-zero-r, or-lt, and-le-l}
 use lib.Dec.{eqb, ltb}
-use lib.Pow.{pow-lt}
+use lib.Pow.{pow-lt, pow-pos}
 use borrow.Author.Tests.{lt-ltb, eqb-true, eqb-false, ne-eqb, ltb-true, ltb-false}
 use Rattle.matrix.specs.declared.Name.{Name}
 use Rattle.matrix.specs.declared.Form.the-variants.{Plain, Starred}
@@ -35,24 +35,47 @@ use Rattle.holding.specs.Mask.{basicDigit, starredCode, maskOf, codeAmon
 
 -- ---- which bits the mask has
 
+-- the digit of a basic right's code
+basic-digit : (c : ℕ) → 1 < c → basicDigit c ≡ 1
+basic-digit c l = ap truth (lt-ltb 1 c l)
+
 -- the starred form has the odd one of the two codes
 starred-odd : (c : ℕ) → 1 < c → starredCode c ≡ c / 2 * 2 + 1
-starred-odd c l = ap (bitOr c) basic ∙ or-step c 1 ∙ ap (λ (m : ℕ). m * 2 + max (c % 2) 1) (or-zero-r (c / 2)) ∙ odd (c % 2) (omega arith)
+starred-odd c l =
+    ap (bitOr c) (basic-digit c l) ∙ or-step c 1 ∙ ap (λ (m : ℕ). m * 2 + max (c % 2) 1) (or-zero-r (c / 2)) ∙ odd (c % 2) (omega arith)
   where
-    basic : basicDigit c ≡ 1
-    basic = ap truth (lt-ltb 1 c l)
-
     odd : (d : ℕ) → d < 2 → c / 2 * 2 + max d 1 ≡ c / 2 * 2 + 1
     odd zero h = refl
     odd (suc zero) h = refl
     odd (suc (suc d)) h = absurd (omega arith)
 
--- the bits are those of two codes
-two-bits : (c j : ℕ) → bit j (maskOf c) ≡ (eqb j c || eqb j (starredCode c))
+-- the bits are those of two codes and of the digit
+mask-parts : (c j : ℕ) → bit j (maskOf c) ≡ ((eqb j c || eqb j (starredCode c)) || bit j (basicDigit c))
 unfolding maskOf
-two-bits c j = bit-or j (2 ^ c) (2 ^ starredCode c) ∙ ap₂ (λ (t u : Bool). t || u) (bit-power j c) (bit-power j (starredCode c))
+mask-parts c j =
+    bit-or j (bitOr (2 ^ c) (2 ^ starredCode c)) (basicDigit c)
+    ∙ ap (λ (t : Bool). t || bit j (basicDigit c))
+    (bit-or j (2 ^ c) (2 ^ starredCode c) ∙ ap₂ (λ (t u : Bool). t || u) (bit-power j c) (bit-power j (starredCode c)))
 
--- which are one for a right that only its own bit makes held, and else those of both forms
+-- which for own and control has no bit, and for a basic right that of own
+two-bits : (c j : ℕ) → basicDigit c ≡ 0 → bit j (maskOf c) ≡ (eqb j c || eqb j (starredCode c))
+two-bits c j e =
+    mask-parts c j ∙ ap (λ (d : ℕ). (eqb j c || eqb j (starredCode c)) || bit j d) e
+    ∙ ap (λ (t : Bool). (eqb j c || eqb j (starredCode c)) || t) (bit-zero j) ∙ or-false (eqb j c || eqb j (starredCode c))
+
+own-bit : (c j : ℕ) → 1 < c → bit j (basicDigit c) ≡ codeAmong j (Own ∷ [])
+own-bit c j l = ap (bit j) (basic-digit c l) ∙ bit-power j 0 ∙ sym (or-false (eqb j 0))
+
+-- a code among some rights or among others
+among-either : (j : ℕ) (ys zs : List Right) → (codeAmong j ys || codeAmong j zs) ≡ codeAmong j (ys ++ zs)
+among-either j [] zs = refl
+among-either j (y ∷ ys) zs = first (eqb j (codeOf y)) (among-either j ys zs)
+  where
+    first : (t : Bool) → (codeAmong j ys || codeAmong j zs) ≡ codeAmong j (ys ++ zs) → ((t || codeAmong j ys) || codeAmong j zs) ≡ (t || codeAmong j (ys ++ zs))
+    first true e = refl
+    first false e = e
+
+-- the two codes are one for a right that has no other form or is starred, and else those of both forms
 one-code : (j c d : ℕ) (y : Right) → codeOf y ≡ c → d ≡ c → (eqb j c || eqb j d) ≡ codeAmong j (y ∷ [])
 one-code j c d y e h = rw (e, h) (twice (eqb j c))
   where
@@ -65,27 +88,36 @@ both-codes j c d y z e h = rw (e, h) (ap (λ (t : Bool). eqb j c || t) (sym (or-
 
 -- so they are those of the rights that make the code's right held
 mask-bits : (c j : ℕ) → bit j (maskOf c) ≡ codeAmong j (heldBy (rightOf c))
-mask-bits zero j = two-bits 0 j ∙ one-code j 0 (starredCode 0) Own refl refl
-mask-bits (suc zero) j = two-bits 1 j ∙ one-code j 1 (starredCode 1) Control refl refl
-mask-bits (suc (suc i)) j = two-bits (suc (suc i)) j ∙ ⊎-elim plain starred (way (eqb (i % 2) 0))
+mask-bits zero j = two-bits 0 j refl ∙ one-code j 0 (starredCode 0) Own refl refl
+mask-bits (suc zero) j = two-bits 1 j refl ∙ one-code j 1 (starredCode 1) Control refl refl
+mask-bits (suc (suc i)) j =
+    mask-parts (suc (suc i)) j ∙ ap (λ (t : Bool). (eqb j c || eqb j (starredCode c)) || t) (own-bit c j (omega arith))
+    ∙ ⊎-elim plain starred (way (eqb (i % 2) 0))
   where
     c : ℕ
     c = suc (suc i)
 
+    -- the forms of the right, and own beside them
+    with-own : (ys : List Right) → (eqb j c || eqb j (starredCode c)) ≡ codeAmong j ys
+        → ((eqb j c || eqb j (starredCode c)) || codeAmong j (Own ∷ [])) ≡ codeAmong j (ys ++ (Own ∷ []))
+    with-own ys e = ap (λ (t : Bool). t || codeAmong j (Own ∷ [])) e ∙ among-either j ys (Own ∷ [])
+
     odd : starredCode c ≡ c / 2 * 2 + 1
     odd = starred-odd c (omega arith)
 
-    plain : eqb (i % 2) 0 ≡ true → (eqb j c || eqb j (starredCode c)) ≡ codeAmong j (heldBy (rightOf c))
+    plain : eqb (i % 2) 0 ≡ true → ((eqb j c || eqb j (starredCode c)) || codeAmong j (Own ∷ [])) ≡ codeAmong j (heldBy (rightOf c))
     plain h =
         rw h
+        (with-own (Basic (i / 2) Plain ∷ Basic (i / 2) Starred ∷ [])
         (both-codes j c (starredCode c) (Basic (i / 2) Plain) (Basic (i / 2) Starred) (omega (arith, eqb-true (i % 2) 0 h))
-        (omega (arith, odd, eqb-true (i % 2) 0 h)))
+        (omega (arith, odd, eqb-true (i % 2) 0 h))))
 
-    starred : eqb (i % 2) 0 ≡ false → (eqb j c || eqb j (starredCode c)) ≡ codeAmong j (heldBy (rightOf c))
+    starred : eqb (i % 2) 0 ≡ false → ((eqb j c || eqb j (starredCode c)) || codeAmong j (Own ∷ [])) ≡ codeAmong j (heldBy (rightOf c))
     starred h =
         rw h
+        (with-own (Basic (i / 2) Starred ∷ [])
         (one-code j c (starredCode c) (Basic (i / 2) Starred) (omega (arith, eqb-false (i % 2) 0 h))
-        (omega (arith, odd, eqb-false (i % 2) 0 h)))
+        (omega (arith, odd, eqb-false (i % 2) 0 h))))
 
 -- where the code is one of the bits of a cell of w bytes, so is that of the starred form
 pub starred-below : (w c : ℕ) → c < 8 * w → starredCode c < 8 * w
@@ -93,9 +125,20 @@ starred-below w zero h = omega arith
 starred-below w (suc zero) h = omega arith
 starred-below w (suc (suc i)) h = omega (arith, starred-odd (suc (suc i)) (omega arith))
 
+-- and so is bit 0
+digit-below : (w c : ℕ) → c < 8 * w → basicDigit c < 2 ^ (8 * w)
+digit-below w zero h = pow-pos (8 * w)
+digit-below w (suc zero) h = pow-pos (8 * w)
+digit-below w (suc (suc i)) h =
+    let first : 0 < 8 * w = omega arith in
+    let one : 2 ^ 0 < 2 ^ (8 * w) = pow-lt first in
+    subst (λ (d : ℕ). d < 2 ^ (8 * w)) (sym (basic-digit (suc (suc i)) (omega arith))) one
+
 mask-below : (w c : ℕ) → c < 8 * w → maskOf c < 2 ^ (8 * w)
 unfolding maskOf
-mask-below w c h = or-lt (8 * w) (2 ^ c) (2 ^ starredCode c) (pow-lt h) (pow-lt (starred-below w c h))
+mask-below w c h =
+    or-lt (8 * w) (bitOr (2 ^ c) (2 ^ starredCode c)) (basicDigit c)
+    (or-lt (8 * w) (2 ^ c) (2 ^ starredCode c) (pow-lt h) (pow-lt (starred-below w c h))) (digit-below w c h)
 
 pub mask-is : MaskIs
 mask-is w c h =

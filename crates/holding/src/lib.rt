@@ -13,13 +13,13 @@ ghost use Rattle.holding.specs.Held.{heldOn};
 ghost use Rattle.holding.specs.Mask.{maskOf};
 
 // The mask of a right's code: the bits by which that right is held (Manual 1.3). A basic right is held by the bit of its starred form too, of
-// which the code is odd. The kind of the right makes no branch here: it is a digit, 1 or 0.
+// which the code is odd, and by that of own, which is bit 0. The kind of the right makes no branch here: it is a digit, 1 or 0.
 fn mask_of(code: usize) -> usize
     requires { ⌜ code < wordBits ⌝ }
     ensures { λ m. ⌜ m ≡ maskOf code ⌝ }
 {
     let basic = (1 < code) as usize;
-    (1 << code) | (1 << (code | basic))
+    (1 << code) | (1 << (code | basic)) | basic
 }
 
 // Whether s holds the right of a code over the name of column o: one of the mask's bits is set in the cell.

@@ -25,9 +25,10 @@ sameForm Plain Starred = false
 sameForm Starred Plain = false
 sameForm Starred Starred = true
 
--- The rights of which a set bit makes the right held (Manual 1.3): the right itself, and beside a plain basic right its starred form.
+-- The rights of which a set bit makes the right held (Manual 1.3): the right itself, beside a plain basic right its starred form, and beside any
+-- basic right own.
 abbrev pub heldBy : Right → List Right
 heldBy Own = Own ∷ []
 heldBy Control = Control ∷ []
-heldBy (Basic k Plain) = Basic k Plain ∷ Basic k Starred ∷ []
-heldBy (Basic k Starred) = Basic k Starred ∷ []
+heldBy (Basic k Plain) = Basic k Plain ∷ Basic k Starred ∷ Own ∷ []
+heldBy (Basic k Starred) = Basic k Starred ∷ Own ∷ []

@@ -1,6 +1,6 @@
 -- Commands by their fields, and the end of a list, which gives s the right once v owns o.
 use Prim.Native.Nat.{ℕ}
-use mathlib.Core.Bool.{Bool, false, cond, _||_}
+use mathlib.Core.Bool.{Bool, true, false, cond, _||_}
 use mathlib.Core.List.{List, [], _∷_, _++_}
 use lib.Dec.{eqb}
 use Rattle.matrix.specs.declared.Name.{Name}
@@ -50,6 +50,12 @@ gives v s o x = fields (givingCode o x) v s (columnOf o) (basicNumber x)
 abbrev pub passes : ℕ → ℕ → Name → ℕ → Form → Fields
 passes i s o k Form.Plain = fields 1 i s (columnOf o) k
 passes i s o k Starred = fields 2 i s (columnOf o) k
+
+-- own over a name makes the right held: every right but control
+abbrev pub heldByOwn : Right → Bool
+heldByOwn Own = true
+heldByOwn Control = false
+heldByOwn (Basic k f) = true
 
 -- The end of a list, once v owns o: o is destroyed and created again where `again` says so, s is created where it is `absent`, and
 -- v gives s the right.

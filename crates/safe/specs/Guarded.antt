@@ -48,12 +48,12 @@ held-before S S′ (y ∷ ys) w o each h =
     ⊎-elim (λ e. or-left (hasOne S ys w o) (each .0 e)) (λ e. or-right (has S y w o) (held-before S S′ ys w o (each .1) e))
     (or-cases (has S′ y w o) (hasOne S′ ys w o) h)
 
--- the rights by which x is held have no other star than x
+-- the rights by which x is held have no other star than x; own has none
 held-star : (S : State) (x : Right) (w : ℕ) (o : Name) → hasStar S x w o ≡ false → Each (λ y. hasStar S y w o ≡ false) (heldBy x)
 held-star S Own w o h = (h, tt)
 held-star S Control w o h = (h, tt)
-held-star S (Basic k Plain) w o h = (h, (h, tt))
-held-star S (Basic k Starred) w o h = (h, tt)
+held-star S (Basic k Plain) w o h = (h, (h, (refl, tt)))
+held-star S (Basic k Starred) w o h = (h, (refl, tt))
 
 -- every bit over o of a right whose star i has not was set before
 abbrev Before : State → State → Name → ℕ → Type 0

@@ -23,10 +23,10 @@ use Rattle.states.specs.Needs.{RightIn}
 use Rattle.question.specs.declared.Safety.{Safety}
 use Rattle.question.specs.declared.Safety.the-variants.{Leaks}
 use Rattle.question.specs.Asked.{listRoom}
-use Rattle.route.specs.Parts.{creates, createsName, finish, destroysAll, among, basicNumber}
+use Rattle.route.specs.Parts.{creates, createsName, heldByOwn, finish, destroysAll, among, basicNumber}
 use Rattle.finish.specs.Finish.{againNeeded}
 use Rattle.finish.specs.Lists.{finish-length}
-use Rattle.ways.specs.Ways.{Way, held-now, by-star, by-creation, from-above, listOf, madeHeld, isOwn, passesRight}
+use Rattle.ways.specs.Ways.{Way, held-now, by-star, by-creation, from-above, listOf, madeHeld, passesRight}
 use Rattle.writing.specs.Put.{putAll, putList, HeadRoom}
 use Rattle.telling.specs.Tells.{Tells, tells-length}
 use Rattle.telling.specs.Parts.{Part}
@@ -60,15 +60,15 @@ module _ (S : State) (s : ℕ) (x : Name) (y : Right) where
       → (createsName v x ∷ cond made [] (finish v s x y absent false)) ≡ listOf S s x y (by-creation v)
   creation-list v e f = ap₂ (λ (m a : Bool). createsName v x ∷ cond m [] (finish v s x y a false)) e f
 
-  pub owned-list : (v : ℕ) (ws : List ℕ) {t : Bool} → t ≡ (isOwn y && eqb s v) → t ≡ true → destroysAll v ws ≡ listOf S s x y (from-above v ws)
+  pub owned-list : (v : ℕ) (ws : List ℕ) {t : Bool} → t ≡ (heldByOwn y && eqb s v) → t ≡ true → destroysAll v ws ≡ listOf S s x y (from-above v ws)
   owned-list v ws e f =
-      let g : (isOwn y && eqb s v) ≡ true = sym e ∙ f in
+      let g : (heldByOwn y && eqb s v) ≡ true = sym e ∙ f in
       sym (ap (λ (u : Bool). destroysAll v ws ++ cond u [] (finish v s x y (not (exists S s) || among s ws) (againNeeded S s x y))) g ∙ append-nil (destroysAll v ws))
 
-  pub above-list : (v : ℕ) (ws : List ℕ) {t absent again : Bool} → t ≡ (isOwn y && eqb s v) → t ≡ false → absent ≡ (not (exists S s) || among s ws) → again ≡ againNeeded S s x y
+  pub above-list : (v : ℕ) (ws : List ℕ) {t absent again : Bool} → t ≡ (heldByOwn y && eqb s v) → t ≡ false → absent ≡ (not (exists S s) || among s ws) → again ≡ againNeeded S s x y
       → (destroysAll v ws ++ finish v s x y absent again) ≡ listOf S s x y (from-above v ws)
   above-list v ws e f a g =
-      let u : (isOwn y && eqb s v) ≡ false = sym e ∙ f in
+      let u : (heldByOwn y && eqb s v) ≡ false = sym e ∙ f in
       ap₂ (λ (b c : Bool). destroysAll v ws ++ finish v s x y b c) a g
       ∙ sym (ap (λ (c : Bool). destroysAll v ws ++ cond c [] (finish v s x y (not (exists S s) || among s ws) (againNeeded S s x y))) u)
 

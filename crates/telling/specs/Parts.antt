@@ -13,10 +13,10 @@ use Rattle.matrix.specs.declared.Right.the-variants.{Own, Control, Basic}
 use Rattle.matrix.specs.declared.Form.{Form}
 use Rattle.matrix.specs.declared.Form.the-variants.{Starred}
 use Rattle.matrix.specs.declared.Fields.{Fields}
-use Rattle.matrix.specs.Names.{columnOf}
+use Rattle.matrix.specs.Names.{columnOf, sameName}
 use Rattle.matrix.specs.Shape.{mostSubjects}
-use Rattle.route.specs.Parts.{fields, destroys, creates, createsName, givingCode, basicNumber, gives}
-use Rattle.ways.specs.Ways.{isOwn, passesRight, madeHeld}
+use Rattle.route.specs.Parts.{fields, destroys, creates, createsName, givingCode, basicNumber, gives, heldByOwn}
+use Rattle.ways.specs.Ways.{isControl, passesRight, madeHeld}
 use Rattle.writing.specs.Put.{Room}
 use Rattle.telling.specs.Tells.{Tells, Fits, tells-as, few-chosen, fits-after}
 
@@ -177,11 +177,13 @@ or-false : (t : Bool) → t ≡ (t || false)
 or-false true = refl
 or-false false = refl
 
-pub made-own : (v s : ℕ) (x : Name) {y : Right} {t : Bool} → y ≡ Own → t ≡ eqb s v → t ≡ madeHeld v s x y
-made-own v s x e h = h ∙ or-false (eqb s v) ∙ rw e refl
+pub made-owned : (v s : ℕ) (x : Name) {y z : Right} {t : Bool} → y ≡ z → isControl z ≡ false → t ≡ (heldByOwn y && eqb s v) → t ≡ madeHeld v s x y
+made-owned v s x {y} {z} e other h =
+    h ∙ or-false (heldByOwn y && eqb s v)
+    ∙ ap (λ (u : Bool). heldByOwn y && eqb s v || (u && sameName (Subject s) x)) (sym (ap isControl e ∙ other))
 
 pub made-control : (v s : ℕ) {x : Name} {y : Right} {w : ℕ} {t : Bool} → y ≡ Control → x ≡ Subject w → t ≡ eqb s w → t ≡ madeHeld v s x y
 made-control v s e f h = h ∙ rw (e, f) refl
 
-pub owned : {y : Right} (v s : ℕ) {t : Bool} → y ≡ Own → t ≡ eqb s v → t ≡ (isOwn y && eqb s v)
-owned v s e h = h ∙ rw e refl
+pub owned : {y z : Right} (v s : ℕ) {t : Bool} → y ≡ z → heldByOwn z ≡ true → t ≡ eqb s v → t ≡ (heldByOwn y && eqb s v)
+owned v s e own h = h ∙ sym (ap (λ (y : Right). heldByOwn y && eqb s v) e ∙ ap (λ (u : Bool). u && eqb s v) own)

@@ -12,8 +12,8 @@ ghost use lib.Dec.{eqb};
 ghost use Prim.Native.Nat.{_+_, _≤_, _<_};
 ghost use Rattle.matrix.specs.Names.{columnOf};
 ghost use Rattle.matrix.specs.Shape.{mostSubjects};
-ghost use Rattle.route.specs.Parts.{destroys, creates, createsName, givingCode, basicNumber, gives, finish, destroysAll, among};
-ghost use Rattle.ways.specs.Ways.{isOwn, passesRight, madeHeld};
+ghost use Rattle.route.specs.Parts.{destroys, creates, createsName, givingCode, basicNumber, gives, heldByOwn, finish, destroysAll, among};
+ghost use Rattle.ways.specs.Ways.{passesRight, madeHeld};
 ghost use Rattle.ways.specs.Path.{listed};
 ghost use Rattle.writing.specs.Put.{Room};
 ghost use Rattle.telling.specs.Tells.{Tells};
@@ -261,27 +261,27 @@ pub fn is_among(path: &[u8; MOST_SUBJECTS], m: usize, s: usize) -> bool
     false
 }
 
-// Whether s holds the right y over x as soon as v creates x.
-pub fn held_when_made(v: usize, s: usize, x: Name, y: Right) -> bool
-    ensures { λ t. ⌜ t ≡ madeHeld v s x y ⌝ }
-{
-    match y {
-        Right::Own => s == v,
-        Right::Control => match x {
-            Name::Subject(w) => s == w,
-            Name::Plain(_) => false,
-        },
-        Right::Basic(_, _) => false,
-    }
-}
-
-// Whether s holds the right y as soon as v owns the name.
+// Whether s holds the right y as soon as v owns the name: own makes every right held but control.
 pub fn owns_then(v: usize, s: usize, y: Right) -> bool
-    ensures { λ t. ⌜ t ≡ (isOwn y && eqb s v) ⌝ }
+    ensures { λ t. ⌜ t ≡ (heldByOwn y && eqb s v) ⌝ }
 {
     match y {
         Right::Own => s == v,
         Right::Control => false,
-        Right::Basic(_, _) => false,
+        Right::Basic(_, _) => s == v,
+    }
+}
+
+// Whether s holds the right y over x as soon as v creates x, and so owns it.
+pub fn held_when_made(v: usize, s: usize, x: Name, y: Right) -> bool
+    ensures { λ t. ⌜ t ≡ madeHeld v s x y ⌝ }
+{
+    match y {
+        Right::Own => owns_then(v, s, y),
+        Right::Control => match x {
+            Name::Subject(w) => s == w,
+            Name::Plain(_) => false,
+        },
+        Right::Basic(_, _) => owns_then(v, s, y),
     }
 }

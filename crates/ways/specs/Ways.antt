@@ -12,7 +12,7 @@ use Rattle.matrix.specs.declared.Fields.{Fields}
 use Rattle.matrix.specs.Bounded.{least}
 use Rattle.matrix.specs.Names.{columnOf, sameName}
 use Rattle.matrix.specs.State.{State, held, exists, existsName}
-use Rattle.route.specs.Parts.{fields, creates, createsName, passes, finish, destroysAll, among}
+use Rattle.route.specs.Parts.{fields, creates, createsName, passes, heldByOwn, finish, destroysAll, among}
 use Rattle.route.specs.Rise.{Risen, meets-at, none, rises}
 use Rattle.safe.specs.Possible.{possible}
 use Rattle.safe.specs.Conditions.{hasStar}
@@ -59,11 +59,6 @@ wayOf S trusted s o x =
     (cond (existsName S o) (wayOver S trusted o) (wayMade S trusted)))
     no-way)
 
-abbrev pub isOwn : Right → Bool
-isOwn Own = true
-isOwn Control = false
-isOwn (Basic k f) = false
-
 abbrev pub isControl : Right → Bool
 isControl Own = false
 isControl Control = true
@@ -74,9 +69,9 @@ passesRight i s o Own = fields 1 i s (columnOf o) 0
 passesRight i s o Control = fields 1 i s (columnOf o) 0
 passesRight i s o (Basic k g) = passes i s o k g
 
--- creating o gives s the right at once: own to its creator, control of a subject to itself
+-- s holds the right as soon as o is created: what own makes held, if s creates it, and control of a subject over itself
 abbrev pub madeHeld : ℕ → ℕ → Name → Right → Bool
-madeHeld v s o x = isOwn x && eqb s v || isControl x && sameName (Subject s) o
+madeHeld v s o x = heldByOwn x && eqb s v || isControl x && sameName (Subject s) o
 
 -- the list of a way
 abbrev pub listOf : State → ℕ → Name → Right → Way → List Fields
@@ -84,5 +79,5 @@ listOf S s o x held-now = []
 listOf S s o x (by-star i) = cond (not (exists S s)) (creates i s ∷ []) [] ++ (passesRight i s o x ∷ [])
 listOf S s o x (by-creation v) = createsName v o ∷ cond (madeHeld v s o x) [] (finish v s o x (not (sameName (Subject s) o || exists S s)) false)
 listOf S s o x (from-above v ws) =
-    destroysAll v ws ++ cond (isOwn x && eqb s v) [] (finish v s o x (not (exists S s) || among s ws) (againNeeded S s o x))
+    destroysAll v ws ++ cond (heldByOwn x && eqb s v) [] (finish v s o x (not (exists S s) || among s ws) (againNeeded S s o x))
 listOf S s o x no-way = []

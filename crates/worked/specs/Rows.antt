@@ -52,6 +52,10 @@ A-7 : wayAt A 7 1 3 2 ≡ no-way
 unfolding A any all count least walkFrom firstFailed refusalOf refusal links next numberAt bit fromBits shapeOf cellAt bitAt stateOf climb validMatrix recordRefusal rise wayOver wayMade wayOf
 A-7 = refl
 
+A-control : wayAt A 7 1 2 1 ≡ no-way
+unfolding A any all count least walkFrom firstFailed refusalOf refusal links next numberAt bit fromBits shapeOf cellAt bitAt stateOf climb validMatrix recordRefusal rise wayOver wayMade wayOf
+A-control = refl
+
 A-1 : wayAt A 1 1 1 0 ≡ no-way
 unfolding A any all count least walkFrom firstFailed refusalOf refusal links next numberAt bit fromBits shapeOf cellAt bitAt stateOf climb validMatrix recordRefusal rise wayOver wayMade wayOf
 A-1 = refl
@@ -83,11 +87,18 @@ pub record SafetyRows : Type 0 where
   -- A, 0, 1 and 2 trusted: subject 1 never comes to r0 over log 3. With 1 untrusted it does: it destroys 2 and grants itself r0
   pub a-7 : SafeRow A 7 1 3 2
   pub a-5 : LeaksRow A 5 1 3 2 (fields 13 1 2 0 0 ∷ fields 4 1 1 3 0 ∷ [])
+  -- once it has destroyed 2 it owns log 3, and so holds r0 over it already
+  pub a-5-short : LeaksRow A 5 1 3 2 (fields 13 1 2 0 0 ∷ [])
   -- A, only 0 trusted: subject 1 never owns itself
   pub a-1 : SafeRow A 1 1 1 0
   -- A, all trusted: subject 2 owns log 3 at the start, and the call answers so by no commands
   pub a-held : LeaksRow A 7 2 3 0 []
   pub a-held-at-once : (out out′ : List ℕ) (r : Safety) → listRoom 5 ≤ length out → Answers limits A 7 2 3 0 out out′ r → r ≡ Safety.Leaks 0
+  -- as the owner it holds r0 and r0* over log 3 too, though it is trusted; 1 owns 2 and doesn't hold control over it
+  pub a-owner : LeaksRow A 7 2 3 2 []
+  pub a-owner-at-once : (out out′ : List ℕ) (r : Safety) → listRoom 5 ≤ length out → Answers limits A 7 2 3 2 out out′ r → r ≡ Safety.Leaks 0
+  pub a-owner-starred : LeaksRow A 7 2 3 3 []
+  pub a-owner-control : SafeRow A 7 1 2 1
   -- A, 0 untrusted: it comes to own 2 by destroying 1 ..
   pub a-6-up : LeaksRow A 6 0 2 0 (fields 13 0 1 0 0 ∷ [])
   -- .. and 2 comes to own 1, who is destroyed and created again
@@ -95,6 +106,8 @@ pub record SafetyRows : Type 0 where
   -- B, nobody trusted: subject 1 and log 2 are created, and 1 is granted r0*. With 0 trusted that never happens
   pub b-0 : LeaksRow B 0 1 2 3 (fields 10 0 0 2 0 ∷ fields 12 0 1 0 0 ∷ fields 5 0 1 2 0 ∷ [])
   pub b-1 : SafeRow B 1 1 2 3
+  -- 0 itself holds r0* over log 2 as soon as it creates it
+  pub b-creator : LeaksRow B 0 0 2 3 (fields 10 0 0 2 0 ∷ [])
 
 -- every row
 pub record Worked : Type 0 where
@@ -156,13 +169,19 @@ worked =
           record {
             a-7 = safe-row A 7 1 3 2 refl refl (decided A 7 1 3 2 refl (omega arith) refl (omega arith) A-7);
             a-5 = leaks-row A 5 1 3 2 refl refl _ (record { begun = (refl, (refl, tt)); accepted = refl; whole = refl; reached = refl; few = omega arith });
+            a-5-short = leaks-row A 5 1 3 2 refl refl _ (record { begun = (refl, tt); accepted = refl; whole = refl; reached = refl; few = omega arith });
             a-1 = safe-row A 1 1 1 0 refl refl (decided A 1 1 1 0 refl (omega arith) refl (omega arith) A-1);
             a-held = leaks-row A 7 2 3 0 refl refl _ (record { begun = tt; accepted = refl; whole = refl; reached = refl; few = omega arith });
             a-held-at-once = by-none A 7 2 3 0 refl refl all-of-A [] (record { begun = tt; accepted = refl; whole = refl; reached = refl; few = omega arith });
+            a-owner = leaks-row A 7 2 3 2 refl refl _ (record { begun = tt; accepted = refl; whole = refl; reached = refl; few = omega arith });
+            a-owner-at-once = by-none A 7 2 3 2 refl refl all-of-A [] (record { begun = tt; accepted = refl; whole = refl; reached = refl; few = omega arith });
+            a-owner-starred = leaks-row A 7 2 3 3 refl refl _ (record { begun = tt; accepted = refl; whole = refl; reached = refl; few = omega arith });
+            a-owner-control = safe-row A 7 1 2 1 refl refl (decided A 7 1 2 1 refl (omega arith) refl (omega arith) A-control);
             a-6-up = leaks-row A 6 0 2 0 refl refl _ (record { begun = (refl, tt); accepted = refl; whole = refl; reached = refl; few = omega arith });
             a-6-down = leaks-row A 6 2 1 0 refl refl _ (record { begun = (refl, (refl, (refl, tt))); accepted = refl; whole = refl; reached = refl; few = omega arith });
             b-0 = leaks-row B 0 1 2 3 refl refl _ (record { begun = (refl, (refl, (refl, tt))); accepted = refl; whole = refl; reached = refl; few = omega arith });
             b-1 = safe-row B 1 1 2 3 refl refl (decided B 1 1 2 3 refl (omega arith) refl (omega arith) B-1);
+            b-creator = leaks-row B 0 0 2 3 refl refl _ (record { begun = (refl, tt); accepted = refl; whole = refl; reached = refl; few = omega arith });
           };
     }
 
@@ -172,11 +191,12 @@ listAt b mask s o right = listOf (stateOf b) s (nameOf (shapeOf b .n) o) (rightO
 
 -- The lists that are written for the questions above are short ones.
 pub record WrittenRows : Type 0 where
-  pub a-5-list : listAt A 5 1 3 2 ≡ fields 13 1 2 0 0 ∷ fields 4 1 1 3 0 ∷ []
+  pub a-5-list : listAt A 5 1 3 2 ≡ fields 13 1 2 0 0 ∷ []
   pub a-6-up-list : listAt A 6 0 2 0 ≡ fields 13 0 1 0 0 ∷ []
   pub a-6-down-list : listAt A 6 2 1 0 ≡ fields 13 0 1 0 0 ∷ fields 12 0 1 0 0 ∷ fields 3 0 2 1 0 ∷ []
   pub b-0-list : listAt B 0 1 2 3 ≡ fields 10 0 0 2 0 ∷ fields 12 0 1 0 0 ∷ fields 5 0 1 2 0 ∷ []
+  pub b-creator-list : listAt B 0 0 2 3 ≡ fields 10 0 0 2 0 ∷ []
 
 pub written : WrittenRows
 unfolding A B any all count least walkFrom firstFailed refusalOf refusal links next numberAt bit fromBits shapeOf cellAt bitAt stateOf climb validMatrix recordRefusal rise wayOver wayMade wayOf destroysAll among
-written = record { a-5-list = refl; a-6-up-list = refl; a-6-down-list = refl; b-0-list = refl }
+written = record { a-5-list = refl; a-6-up-list = refl; a-6-down-list = refl; b-0-list = refl; b-creator-list = refl }

@@ -1,8 +1,9 @@
 //! What differs between two records: names made and gone, and bits set and cleared.
 
-use crate::library::{MOST_SUBJECTS, Right, held};
+use crate::held_by::held_by;
+use crate::library::{MOST_SUBJECTS, Right};
 use crate::names::{Names, listed};
-use crate::record::{Name, Record};
+use crate::record::{Name, Record, column_of};
 
 /// A bit that is set in one of two records.
 #[derive(Clone, Copy, Debug, PartialEq, Eq)]
@@ -12,8 +13,8 @@ pub struct Moved {
     pub right: Right,
     /// Set in the new record; otherwise in the old one.
     pub gained: bool,
-    /// Held in the new record, though the bit is cleared: the starred right is there.
-    pub still_held: bool,
+    /// By which other right it is held in the new record, though its bit is cleared.
+    pub still_by: Option<Right>,
 }
 
 /// All that differs, names and moves each in the matrix's order.
@@ -93,21 +94,23 @@ fn push_moves(moved: &mut Vec<Moved>, new: &Record, at: (u64, Name), before: u32
     let (login, over) = at;
     for right in Right::ALL {
         if right.in_cell(before ^ after) {
-            let gained = right.in_cell(after);
             moved.push(Moved {
                 login,
                 over,
                 right,
-                gained,
-                still_held: !gained && is_held(new, login, over, right),
+                gained: right.in_cell(after),
+                still_by: still_by(new, login, over, right),
             });
         }
     }
 }
 
-fn is_held(record: &Record, login: u64, over: Name, right: Right) -> bool {
-    let (Name::Login(column) | Name::Log(column)) = over;
-    has(record, over) && held(&record.bytes, login, column, right) == Ok(true)
+/// By what a login holds a right in a record, where its own bit is not set and the record has the name.
+fn still_by(record: &Record, login: u64, over: Name, right: Right) -> Option<Right> {
+    if !has(record, over) {
+        return None;
+    }
+    held_by(record, login, column_of(over), right)
 }
 
 /// Moves as parts of a sentence, without the login: what one right does over several names is one part.
@@ -134,7 +137,7 @@ fn told_part(part: &[Moved], names: &Names) -> String {
         login,
         right,
         gained,
-        still_held,
+        still_by,
         ..
     } = part[0];
     let over = listed(part.iter().map(|m| match m.over {
@@ -142,11 +145,9 @@ fn told_part(part: &[Moved], names: &Names) -> String {
         other => names.name(other),
     }));
     let verb = if gained { "gains" } else { "loses" };
-    let rest = match right {
-        Right::Plain(k) if still_held => {
-            format!(", but still holds it by {}", names.right(Right::Starred(k)))
-        }
-        _ => String::new(),
+    let rest = match still_by {
+        Some(by) => format!(", but still holds it by {}", names.right(by)),
+        None => String::new(),
     };
     format!("{verb} {} over {over}{rest}", names.right(right))
 }

@@ -1,10 +1,11 @@
 //! The answer to a safety question, with each command of a leak explained.
 
 use crate::changes::{Changes, changes, told, told_name};
+use crate::held_by::{self, held_by};
 use crate::input::Station;
 use crate::library::{Command, Refusal, Right, command, witness};
 use crate::names::{Names, counted};
-use crate::record::{Name, Record};
+use crate::record::{Name, Record, column_of};
 use crate::sentence::{numbers, sentence};
 use crate::why::{allowed, impossible};
 
@@ -79,7 +80,15 @@ pub fn verdict(q: &Question, station: &Station, leak: Option<&[Step]>) -> String
         None => {
             String::from("SAFE. No list of commands by the other logins, of any length, gets there")
         }
-        Some([]) => format!("LEAKS. {} holds it already", station.names.login(q.login)),
+        Some([]) => {
+            let Station { record, names, .. } = station;
+            let by = held_by(record, q.login, column_of(q.over), q.right);
+            format!(
+                "LEAKS. {} holds it already{}",
+                names.login(q.login),
+                held_by::told(by, names)
+            )
+        }
         Some(steps) => {
             let count = steps.len() as u64;
             let verb = if count == 1 { "gets" } else { "get" };

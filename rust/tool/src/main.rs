@@ -5,6 +5,7 @@ mod changes;
 mod command_text;
 mod commands;
 mod faults;
+mod held_by;
 mod html;
 mod input;
 mod json;

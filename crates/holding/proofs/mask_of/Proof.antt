@@ -28,8 +28,10 @@ returns : tie.Need-returns
 unfolding maskOf
 returns c =
     let code = c .args .code in
-    ap₂ (λ (u v : ℕ). bitOr u v) (one-shifted code (c .pre))
-    (one-shifted _ (starred-small code (c .pre)) ∙ ap (λ (d : ℕ). 2 ^ bitOr code d) (sym (digit (ltb 1 code))))
+    ap₂ (λ (u v : ℕ). bitOr u v)
+    (ap₂ (λ (u v : ℕ). bitOr u v) (one-shifted code (c .pre))
+    (one-shifted _ (starred-small code (c .pre)) ∙ ap (λ (d : ℕ). 2 ^ bitOr code d) (sym (digit (ltb 1 code)))))
+    (sym (digit (ltb 1 code)))
 
 pub mask-of-spec : {M : Type 1} → statement M
 mask-of-spec = tie.close (tie.spec cast-basic shl-result shl-result-2 returns)

@@ -56,11 +56,17 @@ fn cell_of<const W: usize>(record: &[u8], s: usize, o: usize) -> u32 {
     u32::from_be_bytes(bytes)
 }
 
-/// The bits by which a right is held: its own, and for a plain basic right the starred one.
+/// The bits by which a right is held: its own, and for a basic right the starred one, whose code is odd, and own's, which is bit 0.
 #[inline(always)]
 fn held_mask(right: u64) -> u32 {
-    let plain_basic = u32::from(right >= 2 && right.is_multiple_of(2));
-    (1 | plain_basic << 1) << right
+    let basic = u32::from(right >= 2);
+    1 << right | 1 << (right as u32 | basic) | basic
+}
+
+/// Whether own makes a right held: every right but control.
+#[inline(always)]
+fn held_by_own(right: usize) -> bool {
+    right != 1
 }
 
 /// Whether the names and the right of a question are those of a record of n subject names and p plain names.

@@ -1,5 +1,6 @@
 //! The list of commands of a leak, written into the caller's buffer.
 
+use super::held_by_own;
 use super::safety::Question;
 
 /// A list under way.
@@ -48,7 +49,7 @@ impl<'a> Witness<'a> {
         } else {
             self.put(10, v, 0, q.o, 0);
         }
-        let held = (q.right == 0 && q.s == v) || (q.right == 1 && q.s == q.o);
+        let held = (held_by_own(q.right) && q.s == v) || (q.right == 1 && q.s == q.o);
         if held {
             return self.finish();
         }
@@ -63,7 +64,7 @@ impl<'a> Witness<'a> {
         for &w in path.iter().rev() {
             self.put(13, v, w as usize, 0, 0);
         }
-        if q.right == 0 && q.s == v {
+        if held_by_own(q.right) && q.s == v {
             return self.finish();
         }
         let refused = match q.right {

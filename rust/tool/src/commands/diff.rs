@@ -101,7 +101,7 @@ fn in_json(old: &Record, new: &Station, changes: &Changes, differs: bool) -> Str
                 ("login", json::name(Name::Login(m.login), names)),
                 ("over", json::name(m.over, names)),
                 ("right", json::right(m.right, names)),
-                ("held", (gained || m.still_held).to_string()),
+                ("held", (gained || m.still_by.is_some()).to_string()),
             ])
         }))
     };

@@ -1,6 +1,7 @@
 //! `held FILE LOGIN COLUMN RIGHT` and `who FILE COLUMN RIGHT`: whether a login holds a right, and all who do.
 
 use crate::answer::Answer;
+use crate::held_by::{self, held_by};
 use crate::input::{Station, station};
 use crate::json;
 use crate::library::{self, Refusal};
@@ -28,8 +29,9 @@ pub fn held(given: &Given) -> Answered<Answer> {
         return Ok(Answer::new(format!("{answer}\n"), held));
     }
     let verb = if held { "holds" } else { "does not hold" };
+    let by = held_by::told(held_by(record, login, column, right), names);
     let mut text = format!(
-        "{} {verb} {} over {}.\n",
+        "{} {verb} {} over {}{by}.\n",
         names.name(who),
         names.right(right),
         names.name(over)

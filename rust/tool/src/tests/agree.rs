@@ -52,7 +52,7 @@ fn differences_make_the_new_record_of_the_old() {
                 moved.gained
             );
             let still = held(&new, moved.login, column_of(moved.over), moved.right);
-            assert_eq!(still, Ok(moved.gained || moved.still_held));
+            assert_eq!(still, Ok(moved.gained || moved.still_by.is_some()));
         }
         assert_eq!(made, new);
         assert_eq!(differences.is_empty(), old == new);
