@@ -144,7 +144,8 @@ fn needed_names_exist(state: &State, c: &Command) -> bool {
     }
 }
 
-/// Whether i has the right that the table asks of it (Manual 5.2).
+/// Whether i has the right that the table asks of it (Manual 5.2). Only the bit itself does here: who owns o, and
+/// so holds every basic right over it, still has to have the star to transfer one.
 fn has_right_needed(state: &State, c: &Command) -> bool {
     let s = Name::Subject(c.s);
     let owns_o = state.has(c.i, c.o, Right::Own);

@@ -7,7 +7,8 @@ use crate::safety::question;
 
 /// Whether the bytes are a list by which s comes to hold the right over o: a list of the right form, of at most
 /// n + 2 commands, none begun by a trusted subject, each accepted in turn with all its names within the record,
-/// and the right held after the last. Gives the number of commands, or what is wrong in words.
+/// and the right held after the last, a basic right by owning o too. Gives the number of commands, or what is
+/// wrong in words.
 pub fn leaks_by(
     record: &[u8],
     trust: u64,

@@ -56,13 +56,16 @@ impl Cell {
         self.0 & Cell::bit(right) != 0
     }
 
-    /// Whether a right is held (Manual 1.3): by its own bit, or plain by the starred one.
+    /// Whether a right is held (Manual 1.3). Own and control are held by their bits alone. A basic right is held
+    /// by its bit, plain by the starred bit too, and in both forms by own. The commands do not ask this; they
+    /// look at the bits, by `has`.
     pub fn held(self, right: Right) -> bool {
         match right {
-            Right::Basic(k, Form::Plain) => {
-                self.has(right) || self.has(Right::Basic(k, Form::Starred))
+            Right::Own | Right::Control => self.has(right),
+            Right::Basic(k, _) => {
+                let starred = Right::Basic(k, Form::Starred);
+                self.has(right) || self.has(starred) || self.has(Right::Own)
             }
-            _ => self.has(right),
         }
     }
 

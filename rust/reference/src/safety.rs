@@ -50,6 +50,10 @@ pub fn buffer_minimum(n: u64) -> usize {
 /// subject exists, and o is absent, or an untrusted subject is above o, or the right is basic and an untrusted
 /// subject has it starred over o.
 ///
+/// A basic right is held at the start by an s that owns o, too, trusted or not. That own counts so makes no
+/// further question leak: where s comes to own o later, own over o leaks, so o is absent or an untrusted subject
+/// is above it, and then the basic right leaks by a grant as well.
+///
 /// That own over a plain object can be transferred, as well as granted, makes no further question leak: the one
 /// who begins it owns the object, and so is above it, and the object has an owner afterwards, so that it does
 /// not become absent.
@@ -80,7 +84,8 @@ fn possible(q: &Question) -> bool {
     }
 }
 
-/// Whether the right is basic and v has it starred over o.
+/// Whether the right is basic and v has its starred bit over o, with which v can transfer it. Own does not do
+/// here, but an untrusted owner is above o.
 fn has_star(state: &State, v: u64, q: &Question) -> bool {
     match q.right {
         Right::Basic(k, _) => state.has(v, q.o, Right::Basic(k, Form::Starred)),

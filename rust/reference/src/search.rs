@@ -10,7 +10,7 @@
 //!   existence, owners and the walk are read from own and control. So commands with another k can be left out,
 //!   however many the record's version has, and with own or control all commands 1, 2, 4, 5, 8, 9. The k asked is
 //!   below the bound of the record's version, which is the bound in the lists too, so no command is tried that
-//!   the definition refuses by 7.
+//!   the definition refuses by 7. Own over o, by which the right asked is held as well, is never left out.
 //! * A plain column other than o is never read by a rule about another column. So commands over other plain
 //!   names, in the record or beyond it, can be left out.
 //! * A basic bit of a column other than o is never read by a rule about another cell than its column's.
@@ -36,7 +36,8 @@ pub struct Names {
 }
 
 /// Whether some list of commands over these names, begun by untrusted subjects, leads to a state in which the
-/// right asked is held. The empty list counts.
+/// right asked is held. The empty list counts. A list ends as soon as the right is held, so for a basic right it
+/// ends where s comes to own o.
 pub fn leaks_by_definition(start: &State, q: &Question, names: &Names) -> bool {
     leaks_by_codes(start, q, names, 1..=13)
 }

@@ -64,7 +64,7 @@ impl State {
         self.cell(row, column).has(right)
     }
 
-    /// Whether the right is held; for a plain basic right the starred bit does too.
+    /// Whether the right is held: by its bit, or by another that counts as holding it.
     pub fn held(&self, row: u64, column: Name, right: Right) -> bool {
         self.cell(row, column).held(right)
     }

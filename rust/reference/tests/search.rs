@@ -196,6 +196,31 @@ fn all_columns_with_a_plain_name_beyond() {
     }
 }
 
+/// Without grants and transfers of basic rights, a basic right is come to by owning o, and in no other way: the
+/// search finds it where it is held at the start or own over o leaks.
+#[test]
+fn basic_rights_by_own_alone() {
+    let mut random = Random(106);
+    let (mut safe, mut leaking) = (0, 0);
+    for (version, rights) in [(Version::One, [2, 15]), (Version::Two, [3, 30])] {
+        for _ in 0..60 {
+            let station = station(version, 3, 1, &mut random);
+            for q in questions(&station, &rights) {
+                let (state, names) = projected(&station.state, &q, 3);
+                let codes = [3, 6, 7, 8, 9, 10, 11, 12, 13];
+                let found = leaks_by_codes(&state, &q, &names, codes);
+                let at_start = state.held(q.s, q.o, q.right);
+                let right = Right::Own;
+                let owned = leaks(&station, &Question { right, ..q });
+                assert_eq!(found, at_start || owned, "{station:?} {q:?}");
+                leaking += u64::from(found && !at_start);
+                safe += u64::from(!found);
+            }
+        }
+    }
+    assert!(safe > 0 && leaking > 0, "both answers occur");
+}
+
 /// Transfers of own alone take a plain object from an untrusted owner to every subject that exists, and to no
 /// other.
 #[test]

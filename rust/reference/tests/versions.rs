@@ -87,24 +87,25 @@ fn a_high_bit_is_not_written_at_version_1() {
 
 #[test]
 fn a_code_is_the_number_of_the_bit() {
-    // Own and one more bit in the cell of row 2 and log 3; the codes over 1 that are then held.
-    let cells: [([u8; 4], &[u64]); 8] = [
-        ([0x00, 0x00, 0x00, 0x05], &[2]),
-        ([0x00, 0x00, 0x80, 0x01], &[14, 15]),
-        ([0x00, 0x01, 0x00, 0x01], &[16]),
-        ([0x00, 0x02, 0x00, 0x01], &[16, 17]),
-        ([0x00, 0x80, 0x00, 0x01], &[22, 23]),
-        ([0x01, 0x00, 0x00, 0x01], &[24]),
-        ([0x40, 0x00, 0x00, 0x01], &[30]),
-        ([0x80, 0x00, 0x00, 0x01], &[30, 31]),
+    // One bit in the cell of row 1 and log 3, which 2 owns; the codes that are then held.
+    let cells: [([u8; 4], &[u64]); 9] = [
+        ([0x00, 0x00, 0x00, 0x04], &[2]),
+        ([0x00, 0x00, 0x00, 0x08], &[2, 3]),
+        ([0x00, 0x00, 0x80, 0x00], &[14, 15]),
+        ([0x00, 0x01, 0x00, 0x00], &[16]),
+        ([0x00, 0x02, 0x00, 0x00], &[16, 17]),
+        ([0x00, 0x80, 0x00, 0x00], &[22, 23]),
+        ([0x01, 0x00, 0x00, 0x00], &[24]),
+        ([0x40, 0x00, 0x00, 0x00], &[30]),
+        ([0x80, 0x00, 0x00, 0x00], &[30, 31]),
     ];
     for (cell, codes) in cells {
-        let record = with(&A2, 51, cell);
+        let record = with(&A2, 35, cell);
         assert_eq!(write(&read(&record).unwrap()), record);
         for code in 0..32 {
-            let yes = code == 0 || codes.contains(&code);
-            assert_eq!(held(&record, 2, 3, code), answer(0, yes.into()), "{code}");
-            assert_eq!(held(&record, 1, 3, code), answer(0, 0), "{code}");
+            let yes = codes.contains(&code);
+            assert_eq!(held(&record, 1, 3, code), answer(0, yes.into()), "{code}");
+            assert_eq!(held(&record, 0, 3, code), answer(0, 0), "{code}");
         }
     }
 }
@@ -141,10 +142,10 @@ fn a_code_that_the_version_has_not_is_refused_by_7() {
         }
     }
     for code in only_at_2 {
-        assert_eq!(held(&A2, 2, 3, code), answer(0, 0), "{code}");
-        assert_eq!(safety(&A2, 0, 2, 3, code, 34), Safety::Refused(15));
-        assert_eq!(safety(&A2, 0, 2, 3, code, 35), Safety::Leaks, "{code}");
-        assert_eq!(safety(&A2, 7, 2, 3, code, 35), Safety::Safe, "{code}");
+        assert_eq!(held(&A2, 1, 3, code), answer(0, 0), "{code}");
+        assert_eq!(safety(&A2, 0, 1, 3, code, 34), Safety::Refused(15));
+        assert_eq!(safety(&A2, 0, 1, 3, code, 35), Safety::Leaks, "{code}");
+        assert_eq!(safety(&A2, 7, 1, 3, code, 35), Safety::Safe, "{code}");
     }
     // The names' bounds are the same at both versions.
     for (s, o) in [(3, 3), (2, 4)] {
@@ -297,9 +298,11 @@ fn the_papers_questions_at_version_2() {
         let grant = 4 + code as u8 % 2;
         let list = write_list(&[[13, 1, 2, 0, 0], [grant, 1, 1, 3, k]]);
         assert_eq!(leaks_by(&A2, 5, 1, 3, code, &list), Ok(2));
-        // Another k does not do.
-        let other = write_list(&[[13, 1, 2, 0, 0], [grant, 1, 1, 3, (k + 8) % 15]]);
-        assert!(leaks_by(&A2, 5, 1, 3, code, &other).is_err());
+        // For U, which does not come to own the log, another k does not do.
+        for (granted, leaks) in [(k, true), ((k + 8) % 15, false)] {
+            let list = write_list(&[[13, 1, 2, 0, 0], [grant, 1, 0, 3, granted]]);
+            assert_eq!(leaks_by(&A2, 5, 0, 3, code, &list).is_ok(), leaks);
+        }
         assert_eq!(asked(&B2, [1, 1, 2, code]), Safety::Safe);
         assert_eq!(asked(&B2, [0, 1, 2, code]), Safety::Leaks);
         let list = write_list(&[[10, 0, 0, 2, 0], [12, 0, 1, 0, 0], [5, 0, 1, 2, k]]);
