@@ -4,7 +4,7 @@ use Prim.Native.Nat.{ℕ, suc, _+_, _≤_, _<_}
 use native.Mathlib.Omega.{arith}
 use mathlib.Core.Path.{_≡_, sym, subst}
 use mathlib.Core.Logic.{_≢_, ⊎-elim}
-use mathlib.Core.Bool.{Bool, true, false≢true}
+use mathlib.Core.Bool.{Bool, true, false, cond, false≢true}
 use mathlib.Core.List.{List, [], _∷_}
 use lib.ListN.{length}
 use Rattle.matrix.specs.declared.Name.{Name}
@@ -14,15 +14,25 @@ use Rattle.matrix.specs.Names.{isSubject}
 use Rattle.matrix.specs.State.{State, exists, existsName}
 use Rattle.matrix.specs.Owners.{Above, owner}
 use Rattle.matrix.specs.Valid.{Valid}
-use Rattle.laws.specs.Tests.{fails}
+use Rattle.laws.specs.Tests.{way, fails}
 use Rattle.owners.specs.Rooted.{above-trans}
 use Rattle.kept.specs.Parts.{above-owns}
-use Rattle.route.specs.Parts.{among}
-use Rattle.chain.specs.Distinct.{among-cases, among-none, Distinct, distinct-few}
+use Rattle.route.specs.Parts.{untilOwner, among}
+use Rattle.chain.specs.Distinct.{among-here, among-later, among-cases, among-none, Distinct, distinct-few}
 
 pub data Chain (owns : ℕ → Name → Bool) (o : Name) : ℕ → List ℕ → Type 0 where
   last : {v : ℕ} → owns v o ≡ true → Chain owns o v []
   link : {v w : ℕ} {ws : List ℕ} → owns v (Subject w) ≡ true → Chain owns o w ws → Chain owns o v (w ∷ ws)
+
+-- those up to the first that owns the name are some of the same subjects
+pub among-until : (owns : ℕ → Name → Bool) (o : Name) (u : ℕ) (ws : List ℕ) → among u (untilOwner owns o ws) ≡ true → among u ws ≡ true
+unfolding untilOwner
+among-until owns o u [] m = m
+among-until owns o u (w ∷ ws) m =
+    ⊎-elim (λ q. subst (λ (x : ℕ). among x (w ∷ ws) ≡ true) (sym q) (among-here w ws))
+    (λ l. among-later u w ws
+    (⊎-elim (λ e. absurd (among-none u (rw e at l))) (λ e. among-until owns o u ws (rw e at l)) (way (owns w o))))
+    (among-cases u w (cond (owns w o) [] (untilOwner owns o ws)) m)
 
 module _ {owns : ℕ → Name → Bool} {o : Name} where
   -- the first is above the name, and above every other of the chain; so all are above the name
@@ -40,6 +50,14 @@ module _ {owns : ℕ → Name → Bool} {o : Name} where
   member-above {v} u (last h) m = ⊎-elim (λ e. subst (λ (x : ℕ). Above owns o x) (sym e) (owner h)) (λ l. absurd (among-none u l)) (among-cases u v [] m)
   member-above {v} u (link {w = w} {ws = ws} h c) m =
       ⊎-elim (λ e. subst (λ (x : ℕ). Above owns o x) (sym e) (chain-above (link h c))) (λ l. member-above u c l) (among-cases u v (w ∷ ws) m)
+
+  -- the chain down to the first after v that owns the name is one too
+  pub until-chain : {v : ℕ} {ws : List ℕ} → Chain owns o v ws → Chain owns o v (untilOwner owns o ws)
+  unfolding untilOwner
+  until-chain (last h) = last h
+  until-chain (link {w = w} {ws = ws} h c) =
+      let rest : Chain owns o w (cond (owns w o) [] (untilOwner owns o ws)) = ⊎-elim (λ e. rw e (last e)) (λ e. rw e (until-chain c)) (way (owns w o)) in
+      link h rest
 
 -- In a valid state nobody is met again, so that the chain has no repetition and does not come to o itself.
 module _ {S : State} (V₁ : Valid S) {o : Name} where

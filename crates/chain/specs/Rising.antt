@@ -23,10 +23,10 @@ use Rattle.owners.specs.Framed.{Framed, ownerIn, found-owns, valid-framed, owne
 use Rattle.owners.specs.Climb.{climbIn, climb-up, climb-ends, owner-of-below, owner-of-exists}
 use Rattle.owners.specs.Walk.{root-top}
 use Rattle.kept.specs.Parts.{Up}
-use Rattle.route.specs.Parts.{among}
+use Rattle.route.specs.Parts.{untilOwner, among}
 use Rattle.route.specs.Rise.{Risen, meets-at, none, rise, rises}
 use Rattle.chain.specs.Distinct.{among-cases, among-none, among-here}
-use Rattle.chain.specs.Chain.{Chain, last, link, above-there, chain-apart, chain-bound, chain-few, chain-fewer, member-above}
+use Rattle.chain.specs.Chain.{Chain, last, link, above-there, chain-apart, chain-bound, chain-few, chain-fewer, member-above, until-chain, among-until}
 
 -- One subject on the way: it is untrusted, or it is U, or the way goes on to its owner, or it has none.
 module _ (top : ℕ) (owns : ℕ → Name → Bool) (trusted : ℕ → Bool) (left w : ℕ) (passed : List ℕ) where
@@ -137,20 +137,32 @@ pub record Met (S : State) (trusted : ℕ → Bool) (o : Name) (v : ℕ) (ws : L
   pub few : length ws + 1 ≤ S .top
   pub fewer : isSubject o ≡ true → length ws + 2 ≤ S .top
 
+-- all of it follows from the chain
+met-by : {S : State} → Valid S → {trusted : ℕ → Bool} {o : Name} {v : ℕ} {ws : List ℕ} → trusted v ≡ false → Chain (S .owns) o v ws
+    → ((u : ℕ) → among u ws ≡ true → trusted u ≡ true) → Met S trusted o v ws
+met-by V₁ {o = o} {v = v} {ws = ws} untrusted chain trusting =
+    record {
+      untrusted = untrusted;
+      there = above-there V₁ v (member-above v chain (among-here v ws));
+      chain = chain;
+      trusting = trusting;
+      above = λ u m. member-above u chain m;
+      existing = λ u m. above-there V₁ u (member-above u chain m);
+      apart = λ u m. chain-apart V₁ u chain m;
+      below = λ u m. chain-bound V₁ u chain m;
+      few = chain-few V₁ chain;
+      fewer = λ k. chain-fewer V₁ o k chain;
+    }
+
 pub rise-meets : (S : State) → Valid S → (trusted : ℕ → Bool) (o : Name) (w v : ℕ) (ws : List ℕ) → S .owns w o ≡ true
     → riseIn S trusted (S .top) w [] ≡ meets-at v ws → Met S trusted o v ws
 rise-meets S V₁ trusted o w v ws own h =
     let r : Reached (S .owns) trusted o v ws =
     subst (Reaches (S .owns) trusted o) h (reaches S trusted o (S .top) w [] (last own) (λ u m. absurd (among-none u m))) in
-    record {
-      untrusted = r .untrusted;
-      there = above-there V₁ v (member-above v (r .chain) (among-here v ws));
-      chain = r .chain;
-      trusting = r .trusting;
-      above = λ u m. member-above u (r .chain) m;
-      existing = λ u m. above-there V₁ u (member-above u (r .chain) m);
-      apart = λ u m. chain-apart V₁ u (r .chain) m;
-      below = λ u m. chain-bound V₁ u (r .chain) m;
-      few = chain-few V₁ (r .chain);
-      fewer = λ k. chain-fewer V₁ o k (r .chain);
-    }
+    met-by V₁ (r .untrusted) (r .chain) (r .trusting)
+
+-- The same holds of those between v and the first that owns o.
+pub met-until : {S : State} → Valid S → {trusted : ℕ → Bool} {o : Name} {v : ℕ} {ws : List ℕ} → Met S trusted o v ws
+    → Met S trusted o v (untilOwner (S .owns) o ws)
+met-until {S} V₁ {o = o} {ws = ws} m =
+    met-by V₁ (m .untrusted) (until-chain (m .chain)) (λ u a. m .trusting u (among-until (S .owns) o u ws a))

@@ -9,7 +9,7 @@ use Rattle.matrix.specs.Shape.{mostSubjects}
 use Rattle.matrix.specs.Reading.{stateOf}
 use Rattle.route.specs.Rise.{Risen, meets-at, none}
 use Rattle.chain.specs.Rising.{riseIn}
-use Rattle.ways.specs.Ways.{Way, riser, wayUp, wayOver}
+use Rattle.ways.specs.Ways.{Way, from-above, no-way, riser, risenOver, wayOver}
 use Rattle.ways.specs.Path.{listed}
 use Rattle.climbing.specs.declared.Climbed.{Climbed}
 use Rattle.climbing.specs.declared.Climbed.the-variants.{At, None}
@@ -20,7 +20,8 @@ risenTo path (At v m) = meets-at v (listed path m)
 risenTo path None = none
 
 abbrev pub climbedTo : List ℕ → Climbed → Way
-climbedTo path r = wayUp (risenTo path r)
+climbedTo path (At v m) = from-above v (listed path m)
+climbedTo path None = no-way
 
 -- what is met is a subject of the record, and so are those passed, which are fewer than the record's subjects
 pub record Found (n : ℕ) (path : List ℕ) (r : Climbed) : Type 0 where
@@ -41,8 +42,14 @@ pub record OwnerRises (b : List ℕ) (n : ℕ) (trusted : ℕ → Bool) (x : Nam
   pub size : length path ≡ mostSubjects
   pub found : Found n path r
 
--- the answer to the way over an existing name x
+-- the answer to the way up from the lowest owner of an existing name x from whom one meets an untrusted subject
 pub record Climbs (b : List ℕ) (n : ℕ) (trusted : ℕ → Bool) (x : Name) (path : List ℕ) (r : Climbed) : Type 0 where
+  pub risen : risenOver (stateOf b) trusted x ≡ risenTo path r
+  pub size : length path ≡ mostSubjects
+  pub found : Found n path r
+
+-- the answer to the way over an existing name x
+pub record Leads (b : List ℕ) (n : ℕ) (trusted : ℕ → Bool) (x : Name) (path : List ℕ) (r : Climbed) : Type 0 where
   pub way : wayOver (stateOf b) trusted x ≡ climbedTo path r
   pub size : length path ≡ mostSubjects
   pub found : Found n path r

@@ -4,4 +4,5 @@ pub mod Rising
 pub mod Lowest
 pub mod Passing
 pub mod Over
+pub mod Needed
 pub mod Targets

@@ -23,10 +23,10 @@ use Rattle.cells.specs.Blocks.{blockHas, blocks-clear}
 use Rattle.states.specs.Needs.{NameIn, Guessed}
 use Rattle.states.specs.Reads.{top-is, read-bit, owner-guessed}
 use Rattle.chain.specs.Rising.{riseIn}
-use Rattle.ways.specs.Ways.{riser, wayUp, wayOver}
+use Rattle.ways.specs.Ways.{riser, wayUp, risenOver}
 use Rattle.climbing.specs.declared.Climbed.{Climbed}
 use Rattle.climbing.specs.declared.Climbed.the-variants.{At, None}
-use Rattle.climbing.specs.Climbs.{risenTo, Rises, OwnerRises, Climbs}
+use Rattle.climbing.specs.Climbs.{risenTo, climbedTo, Rises, OwnerRises, Climbs, Leads}
 use Rattle.climbing.specs.Rising.{found-none}
 use Rattle.climbing.specs.Lowest.{least-before, least-most}
 
@@ -65,23 +65,23 @@ module _ {b : List ℕ} {f : Shape} {trusted : ℕ → Bool} {x : Name} {path : 
   -- the first whose way up meets an untrusted subject
   pub climbs-met : {w v m : ℕ} {r : Climbed} → w < f .n → any w (riser (stateOf b) trusted x) ≡ false → OwnerRises b (f .n) trusted x w path r
       → r ≡ At v m → Climbs b (f .n) trusted x path r
-  unfolding wayOver
+  unfolding risenOver
   climbs-met {w} {v} {m} {r} l before g e =
       let top : stateOf b .top ≡ f .n = top-is b f h in
       let own : stateOf b .owns w x ≡ true = g .met v m e .0 in
       let up : riseIn (stateOf b) trusted (stateOf b .top) w [] ≡ risenTo path r = g .met v m e .1 in
       let hit : riser (stateOf b) trusted x w ≡ true = rw (own, up, e) refl in
       let first : least (stateOf b .top) (riser (stateOf b) trusted x) ≡ w = least-hit (stateOf b .top) (riser (stateOf b) trusted x) w (omega arith) before hit in
-      record { way = rw (first, lt-ltb w (stateOf b .top) (omega arith)) (ap wayUp up); size = g .size; found = g .found }
+      record { risen = rw (first, lt-ltb w (stateOf b .top) (omega arith)) up; size = g .size; found = g .found }
 
   pub climbs-none : any (f .n) (riser (stateOf b) trusted x) ≡ false → length path ≡ mostSubjects → Climbs b (f .n) trusted x path None
-  unfolding wayOver
+  unfolding risenOver
   climbs-none before e =
       let top : stateOf b .top ≡ f .n = top-is b f h in
       let a : any (stateOf b .top) (riser (stateOf b) trusted x) ≡ false =
       subst (λ (m : ℕ). any m (riser (stateOf b) trusted x) ≡ false) (sym top) before in
       let last : least (stateOf b .top) (riser (stateOf b) trusted x) ≡ stateOf b .top = least-none (stateOf b .top) (riser (stateOf b) trusted x) a in
-      record { way = rw (last, le-ltb (stateOf b .top) (stateOf b .top) (omega arith)) refl; size = e; found = found-none (f .n) path }
+      record { risen = rw (last, le-ltb (stateOf b .top) (stateOf b .top) (omega arith)) refl; size = e; found = found-none (f .n) path }
 
 -- ---- a plain object
 
@@ -127,6 +127,16 @@ module _ {b owners : List ℕ} {f : Shape} (h : Guessed b f owners) (v : ℕ) {w
 pub named-as : {b : List ℕ} {f : Shape} {x x₁ : Name} → NameIn b f x → x ≡ x₁ → NameIn b f x₁
 named-as {b} {f} h e = subst (NameIn b f) e h
 
-pub climbs-over : {b : List ℕ} {n : ℕ} {trusted : ℕ → Bool} {x x₁ : Name} {path : List ℕ} {r : Climbed} → x ≡ x₁ → Climbs b n trusted x₁ path r
-    → Climbs b n trusted x path r
-climbs-over {b} {n} {trusted} {path = path} {r = r} e h = subst (λ (x : Name). Climbs b n trusted x path r) (sym e) h
+pub leads-over : {b : List ℕ} {n : ℕ} {trusted : ℕ → Bool} {x x₁ : Name} {path : List ℕ} {r : Climbed} → x ≡ x₁ → Leads b n trusted x₁ path r
+    → Leads b n trusted x path r
+leads-over {b} {n} {trusted} {path = path} {r = r} e h = subst (λ (x : Name). Leads b n trusted x path r) (sym e) h
+
+-- over a subject all that were passed are needed
+pub leads-subject : {b : List ℕ} {n : ℕ} {trusted : ℕ → Bool} {path : List ℕ} (v : ℕ) (r : Climbed) → Climbs b n trusted (Subject v) path r
+    → Leads b n trusted (Subject v) path r
+leads-subject {b} {n} {trusted} {path} v r h =
+    record { way = ap (wayUp (stateOf b) (Subject v)) (h .risen) ∙ all r; size = h .size; found = h .found }
+  where
+    all : (r : Climbed) → wayUp (stateOf b) (Subject v) (risenTo path r) ≡ climbedTo path r
+    all (At w m) = refl
+    all None = refl

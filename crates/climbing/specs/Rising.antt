@@ -59,7 +59,7 @@ abbrev Within : ℕ → List ℕ → Climbed → Type 0
 Within n path (At v m) = (v < n) × (m < n) × ((j : ℕ) → j < m → getD path j 0 < n)
 Within n path None = Unit
 
-found-by : (n : ℕ) (path : List ℕ) (r : Climbed) → Within n path r → Found n path r
+pub found-by : (n : ℕ) (path : List ℕ) (r : Climbed) → Within n path r → Found n path r
 found-by n path r h =
     record {
       subject = λ v m e. subst (Within n path) e h .0;

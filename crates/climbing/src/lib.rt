@@ -8,7 +8,7 @@ use matrix::Right;
 use matrix::Shape;
 use matrix::Walked;
 ghost use mathlib.Core.Path.{_≡_};
-ghost use Prim.Native.Nat.{_<_};
+ghost use Prim.Native.Nat.{_+_, _≤_, _<_};
 ghost use lib.ListN.{length};
 ghost use Rattle.matrix.specs.Bounded.{least};
 ghost use Rattle.matrix.specs.Owners.{walk, meets};
@@ -18,8 +18,11 @@ ghost use Rattle.states.specs.Needs.{RightIn, NameIn, Guessed};
 ghost use Rattle.question.specs.Trust.{trustedBy};
 ghost use Rattle.safe.specs.Possible.{possible};
 ghost use Rattle.finish.specs.Finish.{againNeeded};
+ghost use Rattle.route.specs.Parts.{untilOwner};
 ghost use Rattle.ways.specs.Ways.{starHolder};
-ghost use Rattle.climbing.specs.Climbs.{Rises, OwnerRises, Climbs};
+ghost use Rattle.ways.specs.Path.{listed};
+ghost use Rattle.climbing.specs.Climbs.{Rises, OwnerRises, Climbs, Found, Leads};
+ghost use Rattle.climbing.specs.Needed.{Passes, Moved, Shortened};
 ghost use Rattle.climbing.specs.Shut.{ShutAll, Next};
 
 // What the way up finds: the first untrusted subject and how many trusted ones were passed, or none.
@@ -147,6 +150,44 @@ fn way_over_plain(
     Climbed::None
 }
 
+// How many of the m subjects of a path, the last first, are needed down to the first that owns plain object o.
+fn needed_of(b: &[u8], f: Shape, o: usize, path: &[u8; MOST_SUBJECTS], m: usize) -> usize
+    requires { ⌜ NameIn (now b) f (Name.Plain o) × Passes (now path) (f .n) m ⌝ }
+    ensures { λ k. ⌜ k ≡ length (untilOwner (stateOf (now (b .entry)) .owns) (Name.Plain o) (listed (now (path .entry)) m)) ⌝ }
+{
+    for t in 1..m {
+        if states::has_bit(b, f, Right::Own, path[m - t] as usize, Name::Plain(o)) {
+            return t;
+        }
+    }
+    m
+}
+
+// The k subjects of a path from place `from` on become its first.
+fn keep_last(path: &mut [u8; MOST_SUBJECTS], from: usize, k: usize)
+    requires { ⌜ (length (now path) ≡ mostSubjects) × (from + k ≤ mostSubjects) ⌝ }
+    ensures { λ _. ⌜ Moved (now (path .entry)) (now (path .exit)) from k ⌝ }
+{
+    for j in 0..k {
+        path[j] = path[from + j];
+    }
+}
+
+// A way over plain object o without the subjects below the highest on it that owns o: where that one is destroyed, o is inherited.
+fn shortened(b: &[u8], f: Shape, o: usize, r: Climbed, path: &mut [u8; MOST_SUBJECTS]) -> Climbed
+    requires { ⌜ NameIn (now b) f (Name.Plain o) × (length (now path) ≡ mostSubjects) × Found (f .n) (now path) r ⌝ }
+    ensures { λ q. ⌜ Shortened (now (b .entry)) (f .n) o (now (path .entry)) (now (path .exit)) r q ⌝ }
+{
+    match r {
+        Climbed::At(v, m) => {
+            let k = needed_of(b, f, o, path, m);
+            keep_last(path, m - k, k);
+            Climbed::At(v, k)
+        }
+        Climbed::None => Climbed::None,
+    }
+}
+
 // The way over an existing name x of a valid record.
 pub fn way_up(
     b: &[u8],
@@ -157,11 +198,14 @@ pub fn way_up(
     path: &mut [u8; MOST_SUBJECTS],
 ) -> Climbed
     requires { ⌜ NameIn (now b) f x × Guessed (now b) f (now owners) × (length (now path) ≡ mostSubjects) ⌝ }
-    ensures { λ r. ⌜ Climbs (now (b .entry)) (f .n) (trustedBy trust) x (now (path .exit)) r ⌝ }
+    ensures { λ r. ⌜ Leads (now (b .entry)) (f .n) (trustedBy trust) x (now (path .exit)) r ⌝ }
 {
     match x {
         Name::Subject(v) => way_over_subject(b, f, trust, v, owners, path),
-        Name::Plain(o) => way_over_plain(b, f, trust, o, owners, path),
+        Name::Plain(o) => {
+            let r = way_over_plain(b, f, trust, o, owners, path);
+            shortened(b, f, o, r, path)
+        }
     }
 }
 

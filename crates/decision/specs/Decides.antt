@@ -3,10 +3,11 @@ use Prim.Native.Nat.{ℕ, _≤_, _<_}
 use native.Mathlib.Omega.{arith}
 use mathlib.Core.Path.{_≡_, refl, sym, subst}
 use mathlib.Core.Bool.{Bool, true, false, cond, not, false≢true}
-use mathlib.Core.List.{[]}
+use mathlib.Core.List.{List, []}
 use lib.Dec.{ltb}
 use borrow.Author.Tests.{not-true, ltb-true, ltb-false}
 use Rattle.matrix.specs.declared.Name.{Name}
+use Rattle.matrix.specs.declared.Name.the-variants.{Subject}
 use Rattle.matrix.specs.declared.Form.the-variants.{Starred}
 use Rattle.matrix.specs.declared.Right.{Right}
 use Rattle.matrix.specs.declared.Right.the-variants.{Own, Basic}
@@ -30,8 +31,8 @@ use Rattle.safe.specs.Nobody.{nobody-safe}
 use Rattle.safe.specs.Impossible.{impossible-safe}
 use Rattle.safe.specs.Trusted.{guarded-safe}
 use Rattle.finish.specs.Reaches.{reaches-none, reaches-leak}
-use Rattle.chain.specs.Rising.{riseIn, none-above, rise-meets}
-use Rattle.ways.specs.Ways.{Way, held-now, by-star, by-creation, from-above, no-way, starHolder, untrustedIn, riser, wayUp, wayOver, wayMade, wayOf, listOf}
+use Rattle.chain.specs.Rising.{Met, riseIn, none-above, rise-meets, met-until}
+use Rattle.ways.specs.Ways.{Way, held-now, by-star, by-creation, from-above, no-way, starHolder, untrustedIn, riser, needed, wayUp, risenOver, wayOver, wayMade, wayOf, listOf}
 use Rattle.decision.specs.Sought.{Sought}
 use Rattle.decision.specs.Lists.{star-leaks, creation-leaks}
 use Rattle.decision.specs.Above.{above-leaks}
@@ -45,7 +46,7 @@ Says f S trusted s o x (from-above v ws) = LeaksBy f S trusted s o x (listOf S s
 Says f S trusted s o x no-way = Safe (basicsOf f) S trusted s o x
 
 -- a property of both branches, each with what its test says
-either : (P : Way → Type 0) (t : Bool) {w v : Way} → (t ≡ true → P w) → (t ≡ false → P v) → P (cond t w v)
+either : {A : Type 0} (P : A → Type 0) (t : Bool) {w v : A} → (t ≡ true → P w) → (t ≡ false → P v) → P (cond t w v)
 either P true f g = f refl
 either P false f g = g refl
 
@@ -56,6 +57,10 @@ none-below n f h i l = fails (f i) (λ e. let a : least n f < n = least-found n 
 not-risen : (r : Risen) → rises r ≡ false → r ≡ none
 not-risen (meets-at v ws) h = absurd (clash refl h)
 not-risen none h = refl
+
+met-needed : {S : State} {trusted : ℕ → Bool} → Valid S → (o : Name) {v : ℕ} {ws : List ℕ} → Met S trusted o v ws → Met S trusted o v (needed S o ws)
+met-needed valid (Subject a) m = m
+met-needed valid (Name.Plain a) m = met-until valid m
 
 module _ (f : Shape) (S : State) (trusted : ℕ → Bool) (s : ℕ) (o : Name) (x : Right) (valid : Valid S) (within : Within f S) (subject : s < f .n) (object : named (f .n) (f .p) o ≡ true) (right : basicNumber x < basicsOf f) where
   abbrev Here : Way → Type 0
@@ -89,14 +94,15 @@ module _ (f : Shape) (S : State) (trusted : ℕ → Bool) (s : ℕ) (o : Name) (
             (λ v e. holds (trusted v) (λ t. clash (and-both e (rw t refl)) (none-below (S .top) (untrustedIn S trusted) h v (valid .bound v e))))
 
     over : existsName S o ≡ true → ltb (least (S .top) (starHolder S trusted o x)) (S .top) ≡ false → Here (wayOver S trusted o)
-    unfolding wayOver
-    over there starless = either Here (ltb (least (S .top) (riser S trusted o)) (S .top)) up guarded
+    unfolding risenOver
+    over there starless = either (λ (r : Risen). Here (wayUp S o r)) (ltb (least (S .top) (riser S trusted o)) (S .top)) up guarded
       where
-        risen : (w : ℕ) (r : Risen) → riseIn S trusted (S .top) w [] ≡ r → S .owns w o ≡ true → rises r ≡ true → Here (wayUp r)
-        risen w (meets-at v ws) e own h = above-leaks f S trusted s o x v ws sought (rise-meets S valid trusted o w v ws own e)
+        risen : (w : ℕ) (r : Risen) → riseIn S trusted (S .top) w [] ≡ r → S .owns w o ≡ true → rises r ≡ true → Here (wayUp S o r)
+        risen w (meets-at v ws) e own h =
+            above-leaks f S trusted s o x v (needed S o ws) sought (met-needed valid o (rise-meets S valid trusted o w v ws own e))
         risen w none e own h = absurd (false≢true h)
 
-        up : ltb (least (S .top) (riser S trusted o)) (S .top) ≡ true → Here (wayUp (riseIn S trusted (S .top) (least (S .top) (riser S trusted o)) []))
+        up : ltb (least (S .top) (riser S trusted o)) (S .top) ≡ true → Here (wayUp S o (riseIn S trusted (S .top) (least (S .top) (riser S trusted o)) []))
         up h =
             let w : ℕ = least (S .top) (riser S trusted o) in
             let p : riser S trusted o w ≡ true = least-passes (S .top) (riser S trusted o) (ltb-true w (S .top) h) in

@@ -68,6 +68,11 @@ unfoldable pub destroysAll : ℕ → List ℕ → List Fields
 destroysAll v [] = []
 destroysAll v (w ∷ ws) = destroys v w ∷ destroysAll v ws
 
+-- the subjects of a list up to the first that owns o
+unfoldable pub untilOwner : (ℕ → Name → Bool) → Name → List ℕ → List ℕ
+untilOwner owns o [] = []
+untilOwner owns o (w ∷ ws) = w ∷ cond (owns w o) [] (untilOwner owns o ws)
+
 unfoldable pub among : ℕ → List ℕ → Bool
 among w [] = false
 among w (v ∷ vs) = eqb w v || among w vs

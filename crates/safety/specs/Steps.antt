@@ -21,7 +21,7 @@ use Rattle.ways.specs.Ways.{Way, held-now, by-star, by-creation, from-above, no
 use Rattle.writing.specs.Put.{putAll, putHead, putList}
 use Rattle.climbing.specs.declared.Climbed.{Climbed}
 use Rattle.climbing.specs.declared.Climbed.the-variants.{At}
-use Rattle.climbing.specs.Climbs.{Climbs, climbedTo}
+use Rattle.climbing.specs.Climbs.{Leads, climbedTo}
 use Rattle.ways.specs.Path.{listed}
 use Rattle.told.specs.Told.{Told}
 use Rattle.safety.specs.Asks.{Asks, Headed, PathOf}
@@ -99,7 +99,7 @@ headed-list out cs e f h =
     (h .buffer ∙ ap₂ (λ (l : List ℕ) (m : ℕ). putHead l m) e k, h .reply ∙ ap Leaks k)
 
 -- the way over an existing name, from the search for a way up
-module _ {b : List ℕ} {n : ℕ} {trusted : ℕ → Bool} {x : Name} {path : List ℕ} {r : Climbed} (h : Climbs b n trusted x path r) where
+module _ {b : List ℕ} {n : ℕ} {trusted : ℕ → Bool} {x : Name} {path : List ℕ} {r : Climbed} (h : Leads b n trusted x path r) where
   pub over-met : {v m : ℕ} → r ≡ At v m → wayOver (stateOf b) trusted x ≡ from-above v (listed path m)
   over-met e = h .way ∙ ap (λ (r : Climbed). climbedTo path r) e
 

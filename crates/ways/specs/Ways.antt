@@ -12,7 +12,7 @@ use Rattle.matrix.specs.declared.Fields.{Fields}
 use Rattle.matrix.specs.Bounded.{least}
 use Rattle.matrix.specs.Names.{columnOf, sameName}
 use Rattle.matrix.specs.State.{State, held, exists, existsName}
-use Rattle.route.specs.Parts.{fields, creates, createsName, passes, heldByOwn, finish, destroysAll, among}
+use Rattle.route.specs.Parts.{fields, creates, createsName, passes, heldByOwn, finish, destroysAll, untilOwner, among}
 use Rattle.route.specs.Rise.{Risen, meets-at, none, rises}
 use Rattle.safe.specs.Possible.{possible}
 use Rattle.safe.specs.Conditions.{hasStar}
@@ -38,14 +38,23 @@ untrustedIn S trusted v = exists S v && not (trusted v)
 abbrev pub riser : State → (ℕ → Bool) → Name → ℕ → Bool
 riser S trusted o w = S .owns w o && rises (riseIn S trusted (S .top) w [])
 
-abbrev pub wayUp : Risen → Way
-wayUp (meets-at v ws) = from-above v ws
-wayUp none = no-way
+-- Of the subjects that the way up passed those are destroyed that are needed. A subject has one owner, so that all are.
+abbrev pub needed : State → Name → List ℕ → List ℕ
+needed S (Subject a) ws = ws
+needed S (Name.Plain a) ws = untilOwner (S .owns) (Name.Plain a) ws
+
+abbrev pub wayUp : State → Name → Risen → Way
+wayUp S o (meets-at v ws) = from-above v (needed S o ws)
+wayUp S o none = no-way
+
+-- the way up from the lowest owner of o from whom one meets an untrusted subject
+unfoldable pub risenOver : State → (ℕ → Bool) → Name → Risen
+risenOver S trusted o =
+    cond (ltb (least (S .top) (riser S trusted o)) (S .top)) (riseIn S trusted (S .top) (least (S .top) (riser S trusted o)) []) none
 
 -- the way over an existing o, and over an absent one
-unfoldable pub wayOver : State → (ℕ → Bool) → Name → Way
-wayOver S trusted o =
-    cond (ltb (least (S .top) (riser S trusted o)) (S .top)) (wayUp (riseIn S trusted (S .top) (least (S .top) (riser S trusted o)) [])) no-way
+abbrev pub wayOver : State → (ℕ → Bool) → Name → Way
+wayOver S trusted o = wayUp S o (risenOver S trusted o)
 
 unfoldable pub wayMade : State → (ℕ → Bool) → Way
 wayMade S trusted =

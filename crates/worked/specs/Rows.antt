@@ -34,10 +34,10 @@ use Rattle.question.specs.Trust.{trustedBy}
 use Rattle.question.specs.declared.Safety.{Safety}
 use Rattle.question.specs.Leaks.{Untrusted}
 use Rattle.question.specs.Asked.{trustFits, listRoom, safetyRefusal, SafeRecord, LeaksRecord, Decided, Answers}
-use Rattle.route.specs.Parts.{fields, basicNumber, destroysAll, among}
+use Rattle.route.specs.Parts.{fields, basicNumber, destroysAll, untilOwner, among}
 use Rattle.route.specs.Rise.{rise}
 use Rattle.route.specs.RunsTo.{RunsTo, step}
-use Rattle.ways.specs.Ways.{Way, no-way, wayOver, wayMade, wayOf, listOf}
+use Rattle.ways.specs.Ways.{Way, no-way, risenOver, wayMade, wayOf, listOf}
 use Rattle.steps.specs.Runs.{run-runs, leaks-unsafe}
 use Rattle.decision.specs.Decides.{Says, decides}
 use Rattle.demands.specs.Refusals.{safety-numbered}
@@ -49,19 +49,19 @@ abbrev wayAt : List ℕ → ℕ → ℕ → ℕ → ℕ → Way
 wayAt b mask s o right = wayOf (stateOf b) (trustedBy mask) s (nameOf (shapeOf b .n) o) (rightOf right)
 
 A-7 : wayAt A 7 1 3 2 ≡ no-way
-unfolding A any all count least walkFrom firstFailed refusalOf refusal links next numberAt bit fromBits shapeOf cellAt bitAt stateOf climb validMatrix recordRefusal rise wayOver wayMade wayOf
+unfolding A any all count least walkFrom firstFailed refusalOf refusal links next numberAt bit fromBits shapeOf cellAt bitAt stateOf climb validMatrix recordRefusal rise risenOver wayMade wayOf
 A-7 = refl
 
 A-control : wayAt A 7 1 2 1 ≡ no-way
-unfolding A any all count least walkFrom firstFailed refusalOf refusal links next numberAt bit fromBits shapeOf cellAt bitAt stateOf climb validMatrix recordRefusal rise wayOver wayMade wayOf
+unfolding A any all count least walkFrom firstFailed refusalOf refusal links next numberAt bit fromBits shapeOf cellAt bitAt stateOf climb validMatrix recordRefusal rise risenOver wayMade wayOf
 A-control = refl
 
 A-1 : wayAt A 1 1 1 0 ≡ no-way
-unfolding A any all count least walkFrom firstFailed refusalOf refusal links next numberAt bit fromBits shapeOf cellAt bitAt stateOf climb validMatrix recordRefusal rise wayOver wayMade wayOf
+unfolding A any all count least walkFrom firstFailed refusalOf refusal links next numberAt bit fromBits shapeOf cellAt bitAt stateOf climb validMatrix recordRefusal rise risenOver wayMade wayOf
 A-1 = refl
 
 B-1 : wayAt B 1 1 2 3 ≡ no-way
-unfolding B any all count least walkFrom firstFailed refusalOf refusal links next numberAt bit fromBits shapeOf cellAt bitAt stateOf climb validMatrix recordRefusal rise wayOver wayMade wayOf
+unfolding B any all count least walkFrom firstFailed refusalOf refusal links next numberAt bit fromBits shapeOf cellAt bitAt stateOf climb validMatrix recordRefusal rise risenOver wayMade wayOf
 B-1 = refl
 
 -- Every question on a valid record, of names and a right within bounds, is decided.
@@ -198,5 +198,5 @@ pub record WrittenRows : Type 0 where
   pub b-creator-list : listAt B 0 0 2 3 ≡ fields 10 0 0 2 0 ∷ []
 
 pub written : WrittenRows
-unfolding A B any all count least walkFrom firstFailed refusalOf refusal links next numberAt bit fromBits shapeOf cellAt bitAt stateOf climb validMatrix recordRefusal rise wayOver wayMade wayOf destroysAll among
+unfolding A B any all count least walkFrom firstFailed refusalOf refusal links next numberAt bit fromBits shapeOf cellAt bitAt stateOf climb validMatrix recordRefusal rise risenOver wayMade wayOf destroysAll untilOwner among
 written = record { a-5-list = refl; a-6-up-list = refl; a-6-down-list = refl; b-0-list = refl; b-creator-list = refl }

@@ -171,6 +171,14 @@ pub fn safety(
     Ok(())
 }
 
+/// A list without its last command, where it has one.
+fn without_last(list: &[u8]) -> Option<Vec<u8>> {
+    let commands = list.len().checked_sub(5)?.checked_sub(6)? as u32;
+    let mut shorter = list[..list.len() - 6].to_vec();
+    shorter[1..5].copy_from_slice(&commands.to_be_bytes());
+    Some(shorter)
+}
+
 fn count_safety(expected: Safety, commands: usize, counts: &mut Counts) {
     match expected {
         Safety::Refused(refusal) => counts.add(Call::Safety, refusal),
@@ -218,6 +226,11 @@ fn safety_agrees(
         let run = leaks_by(record, trust, s, o, right, list)?;
         if run as u64 != commands {
             return Err(String::from("another number of commands than the list has"));
+        }
+        if without_last(list)
+            .is_some_and(|list| leaks_by(record, trust, s, o, right, &list).is_ok())
+        {
+            return Err(String::from("the right is held before the last command"));
         }
     }
     Ok(commands as usize)

@@ -1,7 +1,8 @@
 //! The list of commands of a leak, written into the caller's buffer.
 
-use super::held_by_own;
+use super::cell::OWN;
 use super::safety::Question;
+use super::{cell_of, held_by_own};
 
 /// A list under way.
 pub struct Witness<'a> {
@@ -59,8 +60,16 @@ impl<'a> Witness<'a> {
         self.give(q, v)
     }
 
-    /// v destroys the subjects between it and o, the highest first, so that it owns o, and gives the right over it.
+    /// v destroys the subjects between it and o, the highest first, down to one that owns o, so that it owns o itself, and gives the right
+    /// over it. Only a log may have more than one owner.
     pub fn by_owner<const W: usize>(mut self, q: &Question<W>, v: usize, path: &[u8]) -> u64 {
+        let path = match path {
+            [_, higher @ ..] if q.o >= q.n => {
+                let owns = |&w: &u8| cell_of::<W>(q.record, w as usize, q.o) & 1 << OWN != 0;
+                &path[higher.iter().rposition(owns).map_or(0, |at| at + 1)..]
+            }
+            _ => path,
+        };
         for &w in path.iter().rev() {
             self.put(13, v, w as usize, 0, 0);
         }
