@@ -74,9 +74,10 @@ extern "C" {
  *   #if BUNVESPO_LIBRARY_VERSION >= 4000      0.4.0 or later: the window of late refusals
  *   #if BUNVESPO_LIBRARY_VERSION >= 5000      0.5.0 or later: the limits of n and p, which were 64 and 192, are 40 and 120
  *   #if BUNVESPO_LIBRARY_VERSION >= 6000      0.6.0 or later: records of version 2, with fifteen basic rights, and the conversions
+ *   #if BUNVESPO_LIBRARY_VERSION >= 7000      0.7.0 or later: own counts as holding every basic right
  */
 #define BUNVESPO_VERSION_MAJOR 0
-#define BUNVESPO_VERSION_MINOR 6
+#define BUNVESPO_VERSION_MINOR 7
 #define BUNVESPO_VERSION_PATCH 0
 #define BUNVESPO_LIBRARY_VERSION (BUNVESPO_VERSION_MAJOR * 1000000 + BUNVESPO_VERSION_MINOR * 1000 + BUNVESPO_VERSION_PATCH)
 
@@ -147,7 +148,8 @@ static inline const char *bunvespo_refusal_words(uint64_t refusal)
 
 /*
  * RIGHTS, by code, which is the number of the right's bit in a cell (0 is the lowest bit). The star is a copy flag: with r* over o
- * one may transfer r and r* over it. To hold a right is to have its bit, or to have r* where r is asked for.
+ * one may transfer r and r* over it. To hold a right is to have its bit; r is held by r* too, and every basic right, r and r*, by own.
+ * Own and control are held by their bits alone. The commands look at bits, so that an owner without r* may not transfer r.
  * A k that is out of range, negative too, gives BUNVESPO_NO_RIGHT, which every call refuses by 7. A k of 7 to 14 gives a right that
  * records of version 2 have; on one of version 1 it is refused by 7 too. The macros evaluate k twice.
  */
@@ -201,7 +203,7 @@ typedef struct {
 uint64_t bunvespo_valid(const uint8_t *record, size_t record_len);
 
 /*
- * Whether subject s holds a right over column o. Refusals: 1 to 5, 7.
+ * Whether subject s holds a right over column o, by its bit or by another as said above. Refusals: 1 to 5, 7.
  * value: 1 held, 0 not held (so for absent names); 0 with a refusal.
  */
 bunvespo_answer bunvespo_held(const uint8_t *record, size_t record_len, uint64_t s, uint64_t o, uint64_t right);
@@ -225,7 +227,7 @@ bunvespo_answer bunvespo_run(uint8_t *record, size_t record_len, const uint8_t *
  * trust says that subject j is trusted, whether or not it exists now. Refusals: 1 to 5, 7, 15.
  * value: 0 safe; N + 1 leaks by N commands, at most n + 2, so that 1 means held already; 0 with a refusal.
  * On "leaks" the N commands stand as a list at the start of out, 5 + 6 N bytes: each is begun by an untrusted subject and
- * accepted in turn, and after them the right is held. Later bytes of out, and all of it on "safe" or a refusal, are
+ * accepted in turn, and after them the right is held, by own too. Later bytes of out, and all of it on "safe" or a refusal, are
  * unchanged. out_len must be at least BUNVESPO_BUFFER_SIZE(n), else 15, also where the answer would be safe.
  */
 bunvespo_answer bunvespo_safety(const uint8_t *record, size_t record_len, uint64_t trust, uint64_t s, uint64_t o,

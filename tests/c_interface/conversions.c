@@ -93,6 +93,15 @@ static void test_high_right(int k, uint64_t code, uint64_t right)
     expect("7 at version 1, held", bunvespo_held(first, sizeof first, 0, 3, right).refusal == BUNVESPO_REFUSED_BOUNDS);
 }
 
+/* Subject 2 owns log 3 and has no other bit over it: it holds every right of the version over it but control, and subject 1 holds none. */
+static void test_owner(const uint8_t *record, size_t length, uint64_t rights)
+{
+    for (uint64_t right = 0; right < rights; right++) {
+        expect("held by the owner", bunvespo_held(record, length, 2, 3, right).value == (right != BUNVESPO_CONTROL));
+        expect("held by nobody else", bunvespo_held(record, length, 1, 3, right).value == 0);
+    }
+}
+
 /* Records that 1 to 5 turn down, whatever the output. */
 static void test_refused(conversion convert)
 {
@@ -123,6 +132,8 @@ int main(void)
         test_high_right(k, BUNVESPO_GRANT, BUNVESPO_PLAIN(k));
         test_high_right(k, BUNVESPO_GRANT_STARRED, BUNVESPO_STARRED(k));
     }
+    test_owner(narrow, sizeof narrow, 16);
+    test_owner(wide, sizeof wide, 32);
     test_refused(bunvespo_to_version_1);
     test_refused(bunvespo_to_version_2);
     return failures != 0;

@@ -34,6 +34,12 @@ for command in 'login 2 transfers own over log 3 to login 1' 'login 2 transfers 
     run station commands
 done
 cmp "$a" station
+# The owner of a log holds r0 over it and may not transfer it without the star; with the bit of r0 set and deleted again it still holds it.
+for command in 'login 2 transfers r0 over log 3 to login 1' 'login 2 grants r0 over log 3 to login 2' 'login 2 deletes r0 over log 3 from login 2'; do
+    echo "$command" >commands
+    run station commands
+done
+cmp "$a" station
 echo 'login 1 grants control over login 2 to login 0
 1 grants control over 2 to 0' >commands
 run station commands

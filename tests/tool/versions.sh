@@ -2,9 +2,12 @@
 for record in "$a" "$a2"; do
     try check "$record"
     try check "$record" --json
-    for right in 'r6*' r7 'r7*' r14 'r14*' r15 15 16 31 32 99999999999999999999 rr; do try held "$record" 2 3 "$right"; done
+    for right in 'r6*' r7 'r7*' r14 'r14*' r15 15 16 31 32 99999999999999999999 rr; do try held "$record" 1 3 "$right"; done
+    try held "$record" 2 3 'r6*'
+    try held "$record" 2 3 'r14*'
     try who "$record" 3 r14
     try ask "$record" 0,2 1 3 'r14*'
+    try ask "$record" 0,2 0 3 'r14*'
     for k in 6 7 14 15 255; do echo "5 2 1 3 $k" | try run --dry "$record" -; done
     for right in 'r6*' 'r7*' 'r14*' 'r15*'; do echo "login 2 grants $right over log 3 to login 1" | try run --dry "$record" -; done
 done
@@ -56,7 +59,7 @@ try diff wide "$a" --names wide.names --json
 # Pages of both widths: rights in words, and in short cells where there are many columns.
 try show wide --html wide.html | tail -n 2
 grep -o '<span class="x [a-z]*">[^<]*</span>' wide.html | sort | uniq -c
-try ask wide 0,2 head-nurse bed-3 'weight*' --html leak.html | tail -n 2
+try ask wide 0,2 0 bed-3 'weight*' --html leak.html | tail -n 2
 grep -c 'gained">weight\*' leak.html
 for version in 1 2; do
     "$program" new many 16 1 --version $version >/dev/null

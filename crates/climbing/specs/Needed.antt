@@ -198,6 +198,23 @@ module _ (b : List ℕ) (o : ℕ) (path : List ℕ) (m : ℕ) {k : ℕ} (e : k �
 shortened-none : {b : List ℕ} {n o : ℕ} {path : List ℕ} → length path ≡ mostSubjects → Shortened b n o path path None None
 shortened-none {n = n} {path = path} size = record { way = refl; size = size; found = found-none n path }
 
+-- one subject alone is needed
+until-one : (owns : ℕ → Name → Bool) (o : Name) (path : List ℕ) (m : ℕ) → m < 2 → untilOwner owns o (listed path m) ≡ listed path m
+unfolding untilOwner listed
+until-one owns o path zero l = refl
+until-one owns o path (suc zero) l = either (owns (getD path 0 0) o)
+  where
+    either : (t : Bool) → getD path 0 0 ∷ cond t [] [] ≡ getD path 0 0 ∷ []
+    either true = refl
+    either false = refl
+until-one owns o path (suc (suc m)) l = absurd (omega arith)
+
+pub shortened-one : {b : List ℕ} {n o : ℕ} {path : List ℕ} {r : Climbed} {v m : ℕ} → length path ≡ mostSubjects → Found n path r → r ≡ At v m → m < 2
+    → Shortened b n o path path r (At v m)
+shortened-one {b} {n} {o} {path} {r} {v} {m} size f q l =
+    subst (λ (a : Climbed). Shortened b n o path path a (At v m)) (sym q)
+    (record { way = ap (from-above v) (until-one (stateOf b .owns) (Plain o) path m l); size = size; found = subst (Found n path) q f })
+
 -- the same where an answer is known to be such
 pub passes-found : {n : ℕ} {path : List ℕ} {r : Climbed} {v m : ℕ} → n ≤ mostSubjects → length path ≡ mostSubjects → Found n path r → r ≡ At v m
     → Passes path n m

@@ -173,13 +173,17 @@ fn keep_last(path: &mut [u8; MOST_SUBJECTS], from: usize, k: usize)
     }
 }
 
-// A way over plain object o without the subjects below the highest on it that owns o: where that one is destroyed, o is inherited.
+// A way over plain object o without the subjects below the highest on it that owns o: where that one is destroyed, o is inherited. One subject
+// alone is that owner.
 fn shortened(b: &[u8], f: Shape, o: usize, r: Climbed, path: &mut [u8; MOST_SUBJECTS]) -> Climbed
     requires { ⌜ NameIn (now b) f (Name.Plain o) × (length (now path) ≡ mostSubjects) × Found (f .n) (now path) r ⌝ }
     ensures { λ q. ⌜ Shortened (now (b .entry)) (f .n) o (now (path .entry)) (now (path .exit)) r q ⌝ }
 {
     match r {
         Climbed::At(v, m) => {
+            if m < 2 {
+                return Climbed::At(v, m);
+            }
             let k = needed_of(b, f, o, path, m);
             keep_last(path, m - k, k);
             Climbed::At(v, k)

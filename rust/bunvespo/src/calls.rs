@@ -60,7 +60,8 @@ pub fn check(record: &[u8]) -> Result<Header, Refusal> {
     Header::read(record)
 }
 
-/// Whether subject s holds a right over column o. A plain basic right is held by its starred bit too. Absent names hold nothing.
+/// Whether subject s holds a right over column o. A plain basic right is held by its starred bit too, and every basic right by own. Absent
+/// names hold nothing.
 /// Refusals: 1 to 5, 7.
 ///
 /// ```
@@ -93,6 +94,8 @@ pub fn held(record: &[u8], s: u64, o: u64, right: Right) -> Result<bool, Refusal
 /// command(&mut record, Command::create_object(1, 2))?;
 /// command(&mut record, Command::grant(1, 0, 2, Basic::R3))?;
 /// assert!(held(&record, 0, 2, Right::Plain(Basic::R3))?);
+/// // Login 1 owns the log, and so holds every basic right over it.
+/// assert!(held(&record, 1, 2, Right::Starred(Basic::R0))?);
 ///
 /// let again = command(&mut record, Command::create_subject(0, 1)).unwrap_err();
 /// assert_eq!((again.number(), again.refusal), (11, Refusal::NameExists));
@@ -164,12 +167,12 @@ pub fn trust_mask(subjects: impl IntoIterator<Item = u64>) -> Result<u64, Refusa
 /// command(&mut record, Command::create_subject(0, 1))?;
 /// command(&mut record, Command::create_object(1, 2))?;
 ///
-/// // Can U come to read log 2 (r0), if it may do all it can? It destroys subject 1, inherits the log and grants itself r0.
+/// // Can U come to read log 2 (r0), if it may do all it can? It destroys subject 1 and inherits the log, and who owns a log reads it.
 /// let mut out = [0; buffer_size(MOST_SUBJECTS)];
 /// let answer = safety(&record, trust_mask([1])?, 0, 2, Right::Plain(Basic::R0), &mut out)?;
-/// assert_eq!(answer, Safety::Leaks(2));
-/// let list: Vec<Command> = commands(&out, 2).collect();
-/// assert_eq!(list, [Command::destroy_subject(0, 1), Command::grant(0, 0, 2, Basic::R0)]);
+/// assert_eq!(answer, Safety::Leaks(1));
+/// let list: Vec<Command> = commands(&out, 1).collect();
+/// assert_eq!(list, [Command::destroy_subject(0, 1)]);
 ///
 /// // Not if U is trusted and subject 1 is: then nobody is left to begin anything.
 /// let answer = safety(&record, trust_mask([0, 1])?, 0, 2, Right::Plain(Basic::R0), &mut out)?;

@@ -102,7 +102,15 @@ fn rights_held() {
         assert_eq!(held(a, 0, 1, Right::Own), Ok(true));
         assert_eq!(held(a, 0, 2, Right::Own), Ok(false));
         assert_eq!(held(a, 2, 2, Right::Control), Ok(true));
-        assert_eq!(held(a, 2, 3, R0), Ok(false));
+        assert_eq!(held(a, 1, 3, R0), Ok(false));
+        // 2 owns the log and 1 owns 2: they hold basic rights, and not control.
+        assert_eq!(held(a, 2, 3, R0), Ok(true));
+        assert_eq!(held(a, 2, 3, Right::Starred(Basic::R6)), Ok(true));
+        assert_eq!(held(a, 1, 2, R0), Ok(true));
+        assert_eq!(held(a, 1, 2, Right::Control), Ok(false));
+        assert_eq!(held(a, 1, 1, R0), Ok(false));
+        let transfer = Command::transfer(2, 1, 3, Basic::R0);
+        assert_eq!(refused(a, transfer), (Refusal::RightLacking, 0));
         let mut copy = a.to_vec();
         let grant = Command::grant_starred(2, 0, 3, Basic::R6);
         assert_eq!(command(&mut copy, grant), Ok(0));

@@ -1,5 +1,5 @@
-//! Own counts as holding every basic right, plain and starred, wherever a right is read as held; the commands
-//! still look at the bits. Each case is tried at both versions, with every basic right that the version has.
+//! An owner holds every basic right in both forms, in each place that asks whether a right is held; what a command may do
+//! depends on bits alone. Each case is tried at both versions, with every basic right that the version has.
 
 use reference::{Cell, Right, Safety, command, held, leaks_by, run, safety, valid, write_list};
 

@@ -18,7 +18,7 @@ pub struct Moved {
 }
 
 /// All that differs, names and moves each in the matrix's order.
-#[derive(Debug, Default, PartialEq, Eq)]
+#[derive(Clone, Debug, Default, PartialEq, Eq)]
 pub struct Changes {
     pub made: Vec<Name>,
     pub gone: Vec<Name>,
@@ -44,7 +44,7 @@ impl Changes {
 }
 
 /// What differs, right by right. Logins are compared by number and logs by column, also where the two have different sizes. Versions
-/// play no part.
+/// play no part in which bits differ; a right that the new record has no room for is not held there.
 pub fn changes(old: &Record, new: &Record) -> Changes {
     let logins = old.logins().max(new.logins());
     let names: Vec<Name> = (0..logins)

@@ -5,7 +5,7 @@ use crate::held_by::{self, held_by};
 use crate::input::Station;
 use crate::library::{Command, Refusal, Right, command, witness};
 use crate::names::{Names, counted};
-use crate::record::{Name, Record, column_of};
+use crate::record::{Name, Record};
 use crate::sentence::{numbers, sentence};
 use crate::why::{allowed, impossible};
 
@@ -19,11 +19,12 @@ pub struct Question {
     pub right: Right,
 }
 
-/// A command of a leak: in words, what allows it, what it changes, and the record after it.
+/// A command of a leak: in words, what allows it, what it does, what it changes, and the record after it.
 pub struct Step {
     pub command: Command,
     pub words: String,
     pub allowed: String,
+    pub effects: Vec<String>,
     pub changes: Changes,
     pub after: Record,
 }
@@ -39,16 +40,29 @@ pub fn answer(station: &Station, q: &Question) -> Result<Option<Vec<Step>>, Refu
     for c in list {
         let mut after = before.clone();
         command(&mut after.bytes, c).expect("each command of a leak is accepted");
+        let changes = changes(&before, &after);
         steps.push(Step {
             command: c,
             words: sentence(c, &before, names).unwrap_or_else(|| numbers(c)),
             allowed: allowed(c, &before, names),
-            changes: changes(&before, &after),
+            effects: effects(&changes, names),
+            changes,
             after: after.clone(),
         });
         before = after;
     }
+    if let Some(last) = steps.last_mut() {
+        last.effects.extend(reached(q, &last.after, names));
+    }
     Ok(Some(steps))
+}
+
+/// How the right is held after a leak, where that is not by its own bit, which the last command sets.
+fn reached(q: &Question, after: &Record, names: &Names) -> Option<String> {
+    let by = held_by(after, q.login, q.column, q.right)?;
+    let (login, right) = (names.login(q.login), names.right(q.right));
+    let (over, by) = (names.name(q.over), held_by::told(Some(by), names));
+    Some(format!("so {login} holds {right} over {over}{by}"))
 }
 
 /// The question in words.
@@ -82,7 +96,7 @@ pub fn verdict(q: &Question, station: &Station, leak: Option<&[Step]>) -> String
         }
         Some([]) => {
             let Station { record, names, .. } = station;
-            let by = held_by(record, q.login, column_of(q.over), q.right);
+            let by = held_by(record, q.login, q.column, q.right);
             format!(
                 "LEAKS. {} holds it already{}",
                 names.login(q.login),
@@ -154,7 +168,7 @@ fn trust_notes(q: &Question, station: &Station) -> Vec<String> {
 }
 
 /// What a command changes, as parts of a sentence. What goes with a destroyed name is left out.
-pub fn effects(changes: &Changes, names: &Names) -> Vec<String> {
+fn effects(changes: &Changes, names: &Names) -> Vec<String> {
     let mut effects = Vec::new();
     for (list, made) in [(&changes.gone, false), (&changes.made, true)] {
         effects.extend(list.iter().map(|name| told_name(*name, made, names)));

@@ -5,7 +5,7 @@ use crate::commands::held::beyond;
 use crate::html;
 use crate::input::{Station, station};
 use crate::json;
-use crate::leak::{Question, Step, answer, effects, members, notes, question, verdict};
+use crate::leak::{Question, Step, answer, members, notes, question, verdict};
 use crate::no_answer::Answered;
 use crate::record::Name;
 use crate::sentence::numbers;
@@ -64,7 +64,7 @@ fn text(q: &Question, station: &Station, leak: Option<&[Step]>) -> String {
         let (words, five) = (&step.words, numbers(step.command));
         text.push_str(&format!("  {:2}. {words}   [{five}]\n", at + 1));
         text.push_str(&format!("      allowed: {}\n", step.allowed));
-        let effects = effects(&step.changes, &station.names).join("; ");
+        let effects = step.effects.join("; ");
         text.push_str(&format!("      then: {effects}\n"));
     }
     text
@@ -86,7 +86,7 @@ fn in_json(q: &Question, station: &Station, leak: Option<&[Step]>) -> String {
             ("allowed", json::text(&step.allowed)),
             (
                 "then",
-                json::array(effects(&step.changes, names).iter().map(|e| json::text(e))),
+                json::array(step.effects.iter().map(|effect| json::text(effect))),
             ),
         ])
     });

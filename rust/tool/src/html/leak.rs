@@ -5,7 +5,7 @@ use std::collections::BTreeSet;
 use crate::html::grid::{Grid, legend};
 use crate::html::{escape, page as whole};
 use crate::input::Station;
-use crate::leak::{Question, Step, effects, notes, question, verdict};
+use crate::leak::{Question, Step, notes, question, verdict};
 use crate::record::{Name, Record};
 use crate::sentence::numbers;
 
@@ -36,7 +36,7 @@ pub fn page(q: &Question, station: &Station, leak: Option<&[Step]>) -> String {
     for (at, step) in steps.iter().enumerate() {
         let own = Part::of(q, station, &steps[at..=at], true);
         let part = shared.unwrap_or(&own);
-        body.push_str(&told(at + 1, step, station));
+        body.push_str(&told(at + 1, step));
         body.push_str(&part.grid(q, station, &step.after, Some(before)));
         body.push_str("</div>\n");
         before = &step.after;
@@ -58,9 +58,9 @@ fn answered(q: &Question, station: &Station, leak: Option<&[Step]>) -> String {
 }
 
 /// A step in words, with its block left open.
-fn told(number: usize, step: &Step, station: &Station) -> String {
-    let effects = effects(&step.changes, &station.names).into_iter();
-    let effects = effects.map(|effect| format!("<li>{}</li>\n", escape(&effect)));
+fn told(number: usize, step: &Step) -> String {
+    let effects = step.effects.iter();
+    let effects = effects.map(|effect| format!("<li>{}</li>\n", escape(effect)));
     format!(
         "<div class=\"step\"><h2>{number}. {}<code>{}</code></h2>\n<p>Allowed, since {}. Then:</p>\n<ul>\n{}</ul>\n",
         escape(&step.words),

@@ -2,7 +2,7 @@
 
 use std::collections::BTreeSet;
 
-use crate::changes::changes;
+use crate::changes::{Changes, changes};
 use crate::command_text::{Ran, read};
 use crate::library::{Command, Header, Refusal, Right, command, held, new_record, witness};
 use crate::names::Names;
@@ -26,6 +26,14 @@ fn names_for_all(record: &Record) -> Names {
             .insert(record.name(column), format!("name{space}{column}"));
     }
     names
+}
+
+/// What differs without by what a right is still held.
+fn bits(mut changes: Changes) -> Changes {
+    for moved in &mut changes.moved {
+        moved.still_by = None;
+    }
+    changes
 }
 
 #[test]
@@ -56,10 +64,14 @@ fn differences_make_the_new_record_of_the_old() {
         }
         assert_eq!(made, new);
         assert_eq!(differences.is_empty(), old == new);
-        // Versions play no part.
+        // Versions play no part in the bits that differ. By what a right is still held they do, where version 1 has no room for the right.
         for version in [Version::One, Version::Two] {
-            let other = version.convert(&new).map(|new| open(&new));
-            assert!(other.is_err() || other.is_ok_and(|new| changes(&before, &new) == differences));
+            let other = version
+                .convert(&new)
+                .map(|new| changes(&before, &open(&new)));
+            assert!(
+                other.is_err() || other.is_ok_and(|other| bits(other) == bits(differences.clone()))
+            );
         }
         for column in 0..columns {
             let name = after.name(column);
