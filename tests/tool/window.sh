@@ -224,19 +224,23 @@ for wrong in wrong-*; do
     cmp $wrong before-wrong
     cmp station before
 done
-# Runs at the same time, of one record and of others: each command is entered, also while the window is to be made.
-"$program" new shared 2 6 >/dev/null
-for log in {2..7}; do
-    "$program" new "shared-$log" 2 6 >/dev/null
-    echo "10 0 0 $log 0
+# Runs at the same time, of one record and of others: each command is entered, also while the window is to be made. That is tried several times, since
+# the runs seldom meet in the moment in which the window is made.
+for round in {1..12}; do
+    rm -f shared* many
+    "$program" new shared 2 6 >/dev/null
+    for log in {2..7}; do
+        "$program" new "shared-$log" 2 6 >/dev/null
+        echo "10 0 0 $log 0
 10 1 0 $log 0" >"commands-$log"
+    done
+    for log in {2..7}; do
+        "$program" run shared "commands-$log" --window many >/dev/null &
+        "$program" run "shared-$log" "commands-$log" --window many >/dev/null &
+    done
+    wait
+    "$program" check shared
+    "$program" refused many
+    tail -c 1 many | od -An -tu1
 done
-for log in {2..7}; do
-    "$program" run shared "commands-$log" --window many >/dev/null &
-    "$program" run "shared-$log" "commands-$log" --window many >/dev/null &
-done
-wait
-"$program" check shared
-"$program" refused many
-tail -c 1 many | od -An -tu1
 [[ -z $(ls -A | grep '\.new$') ]] || fail "a file is left over"

@@ -219,11 +219,13 @@ fn not_made(path: &OsStr, error: &io::Error) -> NoAnswer {
     })
 }
 
-/// A new file beside its target. Until it is put in its place the target is as it was; where it never is, it goes with this value.
+/// A new file beside its target. Until it is put in its place the target is as it was; where it never is, it goes with this value. It is locked
+/// until then, so that no other run takes its first name for its own while that is still to go.
 pub struct Fresh {
     fresh: PathBuf,
     target: PathBuf,
     is_put: bool,
+    _locked: File,
 }
 
 impl Fresh {
@@ -233,12 +235,14 @@ impl Fresh {
         let mut fresh_name = OsString::from(".");
         fresh_name.push(name);
         fresh_name.push(".new");
+        let path = target.with_file_name(fresh_name);
         let fresh = Fresh {
-            fresh: target.with_file_name(fresh_name),
+            _locked: new_file(&path, old.is_none())?,
+            fresh: path,
             target: target.to_path_buf(),
             is_put: false,
         };
-        write_fresh(&fresh.fresh, bytes, old)?;
+        fill(&fresh._locked, bytes, old)?;
         Ok(fresh)
     }
 
@@ -277,18 +281,25 @@ impl Drop for Fresh {
     }
 }
 
-/// A new file with the bytes, with the permissions and the owner of the old one, synced.
-fn write_fresh(fresh: &Path, bytes: &[u8], old: Option<&Metadata>) -> io::Result<()> {
-    match fs::remove_file(fresh) {
+/// A new and empty file, locked, in place of one that a run left there which was cut off. It is for everybody where nothing is to be replaced.
+fn new_file(path: &Path, for_all: bool) -> io::Result<File> {
+    match fs::remove_file(path) {
         Err(error) if error.kind() != ErrorKind::NotFound => return Err(error),
         _ => {}
     }
-    let mode = if old.is_some() { 0o600 } else { 0o666 };
-    let mut file = OpenOptions::new()
+    let mode = if for_all { 0o666 } else { 0o600 };
+    let file = OpenOptions::new()
         .write(true)
         .create_new(true)
         .mode(mode)
-        .open(fresh)?;
+        .open(path)?;
+    // Where the file system has no locks no file that is to be replaced can be locked, and that is told elsewhere.
+    let _ = file.try_lock();
+    Ok(file)
+}
+
+/// Fills a new file with the bytes, gives it the permissions and the owner of the old one, and syncs it.
+fn fill(mut file: &File, bytes: &[u8], old: Option<&Metadata>) -> io::Result<()> {
     let (first, second) = bytes.split_at(bytes.len() / 2);
     file.write_all(first)?;
     stop_for_test("half");
@@ -296,7 +307,7 @@ fn write_fresh(fresh: &Path, bytes: &[u8], old: Option<&Metadata>) -> io::Result
     if let Some(old) = old {
         let new = file.metadata()?;
         if (new.uid(), new.gid()) != (old.uid(), old.gid()) {
-            fchown(&file, Some(old.uid()), Some(old.gid()))?;
+            fchown(file, Some(old.uid()), Some(old.gid()))?;
         }
         file.set_permissions(old.permissions())?;
     }
