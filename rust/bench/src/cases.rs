@@ -121,15 +121,15 @@ pub fn run_of_all_codes(size: Size, count: usize) -> Case {
     })
 }
 
-/// Whether subject 1 can come to hold the plain right 0 over the log that is asked about.
+/// Whether the subject that is asked about can come to hold the plain right 0 over the log that is asked about.
 fn question(shape: Shape, size: Size, trust: u64, leaks: bool) -> Case {
-    let o = shape.asked_log(size.n) as u64;
+    let (s, o) = (shape.asked_subject() as u64, shape.asked_log(size.n) as u64);
     Case::new(|calls| {
         let record = shape.record(size);
         let mut out = vec![0; 5 + 6 * (size.n + 2)];
         move || {
             let out = black_box(&mut out[..]);
-            let (refusal, value) = (calls.safety)(black_box(&record), trust, 1, o, 2, out);
+            let (refusal, value) = (calls.safety)(black_box(&record), trust, s, o, 2, out);
             assert!(refusal == 0 && (value != 0) == leaks);
         }
     })

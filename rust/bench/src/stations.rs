@@ -15,7 +15,7 @@ pub enum Shape {
     Chain,
     /// U owns the last subject, and each subject the one before it, so that owners have the higher numbers.
     ChainDown,
-    /// A chain, and every subject owns the log that is asked about.
+    /// A chain, and every subject owns the log that is asked about but the one of whom it is asked, who would hold the right by own.
     OwnersInChain,
 }
 
@@ -32,7 +32,7 @@ impl Shape {
             Shape::Flat => "flat",
             Shape::Chain => "chain",
             Shape::ChainDown => "chain, owners higher",
-            Shape::OwnersInChain => "chain, all own log",
+            Shape::OwnersInChain => "chain, others own log",
         }
     }
 
@@ -53,6 +53,14 @@ impl Shape {
         }
     }
 
+    /// The subject that is asked about: one that does not own that log.
+    pub fn asked_subject(self) -> usize {
+        match self {
+            Shape::ChainDown => 2,
+            _ => 1,
+        }
+    }
+
     /// The record of a size with p at least n. Each log is owned by one of the subjects in turn, which has a basic right with the star over it;
     /// the subject after it has a plain one. Both rights are of every version.
     pub fn record(self, size: Size) -> Vec<u8> {
@@ -69,7 +77,7 @@ impl Shape {
             add(&mut record, (o + 1) % n, o, 1 << 6);
         }
         if let Shape::OwnersInChain = self {
-            for s in 0..n {
+            for s in (0..n).filter(|s| *s != self.asked_subject()) {
                 add(&mut record, s, self.asked_log(n), OWN);
             }
         }
