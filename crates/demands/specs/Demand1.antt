@@ -36,11 +36,11 @@ pub record HeldRight (b : List ℕ) (s o right : ℕ) : Type 0 where
   pub some : heldAnswer limits b s o right ≢ Holding.Refused 0
   pub absent : NoneHolds (heldConditions b s o right) → AbsentName b s o → heldAnswer limits b s o right ≡ Holding.No
 
--- A command: refused by 1 to 14, and then the record is byte for byte as it was.
+-- A command: refused by 1 to 14 or 19, and then the record is byte for byte as it was.
 pub record CommandRight (b : List ℕ) (c : Fields) : Type 0 where
   pub number : Numbered (givenConditions b c) (commandNumbers (commandAnswer limits b c) .refusal)
   pub only : Among (commandNumbers (commandAnswer limits b c) .refusal)
-      (0 ∷ 1 ∷ 2 ∷ 3 ∷ 4 ∷ 5 ∷ 6 ∷ 7 ∷ 8 ∷ 9 ∷ 10 ∷ 11 ∷ 12 ∷ 13 ∷ 14 ∷ [])
+      (0 ∷ 1 ∷ 2 ∷ 3 ∷ 4 ∷ 5 ∷ 6 ∷ 7 ∷ 8 ∷ 9 ∷ 10 ∷ 11 ∷ 12 ∷ 19 ∷ 13 ∷ 14 ∷ [])
   pub some : (links : ℕ) → commandAnswer limits b c ≢ Answer.Refused 0 links
   pub kept : commandNumbers (commandAnswer limits b c) .refusal ≢ 0 → commandBytes limits b c ≡ b
 
@@ -57,15 +57,15 @@ abbrev pub TurnedDown : List ℕ → List ℕ → ℕ → Type 0
 TurnedDown b l number = (runAnswer limits b l ≡ record { accepted = 0; refusal = number }) × (runBytes limits b l ≡ b)
 
 -- A list run: refused by 1 to 5 or 16 with nothing accepted and nothing changed. Else it is the command call on each command in turn, up to
--- the first that is refused, and its number is 0 or that command's, 6 to 14.
+-- the first that is refused, and its number is 0 or that command's, 6 to 14 or 19.
 pub record RunRight (b l : List ℕ) : Type 0 where
   pub turned : (number : ℕ) → number ≢ 0 → First (runConditions b l) number → TurnedDown b l number
   pub each : Octets b → NoneHolds (runConditions b l)
       → (runAnswer limits b l ≡ inTurn 0 b (commandsOf l) .outcome) × (runBytes limits b l ≡ inTurn 0 b (commandsOf l) .bytes)
   pub by-command : NoneHolds (runConditions b l)
-      → Among (runNumbers (runAnswer limits b l) .refusal) (0 ∷ 6 ∷ 7 ∷ 8 ∷ 9 ∷ 10 ∷ 11 ∷ 12 ∷ 13 ∷ 14 ∷ [])
+      → Among (runNumbers (runAnswer limits b l) .refusal) (0 ∷ 6 ∷ 7 ∷ 8 ∷ 9 ∷ 10 ∷ 11 ∷ 12 ∷ 19 ∷ 13 ∷ 14 ∷ [])
   pub only : Among (runNumbers (runAnswer limits b l) .refusal)
-      (0 ∷ 1 ∷ 2 ∷ 3 ∷ 4 ∷ 5 ∷ 6 ∷ 7 ∷ 8 ∷ 9 ∷ 10 ∷ 11 ∷ 12 ∷ 13 ∷ 14 ∷ 16 ∷ [])
+      (0 ∷ 1 ∷ 2 ∷ 3 ∷ 4 ∷ 5 ∷ 6 ∷ 7 ∷ 8 ∷ 9 ∷ 10 ∷ 11 ∷ 12 ∷ 19 ∷ 13 ∷ 14 ∷ 16 ∷ [])
   pub stopped : Octets b → NoneHolds (runConditions b l) → runNumbers (runAnswer limits b l) .refusal ≢ 0 → StoppedAfter b l (runAnswer limits b l .accepted)
 
 -- The safety question: refused by 1 to 5, 7 or 15, and then the buffer is byte for byte as it was.

@@ -1,5 +1,5 @@
--- The three demands, as theorems about the answers and the bytes of the public calls, the sheet of the thirteen commands, the change of the limits, and
--- the two conversions.
+-- The three demands, as theorems about the answers and the bytes of the public calls, the sheet of the thirteen commands, deletes, what an owner holds,
+-- the change of the limits, and the two conversions.
 pub mod Row
 pub mod Sheet
 pub mod SheetHolds
@@ -20,6 +20,8 @@ pub mod Demand2
 pub mod Demand2Holds
 pub mod Demand3
 pub mod Demand3Holds
+pub mod Deletes
+pub mod DeletesHold
 pub mod OwnersRead
 pub mod OwnersReadHold
 pub mod Limits

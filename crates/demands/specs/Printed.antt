@@ -9,7 +9,7 @@ use lib.ListN.{length}
 use Rattle.matrix.specs.declared.Name.{Name}
 use Rattle.matrix.specs.declared.Name.the-variants.{Subject}
 use Rattle.matrix.specs.declared.Form.{Form}
-use Rattle.matrix.specs.declared.Form.the-variants.{Starred}
+use Rattle.matrix.specs.declared.Form.the-variants.{Plain, Starred}
 use Rattle.matrix.specs.declared.Fields.{Fields}
 use Rattle.matrix.specs.Names.{isSubject, nameOf}
 use Rattle.matrix.specs.State.{State, exists, existsName}
@@ -57,7 +57,7 @@ usesK code = oneOf code (1 ∷ 2 ∷ 4 ∷ 5 ∷ 8 ∷ 9 ∷ [])
 abbrev pub fieldsRight : ℕ → ℕ → ℕ → ℕ → ℕ → Bool
 fieldsRight basics code s o k = (usesS code || eqb s 0) && (usesO code || eqb o 0) && cond (usesK code) (ltb k basics) (eqb k 0)
 
--- The conditions 9 to 14 by the code. 9: o is of the wrong kind
+-- The conditions 9 to 14 and 19 by the code. 9: o is of the wrong kind
 abbrev pub kindWrong : ℕ → Name → Bool
 kindWrong code o = cond (eqb code 6) (not (isSubject o)) (cond (oneOf code (7 ∷ 10 ∷ 11 ∷ [])) (isSubject o) false)
 
@@ -80,6 +80,10 @@ unentitled S code i s o k =
     (cond (oneOf code (8 ∷ 9 ∷ [])) (not (S .owns i o || S .controls i (Subject s)))
     (cond (eqb code 13) (not (S .owns i (Subject s))) false)))
 
+-- 19: the bit that is to be cleared is not set
+abbrev pub unset : State → ℕ → ℕ → Name → ℕ → Bool
+unset S code s o k = cond (eqb code 8) (not (S .basic k Plain s o)) (cond (eqb code 9) (not (S .basic k Starred s o)) false)
+
 -- 13: o is a subject, and the walk from s meets it
 abbrev pub walkMeets : State → ℕ → ℕ → Name → Bool
 walkMeets S code s o = cond (eqb code 3) (isSubject o && meets (walk S s o)) false
@@ -88,7 +92,7 @@ walkMeets S code s o = cond (eqb code 3) (isSubject o && meets (walk S s o)) fal
 abbrev pub controlled : State → ℕ → Name → Bool
 controlled S code o = cond (eqb code 6) (otherController S o) false
 
--- 6 to 14, on a state of a shape
+-- 6 to 12, 19, 13 and 14, on a state of a shape
 abbrev pub commandConditions : Shape → State → Fields → List Condition
 commandConditions f S c =
     condition 6 (known (c .code) ≡ false) ∷
@@ -98,6 +102,7 @@ commandConditions f S c =
     condition 10 (missing S (c .code) (c .s) (nameOf (f .n) (c .o)) ≡ true) ∷
     condition 11 (taken S (c .code) (c .s) (nameOf (f .n) (c .o)) ≡ true) ∷
     condition 12 (unentitled S (c .code) (c .i) (c .s) (nameOf (f .n) (c .o)) (c .k) ≡ true) ∷
+    condition 19 (unset S (c .code) (c .s) (nameOf (f .n) (c .o)) (c .k) ≡ true) ∷
     condition 13 (walkMeets S (c .code) (c .s) (nameOf (f .n) (c .o)) ≡ true) ∷
     condition 14 (controlled S (c .code) (nameOf (f .n) (c .o)) ≡ true) ∷ []
 

@@ -88,10 +88,10 @@ record-numbered b =
           passed = λ e h. h (valid-of-test (shapeOf b) (stateOf b) (within-read b) e);
         }
 
--- ---- 6 to 14
+-- ---- the conditions of a command
 
 -- a number given as a test by itself is that number
-same-number : (m : ℕ) → cond (eqb m 0) 0 m ≡ m
+pub same-number : (m : ℕ) → cond (eqb m 0) 0 m ≡ m
 same-number m = ⊎-elim (λ e. rw e (sym (eqb-true m 0 e))) (λ e. rw e refl) (way (eqb m 0))
 
 module _ (f : Shape) (S : State) (c : Fields) where
@@ -131,9 +131,12 @@ module _ (f : Shape) (S : State) (c : Fields) where
                 λ t. (
                   opposite 12 _ _ (omega arith) (a .entitled),
                   λ t. (
-                    opposite 13 _ _ (omega arith) (a .unmet),
-                    λ t.
-                        (opposite 14 _ _ (omega arith) (a .alone), λ t. tt),
+                    opposite 19 _ _ (omega arith) (a .set),
+                    λ t. (
+                      opposite 13 _ _ (omega arith) (a .unmet),
+                      λ t.
+                          (opposite 14 _ _ (omega arith) (a .alone), λ t. tt),
+                    ),
                   ),
                 ),
               ),

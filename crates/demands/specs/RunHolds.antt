@@ -36,7 +36,7 @@ abbrev ofRecord : List ℕ
 ofRecord = 1 ∷ 2 ∷ 3 ∷ 4 ∷ 5 ∷ []
 
 abbrev ofCommand : List ℕ
-ofCommand = 6 ∷ 7 ∷ 8 ∷ 9 ∷ 10 ∷ 11 ∷ 12 ∷ 13 ∷ 14 ∷ []
+ofCommand = 6 ∷ 7 ∷ 8 ∷ 9 ∷ 10 ∷ 11 ∷ 12 ∷ 19 ∷ 13 ∷ 14 ∷ []
 
 abbrev ofRun : List ℕ
 ofRun = ofRecord ++ (ofCommand ++ (16 ∷ []))

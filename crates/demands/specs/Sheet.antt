@@ -51,12 +51,12 @@ pub record Sheet (basics : ℕ) (names : Bool) (S : State) (i s : ℕ) (o : Name
   pub grant-own : Row basics names S (raw 7 i s o k)
       (names ∷ eqb k 0 ∷ exists S i ∷ not (isSubject o) ∷ exists S s ∷ existsName S o ∷ S .owns i o ∷ [])
       (put Own s o true S) 0
-  -- 8, 9: i, who owns o or controls s, clears one bit of s over o
+  -- 8, 9: i, who owns o or controls s, clears one bit of s over o, which is set
   pub delete-plain : Row basics names S (raw 8 i s o k)
-      (names ∷ ltb k basics ∷ exists S i ∷ exists S s ∷ existsName S o ∷ (S .owns i o || S .controls i (Subject s)) ∷ [])
+      (names ∷ ltb k basics ∷ exists S i ∷ exists S s ∷ existsName S o ∷ (S .owns i o || S .controls i (Subject s)) ∷ S .basic k Plain s o ∷ [])
       (put (Basic k Plain) s o false S) 0
   pub delete-starred : Row basics names S (raw 9 i s o k)
-      (names ∷ ltb k basics ∷ exists S i ∷ exists S s ∷ existsName S o ∷ (S .owns i o || S .controls i (Subject s)) ∷ [])
+      (names ∷ ltb k basics ∷ exists S i ∷ exists S s ∷ existsName S o ∷ (S .owns i o || S .controls i (Subject s)) ∷ S .basic k Starred s o ∷ [])
       (put (Basic k Starred) s o false S) 0
   -- 10: i creates the plain object o, which is absent, and owns it
   pub create-object : Row basics names S (raw 10 i s o k)

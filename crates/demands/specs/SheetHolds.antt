@@ -1,13 +1,14 @@
 -- The sheet holds.
 use Prim.Native.Nat.{ℕ}
 use mathlib.Core.Path.{_≡_, refl, sym, _∙_, subst}
+use mathlib.Core.Logic.{_↔_}
 use mathlib.Core.Bool.{Bool, true, false, _&&_, _||_}
 use mathlib.Core.List.{List, [], _∷_}
 use lib.Dec.{eqb, ltb}
 use borrow.Author.Tests.{eq-eqb}
 use Rattle.matrix.specs.declared.Name.{Name}
 use Rattle.matrix.specs.declared.Name.the-variants.{Subject}
-use Rattle.matrix.specs.declared.Form.the-variants.{Starred}
+use Rattle.matrix.specs.declared.Form.the-variants.{Plain, Starred}
 use Rattle.matrix.specs.declared.Right.the-variants.{Own}
 use Rattle.matrix.specs.Names.{columnOf}
 use Rattle.matrix.specs.State.{State, exists, existsName, put}
@@ -57,23 +58,36 @@ module _ (basics : ℕ) (names : Bool) (S : State) where
     abbrev there : Bool
     there = exists S s && existsName S o
 
-    -- the conditions of a command over a basic right, where `entitled` is what i needs
-    abbrev overRight : Bool → List Bool
-    overRight entitled = names ∷ ltb k basics ∷ exists S i ∷ exists S s ∷ existsName S o ∷ entitled ∷ []
+    -- the conditions of a command over a basic right, where `entitled` is what i needs, and `more` what is asked besides
+    abbrev overRight : Bool → List Bool → List Bool
+    overRight entitled more = names ∷ ltb k basics ∷ exists S i ∷ exists S s ∷ existsName S o ∷ entitled ∷ more
 
-    -- such a command: of its tests only those of the initiator, of s and o, and of what i needs can fail
-    over-right : (code : ℕ) (entitled : Bool) → known code ≡ true → fit (raw code i s o k) ≡ ltb k basics
-        → commandTests S (decode (raw code i s o k)) ≡ test 8 (exists S i) ∷ test 9 true ∷ test 10 there ∷ test 11 true ∷ test 12 entitled ∷ test 13 true ∷ test 14 true ∷ []
-        → Row basics names S (raw code i s o k) (overRight entitled) (change S (decode (raw code i s o k)) (ruleOf code k .act)) (walkLinks S (decode (raw code i s o k)) (ruleOf code k .act))
-    over-right code entitled is-known fits tests =
-        row (raw code i s o k) (overRight entitled) is-known
-        (λ n f p. let q : Passed fixed = subst Passed tests p in
-        (n, (sym fits ∙ f, (q .0, (and-left (exists S s) (existsName S o) (q .1 .1 .0), (and-right (exists S s) (existsName S o) (q .1 .1 .0), (q .1 .1 .1 .1 .0, tt)))))))
-        (λ h. let q : Passed fixed = (h .1 .1 .0, (refl, (and-both (h .1 .1 .1 .0) (h .1 .1 .1 .1 .0), (refl, (h .1 .1 .1 .1 .1 .0, (refl, (refl, tt))))))) in
+    -- the tests of such a command that can fail: those of the initiator, of s and o, of what i needs, and of the bit that is deleted
+    abbrev rightTests : Bool → Bool → List Test
+    rightTests entitled set =
+        test 8 (exists S i) ∷ test 9 true ∷ test 10 there ∷ test 11 true ∷ test 12 entitled ∷ test 19 set ∷ test 13 true ∷ test 14 true ∷ []
+
+    over-right : (code : ℕ) (entitled set : Bool) (more : List Bool) → known code ≡ true → fit (raw code i s o k) ≡ ltb k basics
+        → commandTests S (decode (raw code i s o k)) ≡ rightTests entitled set → (set ≡ true) ↔ AllHold more
+        → Row basics names S (raw code i s o k) (overRight entitled more) (change S (decode (raw code i s o k)) (ruleOf code k .act)) (walkLinks S (decode (raw code i s o k)) (ruleOf code k .act))
+    over-right code entitled set more is-known fits tests asked =
+        row (raw code i s o k) (overRight entitled more) is-known
+        (λ n f p. let q : Passed (rightTests entitled set) = subst Passed tests p in
+        (n, (sym fits ∙ f, (q .0, (and-left (exists S s) (existsName S o) (q .1 .1 .0), (and-right (exists S s) (existsName S o) (q .1 .1 .0), (q .1 .1 .1 .1 .0, asked .0 (q .1 .1 .1 .1 .1 .0))))))))
+        (λ h. let q : Passed (rightTests entitled set) =
+        (h .1 .1 .0, (refl, (and-both (h .1 .1 .1 .0) (h .1 .1 .1 .1 .0), (refl, (h .1 .1 .1 .1 .1 .0, (asked .1 (h .1 .1 .1 .1 .1 .1), (refl, (refl, tt)))))))) in
         (h .0, fits ∙ h .1 .0, subst Passed (sym tests) q))
-      where
-        fixed : List Test
-        fixed = test 8 (exists S i) ∷ test 9 true ∷ test 10 there ∷ test 11 true ∷ test 12 entitled ∷ test 13 true ∷ test 14 true ∷ []
+
+    -- a transfer or a grant, of which nothing more is asked; a delete, of which its bit is
+    give-row : (code : ℕ) (entitled : Bool) → known code ≡ true → fit (raw code i s o k) ≡ ltb k basics
+        → commandTests S (decode (raw code i s o k)) ≡ rightTests entitled true
+        → Row basics names S (raw code i s o k) (overRight entitled []) (change S (decode (raw code i s o k)) (ruleOf code k .act)) (walkLinks S (decode (raw code i s o k)) (ruleOf code k .act))
+    give-row code entitled is-known fits tests = over-right code entitled true [] is-known fits tests (λ e. tt, λ h. refl)
+
+    delete-row : (code : ℕ) (entitled set : Bool) → known code ≡ true → fit (raw code i s o k) ≡ ltb k basics
+        → commandTests S (decode (raw code i s o k)) ≡ rightTests entitled set
+        → Row basics names S (raw code i s o k) (overRight entitled (set ∷ [])) (change S (decode (raw code i s o k)) (ruleOf code k .act)) (walkLinks S (decode (raw code i s o k)) (ruleOf code k .act))
+    delete-row code entitled set is-known fits tests = over-right code entitled set (set ∷ []) is-known fits tests (λ e. (e, tt), λ h. h .0)
 
     -- own handed to whom it belongs: the bit is cleared and set again
     own-again : S .owns i o ≡ true → put Own i o true (put Own i o false S) ≡ S
@@ -107,42 +121,42 @@ module _ (basics : ℕ) (names : Bool) (S : State) where
     pub sheet : Sheet basics names S i s o k
     sheet =
         record {
-          transfer-plain = over-right i s o k 1 (S .basic k Starred i o) refl refl refl;
-          transfer-starred = over-right i s o k 2 (S .basic k Starred i o) refl refl refl;
+          transfer-plain = give-row i s o k 1 (S .basic k Starred i o) refl refl refl;
+          transfer-starred = give-row i s o k 2 (S .basic k Starred i o) refl refl refl;
           transfer-own =
               row (raw 3 i s o k) _ refl
-              (λ n f p. let h = here i s o k (p .1 .1 .0) in (n, (f, (p .0, (h .0, (h .1, (p .1 .1 .1 .1 .0, (p .1 .1 .1 .1 .1 .0, tt))))))))
-              (λ h. (h .0, h .1 .0, (h .1 .1 .0, (refl, (and-both (h .1 .1 .1 .0) (h .1 .1 .1 .1 .0), (refl, (h .1 .1 .1 .1 .1 .0, (h .1 .1 .1 .1 .1 .1 .0, (refl, tt)))))))));
+              (λ n f p. let h = here i s o k (p .1 .1 .0) in (n, (f, (p .0, (h .0, (h .1, (p .1 .1 .1 .1 .0, (p .1 .1 .1 .1 .1 .1 .0, tt))))))))
+              (λ h. (h .0, h .1 .0, (h .1 .1 .0, (refl, (and-both (h .1 .1 .1 .0) (h .1 .1 .1 .1 .0), (refl, (h .1 .1 .1 .1 .1 .0, (refl, (h .1 .1 .1 .1 .1 .1 .0, (refl, tt))))))))));
           transfer-to-itself = to-itself i o k;
           transfer-lasts = transfer-lasts basics names S (raw 3 i s o k) refl;
-          grant-plain = over-right i s o k 4 (S .owns i o) refl refl refl;
-          grant-starred = over-right i s o k 5 (S .owns i o) refl refl refl;
+          grant-plain = give-row i s o k 4 (S .owns i o) refl refl refl;
+          grant-starred = give-row i s o k 5 (S .owns i o) refl refl refl;
           grant-control =
               row (raw 6 i s o k) _ refl
-              (λ n f p. let h = here i s o k (p .1 .1 .0) in (n, (f, (p .0, (p .1 .0, (h .0, (h .1, (p .1 .1 .1 .1 .0, (p .1 .1 .1 .1 .1 .1 .0, tt)))))))))
-              (λ h. (h .0, h .1 .0, (h .1 .1 .0, (h .1 .1 .1 .0, (and-both (h .1 .1 .1 .1 .0) (h .1 .1 .1 .1 .1 .0), (refl, (h .1 .1 .1 .1 .1 .1 .0, (refl, (h .1 .1 .1 .1 .1 .1 .1 .0, tt)))))))));
+              (λ n f p. let h = here i s o k (p .1 .1 .0) in (n, (f, (p .0, (p .1 .0, (h .0, (h .1, (p .1 .1 .1 .1 .0, (p .1 .1 .1 .1 .1 .1 .1 .0, tt)))))))))
+              (λ h. (h .0, h .1 .0, (h .1 .1 .0, (h .1 .1 .1 .0, (and-both (h .1 .1 .1 .1 .0) (h .1 .1 .1 .1 .1 .0), (refl, (h .1 .1 .1 .1 .1 .1 .0, (refl, (refl, (h .1 .1 .1 .1 .1 .1 .1 .0, tt))))))))));
           grant-own =
               row (raw 7 i s o k) _ refl
               (λ n f p. let h = here i s o k (p .1 .1 .0) in (n, (f, (p .0, (p .1 .0, (h .0, (h .1, (p .1 .1 .1 .1 .0, tt))))))))
-              (λ h. (h .0, h .1 .0, (h .1 .1 .0, (h .1 .1 .1 .0, (and-both (h .1 .1 .1 .1 .0) (h .1 .1 .1 .1 .1 .0), (refl, (h .1 .1 .1 .1 .1 .1 .0, (refl, (refl, tt)))))))));
-          delete-plain = over-right i s o k 8 (S .owns i o || S .controls i (Subject s)) refl refl refl;
-          delete-starred = over-right i s o k 9 (S .owns i o || S .controls i (Subject s)) refl refl refl;
+              (λ h. (h .0, h .1 .0, (h .1 .1 .0, (h .1 .1 .1 .0, (and-both (h .1 .1 .1 .1 .0) (h .1 .1 .1 .1 .1 .0), (refl, (h .1 .1 .1 .1 .1 .1 .0, (refl, (refl, (refl, tt))))))))));
+          delete-plain = delete-row i s o k 8 (S .owns i o || S .controls i (Subject s)) (S .basic k Plain s o) refl refl refl;
+          delete-starred = delete-row i s o k 9 (S .owns i o || S .controls i (Subject s)) (S .basic k Starred s o) refl refl refl;
           create-object =
               row (raw 10 i s o k) _ refl
               (λ n f p. let u = unused i s o k f in (n, (u .0, (u .1, (p .0, (p .1 .0, (p .1 .1 .1 .0, tt)))))))
-              (λ h. (h .0, and-both (and-both (h .1 .0) refl) (h .1 .1 .0), (h .1 .1 .1 .0, (h .1 .1 .1 .1 .0, (refl, (h .1 .1 .1 .1 .1 .0, (refl, (refl, (refl, tt)))))))));
+              (λ h. (h .0, and-both (and-both (h .1 .0) refl) (h .1 .1 .0), (h .1 .1 .1 .0, (h .1 .1 .1 .1 .0, (refl, (h .1 .1 .1 .1 .1 .0, (refl, (refl, (refl, (refl, tt))))))))));
           destroy-object =
               row (raw 11 i s o k) _ refl
               (λ n f p. let u = unused i s o k f in (n, (u .0, (u .1, (p .0, (p .1 .0, (p .1 .1 .0, (p .1 .1 .1 .1 .0, tt))))))))
-              (λ h. (h .0, and-both (and-both (h .1 .0) refl) (h .1 .1 .0), (h .1 .1 .1 .0, (h .1 .1 .1 .1 .0, (h .1 .1 .1 .1 .1 .0, (refl, (h .1 .1 .1 .1 .1 .1 .0, (refl, (refl, tt)))))))));
+              (λ h. (h .0, and-both (and-both (h .1 .0) refl) (h .1 .1 .0), (h .1 .1 .1 .0, (h .1 .1 .1 .1 .0, (h .1 .1 .1 .1 .1 .0, (refl, (h .1 .1 .1 .1 .1 .1 .0, (refl, (refl, (refl, tt))))))))));
           create-subject =
               row (raw 12 i s o k) _ refl
               (λ n f p. let u = unused-o i s o k f in (n, (u .0, (u .1, (p .0, (p .1 .1 .1 .0, tt))))))
-              (λ h. (h .0, and-both (h .1 .0) (h .1 .1 .0), (h .1 .1 .1 .0, (refl, (refl, (h .1 .1 .1 .1 .0, (refl, (refl, (refl, tt)))))))));
+              (λ h. (h .0, and-both (h .1 .0) (h .1 .1 .0), (h .1 .1 .1 .0, (refl, (refl, (h .1 .1 .1 .1 .0, (refl, (refl, (refl, (refl, tt))))))))));
           destroy-subject =
               row (raw 13 i s o k) _ refl
               (λ n f p. let u = unused-o i s o k f in (n, (u .0, (u .1, (p .0, (p .1 .1 .0, (p .1 .1 .1 .1 .0, tt)))))))
-              (λ h. (h .0, and-both (h .1 .0) (h .1 .1 .0), (h .1 .1 .1 .0, (refl, (h .1 .1 .1 .1 .0, (refl, (h .1 .1 .1 .1 .1 .0, (refl, (refl, tt)))))))));
+              (λ h. (h .0, and-both (h .1 .0) (h .1 .1 .0), (h .1 .1 .1 .0, (refl, (h .1 .1 .1 .1 .0, (refl, (h .1 .1 .1 .1 .1 .0, (refl, (refl, (refl, tt))))))))));
           others = unknown i s o k;
           refused = λ code h. refused-same basics names S (raw code i s o k) h;
         }

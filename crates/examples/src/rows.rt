@@ -1,4 +1,4 @@
-// Rows 1 to 14 of the refusal table, and commands that are accepted beside them.
+// Rows 1 to 14 and 19 of the refusal table, and commands that are accepted beside them.
 use crate::lines::ask_command;
 use crate::lines::ask_held;
 use crate::lines::ask_run;
@@ -99,7 +99,8 @@ fn further() {
     row(0, 31, 0, 1, 3, 2, 2, 3, 0, 0);
     row(0, 31, 22, 1, 3, 2, 1, 3, 0, 0);
     row(12, 31, 0, 1, 3, 0, 1, 3, 0, 0);
-    // subject 1 has r and r* of basic right 1 over log 3: without the bit of r it holds r by r*, until r* is deleted too
+    // subject 1 has r and r* of basic right 1 over log 3: without the bit of r it holds r by r*, until r* is deleted too; in the list, the second
+    // time, there is no such bit any more
     row(0, 31, 22, 0x30, 8, 2, 1, 3, 1, 4);
     row(0, 31, 22, 0x20, 9, 2, 1, 3, 1, 4);
     // by r it does not hold r*, and by control of itself not own; in the cell's other byte the highest basic right: by r* it holds r, by r not r*
@@ -134,12 +135,34 @@ fn owners() {
     row(12, 55, 0, 2, 1, 2, 2, 3, 14, 30);
     row(12, 55, 0, 2, 2, 2, 2, 3, 14, 31);
     // own of subject 2 is not control of it, and 1, who controls itself and does not own itself, holds no basic right over itself
-    row(0, 31, 0, 1, 8, 1, 1, 2, 0, 1);
+    row(19, 31, 0, 1, 8, 1, 1, 2, 0, 1);
     row(12, 31, 0, 1, 1, 1, 1, 1, 0, 2);
     // with the bit of r0 set beside own, r0 is still held when that bit is deleted
     row(0, 31, 30, 5, 8, 2, 2, 3, 0, 2);
     // when the log goes to 1, 2 holds nothing over it, and 1 holds r0
     row(0, 31, 0, 1, 3, 2, 1, 3, 0, 2);
+}
+
+// Deletes of a bit that is not set, by one who may delete.
+fn deletes() {
+    // 1 has no right over log 3; 2 owns log 3, and 1 controls itself: neither is a basic right
+    row(19, 31, 0, 1, 8, 2, 1, 3, 0, 2);
+    row(19, 31, 0, 1, 9, 2, 2, 3, 0, 3);
+    row(19, 31, 0, 1, 8, 1, 1, 1, 0, 2);
+    // the other form of the right is set, or another right
+    row(19, 31, 22, 0x08, 8, 2, 1, 3, 0, 2);
+    row(19, 31, 22, 0x04, 9, 2, 1, 3, 0, 2);
+    row(19, 31, 22, 0x04, 8, 2, 1, 3, 1, 2);
+    // the tests before it: 0 neither owns log 3 nor controls 1; log 3 is absent; k is out of bounds
+    row(12, 31, 0, 1, 8, 0, 1, 3, 0, 2);
+    row(10, 31, 30, 0, 8, 1, 1, 3, 0, 2);
+    row(7, 31, 0, 1, 8, 2, 1, 3, 7, 2);
+    // the bit is set: it is deleted, by an owner of log 3 and by 1, who controls itself; the second time it is not set
+    row(0, 31, 22, 0x04, 8, 2, 1, 3, 0, 2);
+    row(0, 31, 22, 0x08, 9, 1, 1, 3, 0, 3);
+    // on A2 r14 and r14*
+    row(19, 55, 35, 0x80, 8, 2, 1, 3, 14, 30);
+    row(0, 55, 35, 0x80, 9, 2, 1, 3, 14, 31);
 }
 
 // A number that a byte cannot hold is not cut: with i = 0 the command would be accepted.
@@ -163,5 +186,6 @@ pub fn all() {
     further();
     versions();
     owners();
+    deletes();
     large();
 }

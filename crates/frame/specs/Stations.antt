@@ -18,7 +18,7 @@ use Rattle.matrix.specs.Reading.{cellAt, bitAt, stateOf, bytesOf}
 use Rattle.matrix.specs.Record.{climb, validMatrix, recordRefusal}
 use Rattle.matrix.specs.Calls.{validAnswer, refusalOn, linksOn, nextOn, commandAnswer, commandBytes, heldRefusal, heldAnswer}
 use Rattle.matrix.specs.Converting.{basicFrom, convertRefusal, converted, convertResult, convertOutput}
-use Rattle.frame.specs.StationBytes.{A, A2, A2-high, A-ends-00, A-handed, B, transferOwn, transferPlain}
+use Rattle.frame.specs.StationBytes.{A, A2, A2-high, A-ends-00, A-handed, A-plain, A-starred, B, transferOwn, transferPlain, deletePlain}
 
 -- The rows, under one proof.
 pub record Stations : Type 0 where
@@ -63,6 +63,17 @@ pub record Stations : Type 0 where
   pub log-handed : commandAnswer limits A (transferOwn 2 1 3) ≡ Accepted 0
   pub log-handed-bytes : commandBytes limits A (transferOwn 2 1 3) ≡ A-handed
   pub log-missing : commandAnswer limits A-ends-00 (transferOwn 2 1 3) ≡ Refused 10 0
+  -- On A code 8 (2, 1, 3, 0) is refused by 19, since 1 has no r0 over log 3, and no byte changes. So is 8 (2, 2, 3, 0): 2 owns log 3, but has not
+  -- the bit of r0. 8 (0, 1, 3, 0) is refused by 12.
+  pub delete-unset : commandAnswer limits A (deletePlain 2 1 3) ≡ Refused 19 0
+  pub delete-unset-bytes : commandBytes limits A (deletePlain 2 1 3) ≡ A
+  pub delete-owned : commandAnswer limits A (deletePlain 2 2 3) ≡ Refused 19 0
+  pub delete-unentitled : commandAnswer limits A (deletePlain 0 1 3) ≡ Refused 12 0
+  -- Where 1 has r0 over log 3, 8 (2, 1, 3, 0) is accepted and leaves A. Where it has r0* alone, it is refused by 19, and no byte changes.
+  pub delete-set : commandAnswer limits A-plain (deletePlain 2 1 3) ≡ Accepted 0
+  pub delete-set-bytes : commandBytes limits A-plain (deletePlain 2 1 3) ≡ A
+  pub delete-starred : commandAnswer limits A-starred (deletePlain 2 1 3) ≡ Refused 19 0
+  pub delete-starred-bytes : commandBytes limits A-starred (deletePlain 2 1 3) ≡ A-starred
   -- A with byte 5 = 29 has 41 subject names, and with byte 6 = 79 it has 121 plain names: both are refused by 3. With 40 and with 120 names 3 is
   -- passed, and A's L is wrong.
   pub subjects-over : commandAnswer limits (set A 5 41) (transferOwn 1 1 2) ≡ Refused 3 0
@@ -73,7 +84,7 @@ pub record Stations : Type 0 where
   pub b-valid : validAnswer limits B ≡ true
 
 pub stations : Stations
-unfolding A A2 A2-high A-ends-00 A-handed B any all count least walkFrom firstFailed refusalOf refusal links next numberAt bytesOfNumber bit fromBits joined shapeOf cellAt bitAt stateOf bytesOf climb validMatrix recordRefusal validAnswer refusalOn linksOn nextOn commandAnswer commandBytes heldRefusal heldAnswer basicFrom convertRefusal converted convertResult convertOutput
+unfolding A A2 A2-high A-ends-00 A-handed A-plain A-starred B any all count least walkFrom firstFailed refusalOf refusal links next numberAt bytesOfNumber bit fromBits joined shapeOf cellAt bitAt stateOf bytesOf climb validMatrix recordRefusal validAnswer refusalOn linksOn nextOn commandAnswer commandBytes heldRefusal heldAnswer basicFrom convertRefusal converted convertResult convertOutput
 stations =
     record {
       a-valid = refl;
@@ -104,6 +115,14 @@ stations =
       log-handed = refl;
       log-handed-bytes = refl;
       log-missing = refl;
+      delete-unset = refl;
+      delete-unset-bytes = refl;
+      delete-owned = refl;
+      delete-unentitled = refl;
+      delete-set = refl;
+      delete-set-bytes = refl;
+      delete-starred = refl;
+      delete-starred-bytes = refl;
       subjects-over = refl;
       subjects-most = refl;
       logs-over = refl;

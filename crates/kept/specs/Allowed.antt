@@ -5,17 +5,18 @@ use Rattle.matrix.specs.declared.Act.{Act}
 use Rattle.matrix.specs.declared.Command.{Command}
 use Rattle.matrix.specs.State.{State, exists}
 use Rattle.matrix.specs.Commands.{kindOf}
-use Rattle.matrix.specs.Tests.{kindFits, present, free, permitted, apart, uncontrolled}
+use Rattle.matrix.specs.Tests.{kindFits, present, free, permitted, deletable, apart, uncontrolled}
 use Rattle.matrix.specs.Step.{refusalOf}
 use Rattle.laws.specs.Passed.{tests-passed}
 
--- the tests 8 to 14 of a command that does `a`
+-- the tests of a decoded command that does `a`
 pub record Allowed (S : State) (c : Command) (a : Act) : Type 0 where
   pub initiator : exists S (c .i) ≡ true
   pub kind : kindFits (kindOf a) (c .o) ≡ true
   pub there : present S c a ≡ true
   pub absent : free S c a ≡ true
   pub entitled : permitted S c a ≡ true
+  pub set : deletable S c a ≡ true
   pub unmet : apart S c a ≡ true
   pub alone : uncontrolled S c a ≡ true
 
@@ -28,6 +29,7 @@ allowed S c h =
       there = p .1 .1 .0;
       absent = p .1 .1 .1 .0;
       entitled = p .1 .1 .1 .1 .0;
-      unmet = p .1 .1 .1 .1 .1 .0;
-      alone = p .1 .1 .1 .1 .1 .1 .0;
+      set = p .1 .1 .1 .1 .1 .0;
+      unmet = p .1 .1 .1 .1 .1 .1 .0;
+      alone = p .1 .1 .1 .1 .1 .1 .1 .0;
     }

@@ -56,7 +56,7 @@ rawOf f c = record { code = c .code; i = c .i; s = c .s; o = nameOf (f .n) (c .o
 abbrev pub namesFit : Shape → Fields → Bool
 namesFit f c = ltb (c .i) (f .n) && ltb (c .s) (f .n) && ltb (c .o) (columns f)
 
--- the refusal, 6 to 14, of a command on a state of a shape, or 0; the links that are answered with it; and the state after it
+-- the refusal, 6 to 14 or 19, of a command on a state of a shape, or 0; the links that are answered with it; and the state after it
 unfoldable pub refusalOn : Shape → State → Fields → ℕ
 refusalOn f S c = refusal (basicsOf f) (namesFit f c) S (rawOf f c)
 
@@ -66,7 +66,7 @@ linksOn f S c = links (basicsOf f) (namesFit f c) S (rawOf f c)
 unfoldable pub nextOn : Shape → State → Fields → State
 nextOn f S c = next (basicsOf f) (namesFit f c) S (rawOf f c)
 
--- A command on a record: 1 to 5, then 6 to 14. Where it is refused the bytes stay as they are.
+-- A command on a record: 1 to 5, then those of a command (Manual 7.3). Where it is refused the bytes stay as they are.
 unfoldable pub commandAnswer : Limits → List ℕ → Fields → Answer
 commandAnswer most b c =
     cond (eqb (recordRefusal most b) 0)

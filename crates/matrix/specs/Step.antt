@@ -16,7 +16,7 @@ use Rattle.matrix.specs.Commands.{Raw, known, ruleOf, fieldsFit, decode}
 use Rattle.matrix.specs.Tests.{test, firstFailed, commandTests}
 use Rattle.matrix.specs.Changes.{change}
 
--- the refusal of a decoded command, 8 to 14, or 0 if it is accepted
+-- the refusal of a decoded command, 8 to 14 or 19, or 0 if it is accepted
 unfoldable pub refusalOf : State → Command → ℕ
 refusalOf S c = firstFailed (commandTests S c)
 
@@ -35,7 +35,7 @@ walkLinks S c DestroySubject = 0
 abbrev pub linksWith : ℕ → State → Command → ℕ
 linksWith refusal S c = cond (eqb refusal 0 || eqb refusal 13) (walkLinks S c (c .act)) 0
 
--- The refusal of a command as given, 6 to 14, or 0. `names` is whether its names are within bounds: on a record they are to be the
+-- The refusal of a command as given, 6 to 14 or 19, or 0. `names` is whether its names are within bounds: on a record they are to be the
 -- record's (Manual 7.2), in the safety question every name is (Manual 8.2).
 unfoldable pub refusal : ℕ → Bool → State → Raw → ℕ
 refusal basics names S c =

@@ -1,4 +1,4 @@
--- When a command is turned down: the tests on a decoded command, in this order: 8, 9, 10, 11, 12, 13, 14 (Manual 7.3).
+-- When a command is turned down: the tests on a decoded command, in this order: 8, 9, 10, 11, 12, 19, 13, 14 (Manual 7.3).
 use Prim.Native.Nat.{ℕ}
 use mathlib.Core.Bool.{Bool, true, false, cond, not, _&&_, _||_}
 use mathlib.Core.List.{List, [], _∷_}
@@ -13,7 +13,7 @@ use Rattle.matrix.specs.declared.Kind.the-variants.{AnyName, SubjectName
 use Rattle.matrix.specs.declared.Command.{Command}
 use Rattle.matrix.specs.Bounded.{any}
 use Rattle.matrix.specs.Names.{isSubject, sameName}
-use Rattle.matrix.specs.State.{State, exists, existsName}
+use Rattle.matrix.specs.State.{State, has, exists, existsName}
 use Rattle.matrix.specs.Owners.{walk, meets}
 use Rattle.matrix.specs.Commands.{kindOf}
 
@@ -71,6 +71,16 @@ permitted S c DestroyObject = S .owns (c .i) (c .o)
 permitted S c CreateSubject = true
 permitted S c DestroySubject = S .owns (c .i) (Subject (c .s))
 
+-- 19: the bit that a delete names is set. Only this bit counts: neither own nor the other form of the right does (Manual 5.4).
+abbrev pub deletable : State → Command → Act → Bool
+deletable S c (Transfer y) = true
+deletable S c (Grant y) = true
+deletable S c (Delete y) = has S y (c .s) (c .o)
+deletable S c CreateObject = true
+deletable S c DestroyObject = true
+deletable S c CreateSubject = true
+deletable S c DestroySubject = true
+
 -- 13: the walk of code 3 does not meet o. It starts at s itself, and is made where o is a subject: over a plain object there is none (Manual 5.4).
 abbrev pub apart : State → Command → Act → Bool
 apart S c (Transfer Own) = not (isSubject (c .o) && meets (walk S (c .s) (c .o)))
@@ -106,5 +116,6 @@ commandTests S c =
     test 10 (present S c (c .act)) ∷
     test 11 (free S c (c .act)) ∷
     test 12 (permitted S c (c .act)) ∷
+    test 19 (deletable S c (c .act)) ∷
     test 13 (apart S c (c .act)) ∷
     test 14 (uncontrolled S c (c .act)) ∷ []

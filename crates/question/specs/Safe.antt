@@ -10,7 +10,7 @@ use Rattle.matrix.specs.Commands.{Raw}
 use Rattle.matrix.specs.Step.{next}
 
 -- The state after a list in the definition (Manual 8.2): each command acts on what the one before left behind, and after a refused one,
--- which changes nothing, the next one follows. The tests 6 to 14 are those of a record, but names have no bounds: `names` is true.
+-- which changes nothing, the next one follows. The tests of a command are those of a record, but names have no bounds: `names` is true.
 unfoldable pub after : ℕ → State → List Raw → State
 after basics S [] = S
 after basics S (c ∷ cs) = after basics (next basics true S c) cs

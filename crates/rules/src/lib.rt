@@ -1,4 +1,4 @@
-// The tests 9 to 12 of a command on a record, each by itself. Those of existence ask that the record is valid.
+// The tests 9 to 12 and 19 of a command on a record, each by itself. Those of existence ask that the record is valid.
 
 use matrix::Act;
 use matrix::Command;
@@ -11,7 +11,7 @@ ghost use mathlib.Core.Path.{_≡_};
 ghost use mathlib.Core.Bool.{_&&_};
 ghost use Rattle.matrix.specs.State.{exists, existsName};
 ghost use Rattle.matrix.specs.Valid.{Valid};
-ghost use Rattle.matrix.specs.Tests.{kindFits, present, free, permitted};
+ghost use Rattle.matrix.specs.Tests.{kindFits, present, free, permitted, deletable};
 ghost use Rattle.matrix.specs.Reading.{stateOf};
 ghost use Rattle.states.specs.Needs.{RightIn};
 ghost use Rattle.rules.specs.Needs.{CommandIn};
@@ -132,5 +132,23 @@ pub fn is_permitted(b: &[u8], f: Shape, c: Command) -> bool
         Act::DestroyObject => owns_object(b, f, c),
         Act::CreateSubject => true,
         Act::DestroySubject => states::has_bit(b, f, Right::Own, c.i, Name::Subject(c.s)),
+    }
+}
+
+// Whether the bit that a delete clears is set.
+pub fn is_deletable(b: &[u8], f: Shape, c: Command) -> bool
+    requires { ⌜ CommandIn (now b) f c ⌝ }
+    ensures { λ t. ⌜ t ≡ deletable (stateOf (now (b .entry))) c (c .act) ⌝ }
+{
+    let act = c.act;
+    let o = c.o;
+    match act {
+        Act::Transfer(_) => true,
+        Act::Grant(_) => true,
+        Act::Delete(y) => states::has_bit(b, f, y, c.s, o),
+        Act::CreateObject => true,
+        Act::DestroyObject => true,
+        Act::CreateSubject => true,
+        Act::DestroySubject => true,
     }
 }

@@ -69,20 +69,20 @@ module _ {b : List ℕ} {f : Shape} (c : Fields) (h : WithoutBasic b f c) (plain
       → Answered b b′ c (Accepted 0)
   answered-create e z i free w =
       answered-accepted c (h .station) (h .names) CreateObject (rw e refl) (rw e refl) (rw (e, z, h .none) refl)
-      (i, (plain, (refl, (rw free refl, (refl, (refl, (refl, tt))))))) refl w
+      (i, (plain, (refl, (rw free refl, (refl, (refl, (refl, (refl, tt)))))))) refl w
 
   pub answered-destroy : {b′ : List ℕ} → c .code ≡ 11 → c .s ≡ 0 → S .owns (c .i) x ≡ true → Became b b′ (clear (inColumn x) S) → Answered b b′ c (Accepted 0)
   answered-destroy e z owned w =
       answered-accepted c (h .station) (h .names) DestroyObject (rw e refl) (rw e refl) (rw (e, z, h .none) refl)
-      (initiator owned, (plain, (object owned, (refl, (owned, (refl, (refl, tt))))))) refl w
+      (initiator owned, (plain, (object owned, (refl, (owned, (refl, (refl, (refl, tt)))))))) refl w
 
   -- s gets own, and i keeps its own (code 7) or not (code 3)
   pub answered-given : {b′ : List ℕ} (keeps : Bool) → c .code ≡ cond keeps 7 3 → exists S (c .s) ≡ true → S .owns (c .i) x ≡ true
       → Became b b′ (put Own (c .s) x true (put Own (c .i) x keeps S)) → Answered b b′ c (Accepted 0)
   answered-given true e there owned w =
       answered-accepted c (h .station) (h .names) (Grant Own) (rw e refl) (rw e refl) (rw (e, h .none) refl)
-      (initiator owned, (plain, (both there owned, (refl, (owned, (refl, (refl, tt))))))) refl
+      (initiator owned, (plain, (both there owned, (refl, (owned, (refl, (refl, (refl, tt)))))))) refl
       (became-as w (ap (λ (T : State). put Own (c .s) x true T) (put-set Own (c .i) x S S refl (λ z v u e. refl) owned)))
   answered-given false e there owned w =
       answered-accepted c (h .station) (h .names) (Transfer Own) (rw e refl) (rw e refl) (rw (e, h .none) refl)
-      (initiator owned, (refl, (both there owned, (refl, (owned, (rw no-subject refl, (refl, tt))))))) (rw no-subject refl) w
+      (initiator owned, (refl, (both there owned, (refl, (owned, (refl, (rw no-subject refl, (refl, tt)))))))) (rw no-subject refl) w

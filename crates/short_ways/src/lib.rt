@@ -1,9 +1,10 @@
-// The short ways of commands that are accepted on a valid record: fewer looks at the record than the tests 8 to 14 take in turn.
+// The short ways of commands that are accepted on a valid record: fewer looks at the record than the tests of a command take in turn.
 
 use matrix::Answer;
 use matrix::Fields;
 use matrix::Form;
 use matrix::Kind;
+use matrix::Name;
 use matrix::Right;
 use matrix::Shape;
 ghost use mathlib.Core.Path.{_≡_};
@@ -14,31 +15,43 @@ ghost use Rattle.matrix.specs.Shape.{basicsOf};
 ghost use Rattle.matrix.specs.Reading.{stateOf};
 ghost use Rattle.matrix.specs.Calls.{namesFit};
 ghost use Rattle.cells.specs.Station.{Station};
-ghost use Rattle.states.specs.Needs.{RightIn};
+ghost use Rattle.states.specs.Needs.{RightIn, BitIn};
 ghost use Rattle.decoding.specs.Decoded.{formFrom};
 ghost use Rattle.short_ways.specs.Answered.{Answered};
-ghost use Rattle.short_ways.specs.Allowed.{Where, Allowed};
+ghost use Rattle.short_ways.specs.Allowed.{Where, subjectFits, Allowed};
 ghost use Rattle.short_ways.specs.Objects.{WithoutBasic};
 
-// The basic right of a command over o is given to s, or taken from it, where s exists and i has the right y over o; whether it was.
+// What is asked of s: it exists where it is given the right y over o (on), and it has its bit where the right is taken from it.
+fn subject_fits(b: &[u8], f: Shape, y: Right, s: usize, o: Name, on: bool) -> bool
+    requires { ⌜ BitIn (now b) f y s o ⌝ }
+    ensures { λ t. ⌜ t ≡ subjectFits (stateOf (now (b .entry))) y s o on ⌝ }
+{
+    if on {
+        return states::subject_exists(b, f, s);
+    }
+    states::has_bit(b, f, y, s, o)
+}
+
+// The basic right of a command over o is given to s, or taken from it, where s fits and i has the right y over o; whether it was.
 fn put_allowed(b: &mut [u8], f: Shape, c: Fields, y: Right, first: usize, on: bool) -> bool
     requires { ⌜ Station (now b) f × (namesFit f c ≡ true) × (c .k < basicsOf f) × RightIn f y ⌝ }
     ensures { λ t. ⌜ Where t (now (b .entry)) (now (b .exit)) (Allowed (now (b .entry)) (now (b .exit)) (f .n) c y (formFrom (c .code) first) on) ⌝ }
 {
     let o = states::name_of(f.n, c.o);
-    if !states::subject_exists(b, f, c.s) {
+    let form = decoding::form_from(c.code, first);
+    if !subject_fits(b, f, Right::Basic(c.k, form), c.s, o, on) {
         return false;
     }
     if !states::has_bit(b, f, y, c.i, o) {
         return false;
     }
-    let form = decoding::form_from(c.code, first);
     bits::put_right(b, f, Right::Basic(c.k, form), c.s, o, on);
     true
 }
 
 // The short way of a command over a basic right, which changes one bit. It is taken where the command is accepted because i has a right
-// over o itself: the star for a transfer, own for a grant or a delete. Where i has a right over o, i and o exist, so that is not asked.
+// over o itself: the star for a transfer, own for a grant or a delete. Where i has a right over o, i and o exist, so that is not asked; nor is
+// of a delete whether s exists, which has the right.
 pub fn by_right(b: &mut [u8], f: Shape, c: Fields) -> bool
     requires { ⌜ Station (now b) f × Valid (stateOf (now b)) ⌝ }
     ensures { λ t. ⌜ Where t (now (b .entry)) (now (b .exit)) (Answered (now (b .entry)) (now (b .exit)) c (Answer.Accepted 0)) ⌝ }

@@ -49,7 +49,7 @@ pub allowed-accepted : (S : State) (c : Command) → Allowed S c (c .act) → re
 unfolding refusalOf
 allowed-accepted S c a =
     all-passed (commandTests S c)
-    (a .initiator, (a .kind, (a .there, (a .absent, (a .entitled, (a .unmet, (a .alone, tt)))))))
+    (a .initiator, (a .kind, (a .there, (a .absent, (a .entitled, (a .set, (a .unmet, (a .alone, tt))))))))
 
 accepts-column : (f : Shape) (S : State) (c : Fields) → c .i < f .n → c .s < f .n → c .o < columns f → known (c .code) ≡ true
     → fitting f c (c .o) ≡ true → Allowed S (meaning c (nameOf (f .n) (c .o))) (actOf c)
@@ -87,6 +87,7 @@ destroy-accepted {S} f v w h lv lw own =
       there = h .column Own v (Subject w) own;
       absent = refl;
       entitled = own;
+      set = refl;
       unmet = refl;
       alone = refl;
     })
@@ -101,11 +102,11 @@ pub create-accepted : {S : State} (f : Shape) (v : ℕ) (x : Name) → v < f .n 
     → existsName S x ≡ false → Accepts f S (createsName v x) (created v x S)
 create-accepted {S} f v (Subject w) lv inside ev absent =
     accepts f S (creates v w) (nameOf (f .n) 0) refl lv (ltb-true w (f .n) inside) (omega arith) refl refl
-    (record { initiator = ev; kind = refl; there = refl; absent = fails-not absent; entitled = refl; unmet = refl; alone = refl })
+    (record { initiator = ev; kind = refl; there = refl; absent = fails-not absent; entitled = refl; set = refl; unmet = refl; alone = refl })
 create-accepted {S} f v (Name.Plain o) lv inside ev absent =
     accepts f S (createsName v (Name.Plain o)) (Name.Plain o) (nameOf-columnOf (f .n) (f .p) (Name.Plain o) inside) lv (omega arith)
     (named-below (f .n) (f .p) (Name.Plain o) inside) refl refl
-    (record { initiator = ev; kind = refl; there = refl; absent = fails-not absent; entitled = refl; unmet = refl; alone = refl })
+    (record { initiator = ev; kind = refl; there = refl; absent = fails-not absent; entitled = refl; set = refl; unmet = refl; alone = refl })
 
 -- A command of v on s and a name o of the record.
 over : {S : State} (f : Shape) (v s : ℕ) (o : Name) (code k : ℕ) → v < f .n → s < f .n → named (f .n) (f .p) o ≡ true → known code ≡ true
@@ -142,6 +143,7 @@ grant-allowed c y h es own fit alone =
       there = and-both es (h .column Own (c .i) (c .o) own);
       absent = refl;
       entitled = own;
+      set = refl;
       unmet = refl;
       alone = alone;
     }
@@ -155,6 +157,7 @@ pass-allowed c k g h es star =
       there = and-both es (h .column (Basic k Starred) (c .i) (c .o) star);
       absent = refl;
       entitled = star;
+      set = refl;
       unmet = refl;
       alone = refl;
     }
@@ -170,6 +173,7 @@ give-accepted f v s (Subject o) Own h lv ls inside lk es own apart =
       there = and-both es (h .column Own v (Subject o) own);
       absent = refl;
       entitled = own;
+      set = refl;
       unmet = fails-not apart;
       alone = refl;
     })

@@ -46,7 +46,7 @@ module _ {b : List ℕ} {f : Shape} (c : Fields) (h : WithoutBasic b f c) where
       → Became b b′ (change S (doing (f .n) c CreateSubject) CreateSubject) → Answered b b′ c (Accepted 0)
   answered-created e z i free w =
       answered-accepted c (h .station) (h .names) CreateSubject (rw e refl) (rw e refl) (rw (e, z, h .none) refl)
-      (i, (refl, (refl, (rw free refl, (refl, (refl, (refl, tt))))))) refl w
+      (i, (refl, (refl, (rw free refl, (refl, (refl, (refl, (refl, tt)))))))) refl w
 
   -- where i owns a subject, both exist
   owner : (s : ℕ) → S .owns (c .i) (Subject s) ≡ true → exists S (c .i) ≡ true
@@ -59,12 +59,12 @@ module _ {b : List ℕ} {f : Shape} (c : Fields) (h : WithoutBasic b f c) where
       → Became b b′ (change S (doing (f .n) c DestroySubject) DestroySubject) → Answered b b′ c (Accepted 0)
   answered-destroyed e z owned w =
       answered-accepted c (h .station) (h .names) DestroySubject (rw e refl) (rw e refl) (rw (e, z, h .none) refl)
-      (owner (c .s) owned, (refl, (subject (c .s) owned, (refl, (owned, (refl, (refl, tt))))))) refl w
+      (owner (c .s) owned, (refl, (subject (c .s) owned, (refl, (owned, (refl, (refl, (refl, tt)))))))) refl w
 
   pub answered-controlled : {b′ : List ℕ} → c .code ≡ 6 → c .o < f .n → exists S (c .s) ≡ true → S .owns (c .i) (Subject (c .o)) ≡ true
       → otherController S (Subject (c .o)) ≡ false → Became b b′ (put Control (c .s) (Subject (c .o)) true S) → Answered b b′ c (Accepted 0)
   answered-controlled e l there owned nobody w =
       let x : nameOf (f .n) (c .o) ≡ Subject (c .o) = subject-named (f .n) (c .o) l in
       answered-accepted c (h .station) (h .names) (Grant Control) (rw e refl) (rw e refl) (rw (e, h .none) refl)
-      (rw x (owner (c .o) owned, (refl, (and-both there (subject (c .o) owned), (refl, (owned, (refl, (rw nobody refl, tt))))))))
+      (rw x (owner (c .o) owned, (refl, (and-both there (subject (c .o) owned), (refl, (owned, (refl, (refl, (rw nobody refl, tt)))))))))
       refl (rw x w)

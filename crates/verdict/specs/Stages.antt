@@ -1,4 +1,4 @@
--- The tests 8 to 14 in two stages.
+-- The tests of a decoded command in two stages.
 use Prim.Native.Nat.{ℕ}
 use native.Mathlib.Omega.{arith}
 use mathlib.Core.Path.{_≡_, refl}
@@ -8,15 +8,15 @@ use lib.Dec.{eqb}
 use Rattle.matrix.specs.declared.Command.{Command}
 use Rattle.matrix.specs.State.{State, exists}
 use Rattle.matrix.specs.Commands.{kindOf}
-use Rattle.matrix.specs.Tests.{Test, test, firstFailed, kindFits, present, free, permitted, apart, uncontrolled}
+use Rattle.matrix.specs.Tests.{Test, test, firstFailed, kindFits, present, free, permitted, deletable, apart, uncontrolled}
 use Rattle.matrix.specs.Step.{refusalOf}
 
--- the first failure among the tests 8 to 11, and among 12 to 14
+-- the first failure among the tests 8 to 11, and among 12, 19, 13 and 14
 unfoldable pub early : State → Command → ℕ
 early S c = firstFailed (test 8 (exists S (c .i)) ∷ test 9 (kindFits (kindOf (c .act)) (c .o)) ∷ test 10 (present S c (c .act)) ∷ test 11 (free S c (c .act)) ∷ [])
 
 unfoldable pub late : State → Command → ℕ
-late S c = firstFailed (test 12 (permitted S c (c .act)) ∷ test 13 (apart S c (c .act)) ∷ test 14 (uncontrolled S c (c .act)) ∷ [])
+late S c = firstFailed (test 12 (permitted S c (c .act)) ∷ test 19 (deletable S c (c .act)) ∷ test 13 (apart S c (c .act)) ∷ test 14 (uncontrolled S c (c .act)) ∷ [])
 
 stages : (r s t u : Bool) (us : List Test) → firstFailed (test 8 r ∷ test 9 s ∷ test 10 t ∷ test 11 u ∷ us) ≡ cond (eqb (firstFailed (test 8 r ∷ test 9 s ∷ test 10 t ∷ test 11 u ∷ [])) 0) (firstFailed us) (firstFailed (test 8 r ∷ test 9 s ∷ test 10 t ∷ test 11 u ∷ []))
 unfolding firstFailed

@@ -1,4 +1,4 @@
-// The verdict on a command: the tests 8 to 14, one after another, with the links of the owner walk.
+// The verdict on a command: the tests 8 to 12, 19, 13 and 14, one after another, with the links of the owner walk.
 
 use matrix::Act;
 use matrix::Command;
@@ -111,7 +111,7 @@ fn granted(b: &[u8], f: Shape, c: Command, y: Right) -> Verdict
     }
 }
 
-// The tests 12 to 14.
+// The tests 12, 19, 13 and 14.
 fn judge_late(b: &[u8], f: Shape, owners: &[u8; MOST_SUBJECTS], c: Command) -> Verdict
     requires { ⌜ CommandIn (now b) f c × (kindFits (kindOf (c .act)) (c .o) ≡ true) × Guessed (now b) f (now owners) ⌝ }
     ensures { λ v. ⌜ JudgedLate (stateOf (now (b .entry))) c v ⌝ }
@@ -119,6 +119,12 @@ fn judge_late(b: &[u8], f: Shape, owners: &[u8; MOST_SUBJECTS], c: Command) -> V
     if !rules::is_permitted(b, f, c) {
         return Verdict {
             refusal: 12,
+            links: 0,
+        };
+    }
+    if !rules::is_deletable(b, f, c) {
+        return Verdict {
+            refusal: 19,
             links: 0,
         };
     }
