@@ -1,5 +1,6 @@
 //! The seven calls on a record, of any bytes and any numbers. Tests go by their numbers, the lowest first, but for
-//! 18, which comes before 15; and where one holds the call is turned down and changes nothing.
+//! 18, which comes before 15, and 19, which comes directly after 12; and where one holds the call is turned down
+//! and changes nothing.
 
 use crate::Refusal;
 use crate::command::{self, Refused, allowed, change};
@@ -49,7 +50,7 @@ pub fn held(record: &[u8], s: u64, o: u64, right: u64) -> Answer {
     }
 }
 
-/// One command on a station, with the tests 6 to 14. The links reported are the value.
+/// One command on a station, with the tests 6 to 12, then 19, then 13 and 14. The links reported are the value.
 fn step(station: &mut Station, fields: [u64; 5]) -> Answer {
     let Station { version, n, p, .. } = *station;
     let command = match command::decode_in(version, fields, n, p) {

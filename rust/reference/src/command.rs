@@ -72,8 +72,8 @@ pub struct Refused {
     pub links: u64,
 }
 
-/// The tests 8 to 14 in their order. An allowed command gives the links that it reports: those of the walk for
-/// code 3 over a subject, otherwise 0.
+/// The tests 8 to 12, then 19, then 13 and 14. An allowed command gives the links that it reports: those of the
+/// walk for code 3 over a subject, otherwise 0.
 pub fn allowed(state: &State, c: &Command) -> Result<u64, Refused> {
     let refused = |refusal| Err(Refused { refusal, links: 0 });
     // 8: i exists.
@@ -96,22 +96,42 @@ pub fn allowed(state: &State, c: &Command) -> Result<u64, Refused> {
     if !has_right_needed(state, c) {
         return refused(12);
     }
-    // 13: the walk meets o; it starts at s itself. A plain object owns nothing and is above nobody, so for it
-    // there is no walk, and no link to report.
+    // 19: the bit that a delete would clear is set. The other form of the right does not help, nor does own.
+    if matches!(c.code, 8 | 9) && !state.has(c.s, c.o, named_right(c)) {
+        return refused(19);
+    }
+    // 13: the walk meets o. A plain object owns nothing and is above nobody, so for it there is no walk, and no
+    // link to report.
     if c.code == 3 && matches!(c.o, Name::Subject(_)) {
-        let walk = state.walk(c.s, c.o);
-        let links = walk.links;
-        return if walk.met {
-            Err(Refused { refusal: 13, links })
-        } else {
-            Ok(links)
-        };
+        return walk_without_o(state, c);
     }
     // 14: nobody but o controls o.
     if c.code == 6 && controlled_by_another(state, c.o) {
         return refused(14);
     }
     Ok(0)
+}
+
+/// The test 13: the walk, which starts at s itself, must not meet o. Gives the links followed; the refusal
+/// reports them too.
+fn walk_without_o(state: &State, c: &Command) -> Result<u64, Refused> {
+    let walk = state.walk(c.s, c.o);
+    let links = walk.links;
+    if walk.met {
+        Err(Refused { refusal: 13, links })
+    } else {
+        Ok(links)
+    }
+}
+
+/// The right that a transfer, a grant or a delete of a basic right names: k, in the form that its code has.
+fn named_right(c: &Command) -> Right {
+    let form = match c.code {
+        1 | 4 | 8 => Form::Plain,
+        2 | 5 | 9 => Form::Starred,
+        _ => unreachable!("the other codes name no basic right"),
+    };
+    Right::Basic(c.k, form)
 }
 
 /// Whether o is of the kind that the command needs, if it needs one. Transfer of own, as the other codes that
@@ -179,12 +199,9 @@ fn controlled_by_another(state: &State, o: Name) -> bool {
 
 /// The change that the table has for an accepted command (Manual 5.2).
 pub fn change(state: &mut State, c: &Command) {
-    let plain = Right::Basic(c.k, Form::Plain);
-    let starred = Right::Basic(c.k, Form::Starred);
     match c.code {
-        // Transfer and grant of r or r*: s gets it.
-        1 | 4 => state.gain(c.s, c.o, plain),
-        2 | 5 => state.gain(c.s, c.o, starred),
+        // Transfer and grant of r or r*: s gets it, and keeps it where it has it already.
+        1 | 2 | 4 | 5 => state.gain(c.s, c.o, named_right(c)),
         // Transfer own: from i to s; i loses it first, so that nothing changes where s = i. A plain object may
         // have more owners: the others keep it, and where s is one of them already, i alone loses it.
         3 => {
@@ -195,9 +212,8 @@ pub fn change(state: &mut State, c: &Command) {
         6 => state.gain(c.s, c.o, Right::Control),
         // Grant own: s gets it, and i keeps its own.
         7 => state.gain(c.s, c.o, Right::Own),
-        // Delete r or r*: s loses this bit and no other.
-        8 => state.lose(c.s, c.o, plain),
-        9 => state.lose(c.s, c.o, starred),
+        // Delete r or r*: s loses this bit, which it has, and no other.
+        8 | 9 => state.lose(c.s, c.o, named_right(c)),
         // Create object: it is i's.
         10 => state.gain(c.i, c.o, Right::Own),
         // Destroy object: nobody has anything over it.

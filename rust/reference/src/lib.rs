@@ -29,5 +29,5 @@ pub use state::{Name, State, U, Walk};
 pub use version::Version;
 pub use window::{WINDOW_SIZE, Window};
 
-/// The number of a refusal, 1 to 18 (Manual 7.1).
+/// The number of a refusal, 1 to 19 (Manual 7.1).
 pub type Refusal = u64;

@@ -58,6 +58,9 @@ pub fn buffer_minimum(n: u64) -> usize {
 /// who begins it owns the object, and so is above it, and the object has an owner afterwards, so that it does
 /// not become absent.
 ///
+/// That a delete of a bit that is not set is refused, by 19, changes no answer: such a delete would leave the
+/// state as it is, and after a refusal the next command follows, so the same states are come to.
+///
 /// The record's version bounds k, in the question as in the lists. The bound is not needed here: the k of the
 /// question is below it, and the answer depends on no other k (`search` gives the reason).
 pub fn leaks(station: &Station, q: &Question) -> bool {

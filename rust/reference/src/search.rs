@@ -7,10 +7,11 @@
 //!
 //! * Another basic right than the one asked is never read by a rule about the right asked, own or control: the
 //!   only commands that read a basic bit are the transfers 1 and 2, which read and set bits of their own k, and
-//!   existence, owners and the walk are read from own and control. So commands with another k can be left out,
-//!   however many the record's version has, and with own or control all commands 1, 2, 4, 5, 8, 9. The k asked is
-//!   below the bound of the record's version, which is the bound in the lists too, so no command is tried that
-//!   the definition refuses by 7. Own over o, by which the right asked is held as well, is never left out.
+//!   the deletes 8 and 9, which read the one bit that they clear; existence, owners and the walk are read from
+//!   own and control. So commands with another k can be left out, however many the record's version has, and
+//!   with own or control all commands 1, 2, 4, 5, 8, 9. The k asked is below the bound of the record's version,
+//!   which is the bound in the lists too, so no command is tried that the definition refuses by 7. Own over o, by
+//!   which the right asked is held as well, is never left out.
 //! * A plain column other than o is never read by a rule about another column. So commands over other plain
 //!   names, in the record or beyond it, can be left out.
 //! * A basic bit of a column other than o is never read by a rule about another cell than its column's.

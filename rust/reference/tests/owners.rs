@@ -1,22 +1,17 @@
 //! An owner holds every basic right in both forms, in each place that asks whether a right is held; what a command may do
 //! depends on bits alone. Each case is tried at both versions, with every basic right that the version has.
 
-use reference::{Cell, Right, Safety, command, held, leaks_by, run, safety, valid, write_list};
+use reference::{Cell, Right, Safety, command, held, leaks_by, run, safety, write_list};
 
+#[path = "common/codes.rs"]
+mod codes;
 #[path = "common/stations.rs"]
 mod stations;
 #[path = "common/widened.rs"]
 mod widened;
 
+use codes::{at_both_versions, delete, grant, k_of, with_bit};
 use stations::{A, A2, B, B2, answer, with};
-use widened::widened;
-
-/// A record of version 1 with the count of its codes, and the one of version 2 with the same cells and its count.
-fn at_both_versions(narrow: &[u8]) -> [(Vec<u8>, u64); 2] {
-    let both = [(narrow.to_vec(), 16), (widened(narrow), 32)];
-    assert!(both.iter().all(|(record, _)| valid(record)));
-    both
-}
 
 /// Asserts that of the rights over o, s holds those for which this says yes, and no others.
 fn holds(narrow: &[u8], s: u64, o: u64, yes: impl Fn(u64) -> bool) {
@@ -26,16 +21,6 @@ fn holds(narrow: &[u8], s: u64, o: u64, yes: impl Fn(u64) -> bool) {
             assert_eq!(held(&record, s, o, code), expected, "{s} {o} {code}");
         }
     }
-}
-
-/// The basic right k of a code.
-fn k_of(code: u64) -> u8 {
-    (code as u8 - 2) / 2
-}
-
-/// The grant of the right of a code, plain or starred.
-fn grant(code: u64, [i, s, o]: [u8; 3]) -> [u8; 5] {
-    [4 + code as u8 % 2, i, s, o, k_of(code)]
 }
 
 /// Station A, but with both other subjects owned by U: subject 1 is not above log 3, which 2 owns.
@@ -163,14 +148,10 @@ fn grants_and_deletes_change_the_named_bit() {
             };
             let is_held = |record: &[u8]| held(record, 2, 3, code) == answer(0, 1);
             let give_away = [3, 2, 1, 3, 0];
-            // The cell of row 2 and log 3 is the last.
-            let mut granted = record.clone();
-            let byte = granted.len() - 1 - code as usize / 8;
-            granted[byte] |= 1 << (code % 8);
+            let granted = with_bit(&record, [2, 3], code);
             assert_eq!(after(&record, grant(code, [2, 2, 3])), granted);
             assert!(is_held(&after(&granted, give_away)), "the bit stays");
-            let delete = [8 + code as u8 % 2, 2, 2, 3, k_of(code)];
-            assert_eq!(after(&granted, delete), record);
+            assert_eq!(after(&granted, delete(code, [2, 2, 3])), record);
             assert!(is_held(&record), "own still counts");
             assert!(!is_held(&after(&record, give_away)), "own is gone");
         }

@@ -86,7 +86,7 @@ fn of_validity_and_held() {
 /// All commands, with unknown codes and with each field up to one beyond its bound.
 #[test]
 fn of_commands() {
-    let mut answers = [0; 17];
+    let mut answers = [0; 20];
     for pair in pairs() {
         for code in 0..=14 {
             for i in 0..=pair.n {
@@ -102,7 +102,7 @@ fn of_commands() {
             }
         }
     }
-    for refusal in [0, 6, 7, 8, 9, 10, 11, 12, 13, 14] {
+    for refusal in [0, 6, 7, 8, 9, 10, 11, 12, 13, 14, 19] {
         assert!(answers[refusal] > 0, "{refusal} occurs");
     }
 }

@@ -1,5 +1,7 @@
 //! Records of version 2 beside those of version 1: which bytes they have, and what the calls on them answer.
 
+use std::array;
+
 use reference::{
     Form, Right, Safety, Version, command, decode, decode_in, held, leaks_by, read, run, safety,
     valid, write, write_list,
@@ -7,28 +9,11 @@ use reference::{
 
 #[path = "common/stations.rs"]
 mod stations;
+#[path = "common/tried.rs"]
+mod tried;
 
 use stations::{A, A2, B, B2, answer, with};
-
-/// Asserts that a command is accepted with 0 links and leaves this record, alone and in a run.
-fn leaves(before: &[u8], fields: [u8; 5], after: &[u8]) {
-    let mut record = before.to_vec();
-    let accepted = command(&mut record, fields.map(u64::from));
-    assert_eq!(accepted, answer(0, 0), "{fields:?}");
-    assert_eq!(record, after, "{fields:?}");
-    let mut record = before.to_vec();
-    assert_eq!(run(&mut record, &write_list(&[fields])), answer(0, 1));
-    assert_eq!(record, after, "{fields:?} in a run");
-}
-
-/// Asserts that a command is refused with 0 links and leaves the record as it was, alone and in a run.
-fn refused(before: &[u8], fields: [u8; 5], refusal: u64) {
-    let mut record = before.to_vec();
-    let given = command(&mut record, fields.map(u64::from));
-    assert_eq!(given, answer(refusal, 0), "{fields:?}");
-    assert_eq!(run(&mut record, &write_list(&[fields])), answer(refusal, 0));
-    assert_eq!(record, before, "{fields:?}");
-}
+use tried::{leaves, refused};
 
 #[test]
 fn byte_0_is_the_version() {
@@ -168,14 +153,19 @@ fn commands_set_and_clear_the_bit_of_their_k() {
     ];
     for (k, plain, starred) in cells {
         let (r, star) = (with(&A2, 35, plain), with(&A2, 35, starred));
+        let both: [u8; 4] = array::from_fn(|at| plain[at] | starred[at]);
+        let both = with(&A2, 35, both);
         // Grants and deletes by the owner.
         leaves(&A2, [4, 2, 1, 3, k], &r);
         leaves(&A2, [5, 2, 1, 3, k], &star);
         leaves(&r, [8, 2, 1, 3, k], &A2);
         leaves(&star, [9, 2, 1, 3, k], &A2);
-        // Only the named bit is cleared; row 1 controls itself and so may delete its rights.
-        leaves(&star, [8, 1, 1, 3, k], &star);
-        leaves(&r, [9, 1, 1, 3, k], &r);
+        // Only the named bit is cleared, and without it the other form does not do; row 1 controls itself and so
+        // may delete its rights.
+        leaves(&both, [8, 1, 1, 3, k], &star);
+        leaves(&both, [9, 1, 1, 3, k], &r);
+        refused(&star, [8, 1, 1, 3, k], 19);
+        refused(&r, [9, 1, 1, 3, k], 19);
         // Transfers to row 0 need the star of this k.
         leaves(&star, [1, 1, 0, 3, k], &with(&star, 19, plain));
         leaves(&star, [2, 1, 0, 3, k], &with(&star, 19, starred));
