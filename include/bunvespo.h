@@ -75,17 +75,18 @@ extern "C" {
  *   #if BUNVESPO_LIBRARY_VERSION >= 5000      0.5.0 or later: the limits of n and p, which were 64 and 192, are 40 and 120
  *   #if BUNVESPO_LIBRARY_VERSION >= 6000      0.6.0 or later: records of version 2, with fifteen basic rights, and the conversions
  *   #if BUNVESPO_LIBRARY_VERSION >= 7000      0.7.0 or later: own counts as holding every basic right
+ *   #if BUNVESPO_LIBRARY_VERSION >= 8000      0.8.0 or later: a delete of a bit that is not set is refused by 19
  */
 #define BUNVESPO_VERSION_MAJOR 0
-#define BUNVESPO_VERSION_MINOR 7
+#define BUNVESPO_VERSION_MINOR 8
 #define BUNVESPO_VERSION_PATCH 0
 #define BUNVESPO_LIBRARY_VERSION (BUNVESPO_VERSION_MAJOR * 1000000 + BUNVESPO_VERSION_MINOR * 1000 + BUNVESPO_VERSION_PATCH)
 
 /*
  * REFUSALS. Each call tests the conditions below in an order of its own, and the answer is the number of the first one that holds:
  *   held                        1 to 5, 7
- *   command                     1 to 14
- *   run                         1 to 5, 16, and then 6 to 14 for each command in its turn
+ *   command                     1 to 12, 19, 13, 14
+ *   run                         1 to 5, 16, and then 6 to 12, 19, 13, 14 for each command in its turn
  *   safety                      1 to 5, 7, 15
  *   to_version_1                1 to 5, 18, 15
  *   to_version_2                1 to 5, 15
@@ -114,10 +115,11 @@ enum {
     BUNVESPO_REFUSED_LIST_FORM = 16,        /* run: fewer than 5 bytes, a version other than 1, a command that does not begin with 05, or
                                                an L above 60,000, not divisible by six, or not the number of bytes after it */
     BUNVESPO_REFUSED_WINDOW_NUMBER = 17,    /* window_put, window_count: whatever the window's bytes */
-    BUNVESPO_REFUSED_HIGH_RIGHT = 18        /* to_version_1: one of the bits 16 to 31 is set in some cell of a record of version 2 */
+    BUNVESPO_REFUSED_HIGH_RIGHT = 18,       /* to_version_1: one of the bits 16 to 31 is set in some cell of a record of version 2 */
+    BUNVESPO_REFUSED_NOT_SET = 19           /* command, run: codes 8 and 9; neither own nor the other form of the right helps */
 };
 
-/* A refusal in words, without a full stop. Any number has some: 0 and those above 18 are told so. The text is never freed. */
+/* A refusal in words, without a full stop. Any number has some: 0 and those above 19 are told so. The text is never freed. */
 static inline const char *bunvespo_refusal_words(uint64_t refusal)
 {
     switch (refusal) {
@@ -142,6 +144,7 @@ static inline const char *bunvespo_refusal_words(uint64_t refusal)
     case BUNVESPO_REFUSED_LIST_FORM: return "the list is not of the right form";
     case BUNVESPO_REFUSED_WINDOW_NUMBER: return "the initiator, or the number whose count is read, is 64 or more";
     case BUNVESPO_REFUSED_HIGH_RIGHT: return "a basic right above 6 is set, for which version 1 has no room";
+    case BUNVESPO_REFUSED_NOT_SET: return "the right to be deleted is not set";
     default: return "no refusal has this number";
     }
 }
@@ -171,8 +174,8 @@ enum {
     BUNVESPO_GRANT_STARRED = 5,     /* i s o k  i, an owner of o, gives s r* over o */
     BUNVESPO_GRANT_CONTROL = 6,     /* i s o    i, the owner of subject o, gives s control of it if o alone has that */
     BUNVESPO_GRANT_OWN = 7,         /* i s o    i, an owner of plain object o, makes s one more owner */
-    BUNVESPO_DELETE = 8,            /* i s o k  i, an owner of o or in control of s, takes r over o from s; r* stays */
-    BUNVESPO_DELETE_STARRED = 9,    /* i s o k  i, an owner of o or in control of s, takes r* over o from s; r stays */
+    BUNVESPO_DELETE = 8,            /* i s o k  i, an owner of o or in control of s, takes r over o from s, if it is set; r* stays */
+    BUNVESPO_DELETE_STARRED = 9,    /* i s o k  i, an owner of o or in control of s, takes r* over o from s, if it is set; r stays */
     BUNVESPO_CREATE_OBJECT = 10,    /* i o      i makes plain object o and owns it */
     BUNVESPO_DESTROY_OBJECT = 11,   /* i o      i, an owner of plain object o, destroys it: its column becomes zero */
     BUNVESPO_CREATE_SUBJECT = 12,   /* i s      i makes subject s and owns it; s has control of itself */
@@ -209,7 +212,7 @@ uint64_t bunvespo_valid(const uint8_t *record, size_t record_len);
 bunvespo_answer bunvespo_held(const uint8_t *record, size_t record_len, uint64_t s, uint64_t o, uint64_t right);
 
 /*
- * One command. Refusals: 1 to 14. On acceptance the record holds the next state, on a refusal no byte changes.
+ * One command. Refusals: 1 to 14, 19. On acceptance the record holds the next state, on a refusal no byte changes.
  * value: the owner links that the walk of code 3 over a subject followed, at most n - 1, where it is accepted or refused by 13; else 0.
  */
 bunvespo_answer bunvespo_command(uint8_t *record, size_t record_len, uint64_t code, uint64_t i, uint64_t s, uint64_t o,
@@ -217,7 +220,7 @@ bunvespo_answer bunvespo_command(uint8_t *record, size_t record_len, uint64_t co
 
 /*
  * The commands of a list in turn, up to the first that is refused. Refusals: 1 to 5 and 16 before any command, with 0
- * accepted; then 6 to 14, that of the first refused command. The changes of the commands accepted before it stay.
+ * accepted; then 6 to 14 and 19, that of the first refused command. The changes of the commands accepted before it stay.
  * value: the number of commands accepted, with a refusal too.
  */
 bunvespo_answer bunvespo_run(uint8_t *record, size_t record_len, const uint8_t *list, size_t list_len);

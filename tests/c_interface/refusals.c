@@ -1,6 +1,6 @@
 /*
  * Prints each refusal's number and words, for tests/c_interface/run to compare with the file refusal_words, and tests the rest of what
- * the header has besides the calls: words of other numbers, codes of rights, sizes of buffers, the version. It is built together with
+ * the header has besides the calls: words of other numbers, codes of rights, sizes of buffers, the version; and the deletes that get 19. It is built together with
  * other_unit.c, which includes the header too, as C and as C++.
  */
 #include <inttypes.h>
@@ -37,12 +37,12 @@ static int has_words(uint64_t number, const char *words)
 /* The words of all refusals, and of numbers that are none. */
 static void test_words(void)
 {
-    for (uint64_t number = 1; number <= 18; number++) {
+    for (uint64_t number = 1; number <= 19; number++) {
         printf("%" PRIu64 " %s\n", number, bunvespo_refusal_words(number));
         expect("words differ in the other unit", has_words(number, bunvespo_refusal_words(number)));
     }
     expect("the words of 0", has_words(BUNVESPO_ANSWERED, "not refused"));
-    const uint64_t unknown[] = {19, 255, 256, UINT64_C(0x100000001), UINT64_MAX};
+    const uint64_t unknown[] = {20, 255, 256, UINT64_C(0x100000001), UINT64_MAX};
     for (size_t j = 0; j < sizeof unknown / sizeof unknown[0]; j++) {
         expect("the words of an unknown number", has_words(unknown[j], "no refusal has this number"));
     }
@@ -70,11 +70,28 @@ static void test_rights(void)
     expect("U has control of itself", held_elsewhere(BUNVESPO_CONTROL).value == 1);
 }
 
+/* A basic right is deleted once, and only by the bit that is named: 19 for one who owns the log, and for the other form; no byte changes. */
+static void test_deletes(void)
+{
+    uint8_t record[] = {1, 0, 0, 0, 26, 3, 1, 0, 2, 0, 1, 0, 0, 0, 0, 0, 0, 0, 2, 0, 1, 0, 4, 0, 0, 0, 0, 0, 2, 0, 1};
+    uint8_t before[sizeof record];
+    memcpy(before, record, sizeof record);
+    const uint64_t unset = BUNVESPO_REFUSED_NOT_SET;
+    expect("the other form", bunvespo_command(record, sizeof record, BUNVESPO_DELETE_STARRED, 2, 1, 3, 0).refusal == unset);
+    expect("a right held by own", bunvespo_command(record, sizeof record, BUNVESPO_DELETE, 2, 2, 3, 0).refusal == unset);
+    expect("12 comes first", bunvespo_command(record, sizeof record, BUNVESPO_DELETE_STARRED, 0, 1, 3, 0).refusal == 12);
+    expect("no byte changes", memcmp(before, record, sizeof record) == 0);
+    expect("a right that is set", bunvespo_command(record, sizeof record, BUNVESPO_DELETE, 2, 1, 3, 0).refusal == BUNVESPO_ANSWERED);
+    expect("is gone", record[22] == 0);
+    expect("and not deleted again", bunvespo_command(record, sizeof record, BUNVESPO_DELETE, 2, 1, 3, 0).refusal == unset);
+}
+
 int main(void)
 {
     static uint8_t out[BUNVESPO_BUFFER_SIZE(BUNVESPO_MOST_SUBJECTS)];
     test_words();
     test_rights();
+    test_deletes();
     expect("the buffer for the largest record", sizeof out == 257);
     expect("the largest record", BUNVESPO_MOST_RECORD_BYTES
                                      == 7 + 4 * BUNVESPO_MOST_SUBJECTS * (BUNVESPO_MOST_SUBJECTS + BUNVESPO_MOST_PLAIN));

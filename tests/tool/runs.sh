@@ -40,6 +40,16 @@ for command in 'login 2 transfers r0 over log 3 to login 1' 'login 2 grants r0 o
     run station commands
 done
 cmp "$a" station
+# A right whose bit is not set is not deleted: one that is not there at all, one that is held by own, one that is held by the star, one that is
+# deleted already.
+for command in 'login 2 deletes r0 over log 3 from login 1' 'login 2 deletes r0* over log 3 from login 2' 'login 2 grants r0* over log 3 to login 1' \
+    'login 2 deletes r0 over log 3 from login 1'; do
+    echo "$command" >commands
+    run station commands
+done
+printf 'login 1 deletes r0* over log 3 from login 1\n%.0s' 1 2 >commands
+run station commands
+cmp "$a" station
 echo 'login 1 grants control over login 2 to login 0
 1 grants control over 2 to 0' >commands
 run station commands

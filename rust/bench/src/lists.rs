@@ -3,7 +3,7 @@
 use crate::numbers::Numbers;
 use crate::plain;
 use crate::size::Size;
-use crate::stations::lowest_owner;
+use crate::stations::{lowest_owner, set_right};
 
 /// Commands as a list.
 pub fn encode(commands: &[[u64; 5]]) -> Vec<u8> {
@@ -16,7 +16,7 @@ pub fn encode(commands: &[[u64; 5]]) -> Vec<u8> {
     list
 }
 
-/// A command whose fields are of the code's kinds and in bounds, begun by an owner where there is one.
+/// A command whose fields are of the code's kinds and in bounds, begun by an owner where there is one. Most deletes are of a bit that is set.
 pub fn likely_command(numbers: &mut Numbers, record: &[u8], code: usize) -> [u64; 5] {
     let size = Size::of(record);
     let (n, p) = (size.n, size.p);
@@ -34,6 +34,11 @@ pub fn likely_command(numbers: &mut Numbers, record: &[u8], code: usize) -> [u64
         1 | 2 | 4 | 5 | 8 | 9 => numbers.below(size.basics()),
         _ => 0,
     };
+    let set = match code {
+        8 | 9 if !numbers.once_in(4) => set_right(numbers, record, code - 8),
+        _ => None,
+    };
+    let [s, o, k] = set.unwrap_or([s, o, k]);
     let over = if code == 13 { s } else { o };
     let owner = (over < n + p).then(|| lowest_owner(record, over)).flatten();
     let i = owner.unwrap_or(numbers.below(n));
@@ -41,12 +46,13 @@ pub fn likely_command(numbers: &mut Numbers, record: &[u8], code: usize) -> [u64
 }
 
 /// Commands of the thirteen codes in turn, each of which is accepted after those before it. A code for which none is found
-/// soon is left out in its turn.
+/// soon is left out in its turn. Where U is the only name none is accepted, and there are none.
 pub fn accepted_commands(numbers: &mut Numbers, start: &[u8], count: usize) -> Vec<[u64; 5]> {
     let mut record = start.to_vec();
     let mut commands = Vec::new();
     let mut turn = 0;
-    while commands.len() < count {
+    let only_u = Size::of(start).columns() == 1;
+    while commands.len() < count && !only_u {
         let code = 1 + turn % 13;
         turn += 1;
         for _ in 0..20 {

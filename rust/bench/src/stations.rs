@@ -110,10 +110,28 @@ fn low_place(record: &[u8], row: usize, column: usize) -> usize {
     size.place(row, column) + size.cell_bytes() - 1
 }
 
+/// Whether a row has the bit of a right over a column.
+fn has(record: &[u8], row: usize, column: usize, right: usize) -> bool {
+    record[low_place(record, row, column) - right / 8] >> (right % 8) & 1 == 1
+}
+
 /// The lowest row that owns a column.
 pub fn lowest_owner(record: &[u8], column: usize) -> Option<usize> {
     let n = record[5] as usize;
-    (0..n).find(|&row| record[low_place(record, row, column)] & 1 != 0)
+    (0..n).find(|&row| has(record, row, column, 0))
+}
+
+/// A row, a column and the number of a basic right that the row has over it, plain (form 0) or starred (1): the next one from any place on.
+pub fn set_right(numbers: &mut Numbers, record: &[u8], form: usize) -> Option<[usize; 3]> {
+    let size = Size::of(record);
+    let (columns, basics) = (size.columns(), size.basics());
+    let places = size.n * columns * basics;
+    let from = numbers.below(places);
+    let mut rights = (from..from + places).map(|place| {
+        let cell = place % places / basics;
+        [cell / columns, cell % columns, place % basics]
+    });
+    rights.find(|&[row, column, k]| has(record, row, column, 2 + 2 * k + form))
 }
 
 /// A valid record with names absent here and there, owners in any order, other controllers and basic rights. Those of one in two are rights

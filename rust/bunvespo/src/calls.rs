@@ -23,7 +23,7 @@ pub(crate) fn refusal_of(answer: raw::Answer) -> Option<Refusal> {
         return None;
     }
     let refusal = Refusal::from_number(answer.refusal);
-    Some(refusal.expect("the archive refuses by 1 to 18"))
+    Some(refusal.expect("the archive refuses by 1 to 19"))
 }
 
 /// Whether a record is valid: false exactly where the other calls refuse it by 1 to 5.
@@ -84,7 +84,7 @@ pub fn held(record: &[u8], s: u64, o: u64, right: Right) -> Result<bool, Refusal
 }
 
 /// One command on a record. If it is accepted, the record is the next state, and the answer is the number of owner links that the
-/// walk followed, which is 0 but for code 3 over a subject. If it is refused (1 to 14), no byte changes.
+/// walk followed, which is 0 but for code 3 over a subject. If it is refused (1 to 14, 19), no byte changes.
 ///
 /// ```
 /// use bunvespo::{Basic, Command, Refusal, Right, command, held, new_record};
@@ -99,6 +99,9 @@ pub fn held(record: &[u8], s: u64, o: u64, right: Right) -> Result<bool, Refusal
 ///
 /// let again = command(&mut record, Command::create_subject(0, 1)).unwrap_err();
 /// assert_eq!((again.number(), again.refusal), (11, Refusal::NameExists));
+/// // It has not the bit of any, so that there is nothing to delete.
+/// let owner = command(&mut record, Command::delete(1, 1, 2, Basic::R0)).unwrap_err();
+/// assert_eq!((owner.number(), owner.refusal), (19, Refusal::NotSet));
 /// # Ok::<(), Box<dyn std::error::Error>>(())
 /// ```
 pub fn command(record: &mut [u8], command: Command) -> Result<u64, CommandRefused> {
@@ -113,7 +116,7 @@ pub fn command(record: &mut [u8], command: Command) -> Result<u64, CommandRefuse
     }
 }
 
-/// The commands of a list in turn, up to the first that is refused. The answer is their number. On a refusal (1 to 14, 16) the
+/// The commands of a list in turn, up to the first that is refused. The answer is their number. On a refusal (1 to 14, 16, 19) the
 /// changes of the commands accepted before it stay.
 ///
 /// ```

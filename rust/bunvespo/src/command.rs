@@ -29,9 +29,9 @@ pub mod code {
     pub const GRANT_CONTROL: u64 = 6;
     /// i, who owns log o, makes s one more owner.
     pub const GRANT_OWN: u64 = 7;
-    /// i, who owns o or controls s, takes a basic right from s; the starred one stays.
+    /// i, who owns o or controls s, takes a basic right whose bit is set from s; the starred one stays.
     pub const DELETE: u64 = 8;
-    /// i, who owns o or controls s, takes a starred basic right from s; the plain one stays.
+    /// i, who owns o or controls s, takes a starred basic right whose bit is set from s; the plain one stays.
     pub const DELETE_STARRED: u64 = 9;
     /// i makes log o, and owns it.
     pub const CREATE_OBJECT: u64 = 10;

@@ -1,11 +1,11 @@
-//! The eighteen refusals.
+//! The nineteen refusals.
 
 use std::error::Error;
 use std::fmt;
 
 /// Why a call is turned down. Each call tests its conditions in an order of its own and gives the first that holds: all calls on a
-/// record but `valid` begin with 1 to 5; then `held` tests 7, `command` 6 to 14, `run` 16 and 6 to 14 for each command in its turn,
-/// `safety` 7 and 15, `to_version_1` 18 and 15, and `to_version_2` 15.
+/// record but `valid` begin with 1 to 5; then `held` tests 7, `command` 6 to 12, 19, 13 and 14, `run` 16 and then those of `command` for
+/// each command in its turn, `safety` 7 and 15, `to_version_1` 18 and 15, and `to_version_2` 15.
 ///
 /// ```
 /// use bunvespo::{Refusal, Right, held};
@@ -33,7 +33,7 @@ pub enum Refusal {
     RecordLength = 4,
     /// The record's matrix breaks a condition of validity.
     NotValid = 5,
-    /// No command has the code. This and the refusals up to 14, but for 7, are of `command` and `run` alone.
+    /// No command has the code. This and the refusals up to 14, but for 7, and 19 are of `command` and `run` alone.
     Code = 6,
     /// A number is out of range, which for k and for rights depends on the record's version, or one that should be 0 is not. Given by
     /// `held`, `command`, `run` and `safety`.
@@ -61,11 +61,14 @@ pub enum Refusal {
     WindowNumber = 17,
     /// A cell has a basic right above 6, which no record of version 1 has. Given by `to_version_1` alone.
     HighRight = 18,
+    /// The command would delete a right whose bit is not set. To own the column, or to have the other form of the right, makes no
+    /// difference.
+    NotSet = 19,
 }
 
 impl Refusal {
     /// Every refusal, in number order.
-    pub const ALL: [Refusal; 18] = [
+    pub const ALL: [Refusal; 19] = [
         Refusal::RecordShort,
         Refusal::Version,
         Refusal::Counts,
@@ -84,21 +87,22 @@ impl Refusal {
         Refusal::ListForm,
         Refusal::WindowNumber,
         Refusal::HighRight,
+        Refusal::NotSet,
     ];
 
-    /// The number, 1 to 18.
+    /// The number, 1 to 19.
     pub const fn number(self) -> u8 {
         self as u8
     }
 
-    /// The refusal of a number, if it is 1 to 18.
+    /// The refusal of a number, if it is 1 to 19.
     ///
     /// ```
     /// use bunvespo::Refusal;
     ///
     /// assert_eq!(Refusal::from_number(7), Some(Refusal::Bounds));
     /// assert_eq!(Refusal::from_number(0), None);
-    /// assert_eq!(Refusal::from_number(19), None);
+    /// assert_eq!(Refusal::from_number(20), None);
     /// ```
     pub fn from_number(number: u64) -> Option<Refusal> {
         let place = usize::try_from(number.checked_sub(1)?).ok()?;
@@ -134,6 +138,7 @@ impl Refusal {
                 "the initiator, or the number whose count is read, is 64 or more"
             }
             Refusal::HighRight => "a basic right above 6 is set, for which version 1 has no room",
+            Refusal::NotSet => "the right to be deleted is not set",
         }
     }
 }

@@ -26,14 +26,14 @@ use crate::refusal::Refusal;
 /// ```
 #[derive(Clone, Copy, Debug, PartialEq, Eq, Hash)]
 pub struct CommandRefused {
-    /// Why, 1 to 14.
+    /// Why, 1 to 14 or 19.
     pub refusal: Refusal,
     /// The owner links that the walk followed, with refusal 13; else 0.
     pub links: u64,
 }
 
 impl CommandRefused {
-    /// The refusal's number, 1 to 14.
+    /// The refusal's number, 1 to 14 or 19.
     pub const fn number(self) -> u8 {
         self.refusal.number()
     }

@@ -47,7 +47,7 @@ fn refusals() {
         let name = format!("REFUSED_{}", in_capitals(&format!("{refusal:?}")));
         assert_eq!(enumerator(&name), u64::from(refusal.number()));
     }
-    assert_eq!(HEADER.matches("    BUNVESPO_REFUSED_").count(), 18);
+    assert_eq!(HEADER.matches("    BUNVESPO_REFUSED_").count(), 19);
 }
 
 #[test]

@@ -134,6 +134,9 @@ fn commands_turned_down() {
             (refused(b, c(11, 0, 0, 2, 0)), (Refusal::NameAbsent, 0)),
             (refused(a, c(12, 0, 1, 0, 0)), (Refusal::NameExists, 0)),
             (refused(a, c(13, 0, 2, 0, 0)), (Refusal::RightLacking, 0)),
+            (refused(a, c(8, 2, 1, 3, 0)), (Refusal::NotSet, 0)),
+            (refused(a, c(9, 2, 2, 3, 0)), (Refusal::NotSet, 0)),
+            (refused(a, c(8, 0, 1, 3, 0)), (Refusal::RightLacking, 0)),
             (refused(a, c(3, 0, 2, 1, 0)), (Refusal::WalkMeets, 1)),
         ];
         for (answer, expected) in cases {
@@ -145,6 +148,38 @@ fn commands_turned_down() {
             refused(&copy, c(6, 1, 0, 2, 0)),
             (Refusal::OtherController, 0)
         );
+    }
+}
+
+#[test]
+fn deletes_of_one_form() {
+    for a in ALL_A {
+        let (plain, starred) = (Command::delete, Command::delete_starred);
+        let (i, s, o, k) = (2, 1, 3, Basic::R0);
+        for (grant, delete, other) in [
+            (
+                Command::grant(i, s, o, k),
+                plain(i, s, o, k),
+                starred(i, s, o, k),
+            ),
+            (
+                Command::grant_starred(i, s, o, k),
+                starred(i, s, o, k),
+                plain(i, s, o, k),
+            ),
+        ] {
+            let mut copy = a.to_vec();
+            assert_eq!(command(&mut copy, grant), Ok(0));
+            assert_eq!(refused(&copy, other), (Refusal::NotSet, 0));
+            assert_eq!(command(&mut copy, delete), Ok(0));
+            assert_eq!(copy, a);
+            assert_eq!(refused(&copy, delete), (Refusal::NotSet, 0));
+            // In a list: the first is taken, and the second ends the run.
+            let list = encode(&[grant, delete, delete, grant]).unwrap();
+            let ended = run(&mut copy, &list).unwrap_err();
+            assert_eq!((ended.refusal, ended.accepted), (Refusal::NotSet, 2));
+            assert_eq!(copy, a);
+        }
     }
 }
 

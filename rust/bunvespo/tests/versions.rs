@@ -152,13 +152,19 @@ fn conversions_keep_the_state() {
     }
 }
 
+/// The constructor of a command over a basic right.
+type Makes = fn(u64, u64, u64, Basic) -> Command;
+
 /// One right above 6, in any cell and of either form: 18 for every output, and nothing is written. Without it the record is converted.
 #[test]
 fn rights_without_room() {
     let record = wide();
     for k in &Basic::ALL[7..] {
         for o in 1..=LOG {
-            for grant in [Command::grant, Command::grant_starred] {
+            for (grant, delete) in [
+                (Command::grant as Makes, Command::delete as Makes),
+                (Command::grant_starred, Command::delete_starred),
+            ] {
                 let high = after(&record, grant(o - 1, 2, o, *k));
                 for room in [0, 30, 31, 55, MOST_RECORD_BYTES] {
                     let mut out = vec![0xEE; room];
@@ -166,8 +172,7 @@ fn rights_without_room() {
                     assert!(out.iter().all(|byte| *byte == 0xEE));
                 }
                 assert_eq!(converted(to_version_2, &high), high);
-                let low = after(&high, Command::delete(o - 1, 2, o, *k));
-                let low = after(&low, Command::delete_starred(o - 1, 2, o, *k));
+                let low = after(&high, delete(o - 1, 2, o, *k));
                 assert_eq!(converted(to_version_1, &low), narrow());
             }
         }

@@ -103,10 +103,13 @@ pub fn command(
     let inputs = || format!("code, i, s, o, k {fields:?}, record {}", hex(record));
     compare(&expected, got, outcome_text, "command", inputs)?;
     counts.add(Call::Command, answer.refusal);
+    let [code, _, s, o, k] = fields;
     if answer.refusal == 0 {
-        let [code, _, _, o, _] = fields;
         counts.accepted[code as usize] += 1;
         counts.handed_logs += u64::from(code == 3 && o >= u64::from(record[5]));
+    }
+    if answer.refusal == 19 {
+        counts.held_unset += reference::held(record, s, o, 2 + 2 * k + (code - 8)).value;
     }
     Ok(())
 }
@@ -126,6 +129,7 @@ pub fn run(record: &[u8], list: &[u8], null: bool, counts: &mut Counts) -> Resul
     let accepted = list.get(5..).unwrap_or_default().chunks_exact(6);
     for command in accepted.take(answer.value as usize) {
         counts.handed_in_lists += u64::from(command[1] == 3 && command[4] >= record[5]);
+        counts.deleted_in_lists += u64::from(matches!(command[1], 8 | 9));
     }
     let digits = answer.value.checked_ilog10().map_or(0, |log| log + 1);
     counts.ran[digits as usize] += 1;

@@ -44,11 +44,12 @@ impl Call {
     /// gives none, and says no where 1 to 5 would turn the record down; these are counted as its refusals.
     fn refusals(self, version: u8) -> Vec<u64> {
         let record = 1..=5;
+        let of_command = [6, 7, 8, 9, 10, 11, 12, 19, 13, 14];
         match self {
             Call::Valid => record.collect(),
             Call::Held => record.chain([7]).collect(),
-            Call::Command => record.chain(6..=14).collect(),
-            Call::Run => record.chain([16]).chain(6..=14).collect(),
+            Call::Command => record.chain(of_command).collect(),
+            Call::Run => record.chain([16]).chain(of_command).collect(),
             Call::Safety => record.chain([7, 15]).collect(),
             Call::ToVersion1 if version == 2 => record.chain([18, 15]).collect(),
             Call::ToVersion1 | Call::ToVersion2 => record.chain([15]).collect(),
@@ -64,7 +65,7 @@ const MOST_OF_LEAK: usize = FORMER_MOST_SUBJECTS as usize + 2;
 pub struct Counts {
     version: u8,
     /// By call and refusal; place 0 counts the inputs that were answered.
-    by_refusal: [[u64; 19]; CALLS.len()],
+    by_refusal: [[u64; 20]; CALLS.len()],
     /// Held: no, yes.
     pub held: [u64; 2],
     /// Accepted commands by code, of the command call.
@@ -72,6 +73,9 @@ pub struct Counts {
     /// Those of code 3 over a log, and accepted ones in lists.
     pub handed_logs: u64,
     pub handed_in_lists: u64,
+    /// Deletes refused by 19 of a right that s holds all the same, by own or by the star; and accepted deletes in lists.
+    pub held_unset: u64,
+    pub deleted_in_lists: u64,
     /// Lists of the run call by the number of commands accepted: 0, 1 to 9, 10 to 99, and so on.
     pub ran: [u64; 6],
     pub safe: u64,
@@ -90,11 +94,13 @@ impl Counts {
     fn new(version: u8) -> Counts {
         Counts {
             version,
-            by_refusal: [[0; 19]; CALLS.len()],
+            by_refusal: [[0; 20]; CALLS.len()],
             held: [0; 2],
             accepted: [0; 14],
             handed_logs: 0,
             handed_in_lists: 0,
+            held_unset: 0,
+            deleted_in_lists: 0,
             ran: [0; 6],
             safe: 0,
             leaks: [0; MOST_OF_LEAK + 1],
@@ -156,6 +162,8 @@ impl Counts {
                 self.accepted[3] - self.handed_logs,
             ),
             ("run: code 3 accepted over a log", self.handed_in_lists),
+            ("command: 19 for a right that is held", self.held_unset),
+            ("run: a delete accepted", self.deleted_in_lists),
             ("held: no", self.held[0]),
             ("held: yes", self.held[1]),
             ("safety: safe", self.safe),
@@ -184,13 +192,14 @@ impl Counts {
             Call::Valid => format!("yes {}", self.of(call, 0)),
             Call::Held => format!("yes {}, no {}", self.held[1], self.held[0]),
             Call::Command => format!(
-                "accepted, by code:{}; of code 3 over a log: {}",
+                "accepted, by code:{}; of code 3 over a log: {}; refused by 19 where the right is held: {}",
                 listed(&self.accepted, 1),
-                self.handed_logs
+                self.handed_logs,
+                self.held_unset
             ),
             Call::Run => format!(
                 "no refusal {}; commands accepted, also before a refusal: none {}, 1 to 9 {}, 10 to 99 {}, \
-                 100 to 999 {}, 1,000 to 9,999 {}, 10,000 {}; code 3 over a log {}",
+                 100 to 999 {}, 1,000 to 9,999 {}, 10,000 {}; code 3 over a log {}, deletes {}",
                 self.of(call, 0),
                 self.ran[0],
                 self.ran[1],
@@ -198,7 +207,8 @@ impl Counts {
                 self.ran[3],
                 self.ran[4],
                 self.ran[5],
-                self.handed_in_lists
+                self.handed_in_lists,
+                self.deleted_in_lists
             ),
             Call::Safety => format!(
                 "safe {}; leaks, by number of commands:{}",

@@ -19,6 +19,8 @@ pub struct Facts {
     pub owned_plains: Vec<(u64, u64)>,
     /// A row and a subject that it controls.
     pub controlled: Vec<(u64, u64)>,
+    /// A row, a column and a basic right that the row has plain over it.
+    pub plains: Vec<(u64, u64, u64)>,
     /// A row, a column and a basic right that the row has starred over it.
     pub stars: Vec<(u64, u64, u64)>,
 }
@@ -44,9 +46,14 @@ impl Facts {
             if cell.has(Right::Control) {
                 facts.controlled.push((row, column));
             }
-            let basics = 0..facts.basic_rights;
-            let starred = basics.filter(|k| cell.has(Right::Basic(*k, Form::Starred)));
-            facts.stars.extend(starred.map(|k| (row, column, k)));
+            for k in 0..facts.basic_rights {
+                if cell.has(Right::Basic(k, Form::Plain)) {
+                    facts.plains.push((row, column, k));
+                }
+                if cell.has(Right::Basic(k, Form::Starred)) {
+                    facts.stars.push((row, column, k));
+                }
+            }
         }
         facts
     }
@@ -104,27 +111,30 @@ impl Facts {
         })
     }
 
-    /// Delete: of a bit that is there or of any, by an owner of o or by a controller of s.
+    /// Delete: of a bit that is set or of any, by an owner of o or by a controller of s.
     fn likely_deletion(&self, code: u64, s: u64, k: u64, random: &mut Random) -> Option<[u64; 5]> {
-        let star = some_of(&self.stars, random);
-        match random.below(3) {
-            0 if star.is_some() => {
-                let (s, o, k) = star?;
-                let owners = self.owned_subjects.iter().chain(&self.owned_plains);
-                let owner = owners.copied().find(|(_, column)| *column == o);
-                Some([code, owner.map_or(s, |(row, _)| row), s, o, k])
-            }
-            1 => {
-                let (_, o) = self.owned(random)?;
-                let (i, s) = some_of(&self.controlled, random)?;
-                Some([code, i, s, o, k])
-            }
-            _ => {
-                let (i, o) = self.owned(random)?;
-                Some([code, i, s, o, k])
-            }
-        }
+        let of_form = if code == 8 { &self.plains } else { &self.stars };
+        let set = some_of(of_form, random).filter(|_| !random.one_in(4));
+        let (s, o, k) = match set {
+            Some(bit) => bit,
+            None => (s, self.owned(random)?.1, k),
+        };
+        let owned = self.owned_subjects.iter().chain(&self.owned_plains);
+        let owners = rows_of(owned, o);
+        let controllers = rows_of(self.controlled.iter(), s);
+        let among = if random.one_in(2) && !owners.is_empty() {
+            owners
+        } else {
+            controllers
+        };
+        Some([code, some_of(&among, random)?, s, o, k])
     }
+}
+
+/// The rows that stand in pairs with a column.
+fn rows_of<'a>(pairs: impl Iterator<Item = &'a (u64, u64)>, column: u64) -> Vec<u64> {
+    let of_column = pairs.filter(|(_, other)| *other == column);
+    of_column.map(|(row, _)| *row).collect()
 }
 
 /// One element, if there is one.

@@ -96,13 +96,15 @@ fn with_unused_zero([code, i, s, o, k]: [u64; 5]) -> [u64; 5] {
 }
 
 /// As many commands for a station as asked: accepted ones, and of the refused ones met between them so many in a
-/// hundred.
+/// hundred. Where U is the only name no command is accepted, and all that are met are taken.
 fn commands_in_turn(
     station: &Station,
     count: u64,
     refused_in_hundred: u64,
     random: &mut Random,
 ) -> Vec<[u8; 5]> {
+    let only_u = station.n + station.p == 1;
+    let refused_in_hundred = if only_u { 100 } else { refused_in_hundred };
     let mut station = station.clone();
     let mut commands = Vec::new();
     while (commands.len() as u64) < count {

@@ -31,7 +31,7 @@ struct Runs {
     kind: String,
     safe: u64,
     leaks: u64,
-    refused: [u64; 19],
+    refused: [u64; 20],
 }
 
 impl Runs {
@@ -40,7 +40,7 @@ impl Runs {
             kind,
             safe: 0,
             leaks: 0,
-            refused: [0; 19],
+            refused: [0; 20],
         }
     }
 

@@ -26,8 +26,8 @@ pub const REFUSED_NUMBERS: [u64; 10] = [
     u64::MAX,
 ];
 
-/// Outcomes of refused commands besides 1 to 18; several are 0 modulo a width of bits.
-const OTHER_OUTCOMES: [u64; 8] = [19, 64, 255, 256, 65_536, 1 << 32, 1 << 63, u64::MAX];
+/// Outcomes of refused commands besides 1 to 19; several are 0 modulo a width of bits.
+const OTHER_OUTCOMES: [u64; 8] = [20, 64, 255, 256, 65_536, 1 << 32, 1 << 63, u64::MAX];
 
 /// How many entries the histories of each shape take at least.
 const LENGTHS: [usize; 4] = [1_100, 1_300, 1_600, 3_000];
@@ -107,7 +107,7 @@ pub fn refused_outcome(random: &mut Random) -> u64 {
     match random.below(4) {
         0 => random.pick(&OTHER_OUTCOMES),
         1 => 1 << random.below(64),
-        _ => 1 + random.below(18),
+        _ => 1 + random.below(19),
     }
 }
 

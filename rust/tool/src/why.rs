@@ -1,5 +1,6 @@
 //! Why a command is accepted or refused, in words. Whether it is, and by which number, is the library's answer.
 
+use crate::held_by::held_by;
 use crate::library::{Basic, Command, CommandRefused, Refusal, Right, code, held};
 use crate::names::{Names, counted};
 use crate::record::{Name, Record};
@@ -51,6 +52,7 @@ pub fn refused(c: Command, why: CommandRefused, record: &Record, names: &Names) 
         Refusal::WalkMeets => {
             format!("{o} is above {s}, by {}", counted(why.links, "owner link"))
         }
+        Refusal::NotSet => unset(c, record, names),
         Refusal::OtherController => {
             let others = names.logins(&record.other_controllers(c.o));
             format!("{o} has another controller: {others}")
@@ -120,6 +122,23 @@ fn lacking(c: Command, record: &Record, names: &Names) -> String {
         code::DESTROY_SUBJECT => format!("{i} does not own {s}"),
         _ => format!("{i} does not own {o}"),
     }
+}
+
+/// The right whose bit is not set (19), and by what it is held all the same.
+fn unset(c: Command, record: &Record, names: &Names) -> String {
+    let (s, o) = (names.login(c.s), names.name(record.name(c.o)));
+    let form = match c.code {
+        code::DELETE => Right::Plain,
+        _ => Right::Starred,
+    };
+    let Some(right) = Basic::from_number(c.k).map(form) else {
+        return String::from(Refusal::NotSet.words());
+    };
+    let held = match held_by(record, c.s, c.o, right) {
+        Some(by) => format!(", who holds it by {}", names.right(by)),
+        None => String::new(),
+    };
+    format!("{} over {o} is not set for {s}{held}", names.right(right))
 }
 
 /// Why nobody can ever hold a right over a column; none where somebody can.

@@ -2,8 +2,8 @@
 
 mod library {
     pub use bunvespo::{
-        Command, Header, MOST_PLAIN, MOST_RECORD_BYTES, MOST_SUBJECTS, Refusal, Right, command,
-        new_record, to_version_1, to_version_2,
+        Basic, Command, Header, MOST_PLAIN, MOST_RECORD_BYTES, MOST_SUBJECTS, Refusal, Right,
+        command, new_record, to_version_1, to_version_2,
     };
 }
 #[path = "../src/tests/random.rs"]
@@ -52,7 +52,7 @@ fn some_commands(numbers: &mut Numbers, record: &[u8]) -> Vec<Command> {
     let mut copy = record.to_vec();
     let mut commands = Vec::new();
     for _ in 0..numbers.below(40) {
-        let c = any_command(numbers, record);
+        let c = any_command(numbers, &copy);
         if library::command(&mut copy, c).is_ok() || numbers.below(60) == 0 {
             commands.push(c);
         }

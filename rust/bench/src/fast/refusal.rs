@@ -1,4 +1,4 @@
-//! The refusal of a command that is not accepted: the tests 6 to 14 in number order.
+//! The refusal of a command that is not accepted: the tests 6 to 12, 19, 13 and 14 in this order.
 
 use super::cell::{self, CONTROL, OWN};
 use super::station::Station;
@@ -63,6 +63,7 @@ impl<const W: usize> Station<'_, W> {
             _ if !there => (10, 0),
             3 if self.has(i, o, OWN) => (13, self.walk(s, o).1),
             6 if self.has(i, o, OWN) => (14, 0),
+            8 | 9 if self.has(i, o, OWN) || self.has(i, s, CONTROL) => (19, 0),
             _ => (12, 0),
         }
     }

@@ -109,11 +109,11 @@ impl<'a, const W: usize> Station<'a, W> {
         allowed
     }
 
-    /// Codes 8 and 9.
+    /// Codes 8 and 9: s loses a basic right over o in a form, whose bit it has. Then s and o exist.
     #[inline(always)]
     fn delete(&mut self, i: usize, s: usize, o: usize, k: usize, form: usize) -> bool {
-        let fits = k < Self::BASICS && o < self.columns && self.subject(s);
-        let allowed = fits && (self.has(i, o, OWN) || self.has(i, s, CONTROL) && self.exists(o));
+        let set = k < Self::BASICS && o < self.columns && self.has(s, o, basic(k, form));
+        let allowed = set && (self.has(i, o, OWN) || self.has(i, s, CONTROL));
         if allowed {
             cell::clear(self.cell(s, o), basic(k, form));
         }

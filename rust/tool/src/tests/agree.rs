@@ -4,7 +4,7 @@ use std::collections::BTreeSet;
 
 use crate::changes::{Changes, changes};
 use crate::command_text::{Ran, read};
-use crate::library::{Command, Header, Refusal, Right, command, held, new_record, witness};
+use crate::library::{Basic, Command, Header, Refusal, Right, command, held, new_record, witness};
 use crate::names::Names;
 use crate::record::{Name, Record, column_of};
 use crate::sentence::{numbers as five, parse, sentence};
@@ -133,7 +133,7 @@ fn refusals_of_commands_are_told() {
         assert_ne!(told, refused.words(), "{c:?}");
         assert!(fits(c, refused.refusal, &record), "{c:?} {told}");
         seen.insert(refused.number());
-        if seen.len() == 9 && numbers.below(400) == 0 {
+        if seen.len() == 10 && numbers.below(400) == 0 {
             return;
         }
     }
@@ -155,6 +155,33 @@ fn transfers_of_own_are_told() {
     );
 }
 
+#[test]
+fn deletes_of_a_bit_that_is_not_set_are_told() {
+    let names = Names::default();
+    let record = open(&[
+        1, 0, 0, 0, 26, 3,
+        1, // Station A, in which login 1 has r0* over log 3, and login 2 owns it.
+        0, 2, 0, 1, 0, 0, 0, 0, 0, 0, 0, 2, 0, 1, 0, 8, 0, 0, 0, 0, 0, 2, 0, 1,
+    ]);
+    let told = |c: Command| {
+        let refused = command(&mut record.bytes.clone(), c).unwrap_err();
+        assert_eq!(refused.refusal, Refusal::NotSet);
+        why::refused(c, refused, &record, &names)
+    };
+    assert_eq!(
+        told(Command::delete(2, 1, 3, Basic::R0)),
+        "r0 over log 3 is not set for login 1, who holds it by r0*"
+    );
+    assert_eq!(
+        told(Command::delete_starred(2, 2, 3, Basic::R0)),
+        "r0* over log 3 is not set for login 2, who holds it by own"
+    );
+    assert_eq!(
+        told(Command::delete(2, 1, 3, Basic::R1)),
+        "r1 over log 3 is not set for login 1"
+    );
+}
+
 /// Whether what a refusal's words rest on is so in the record.
 fn fits(c: Command, refusal: Refusal, record: &Record) -> bool {
     let o = record.name(c.o.min(record.columns()));
@@ -164,6 +191,11 @@ fn fits(c: Command, refusal: Refusal, record: &Record) -> bool {
         Refusal::NameExists => record.exists(Name::Login(c.s)) || record.exists(o),
         Refusal::RightLacking if c.code == 13 => !record.bit(c.i, c.s, Right::Own),
         Refusal::RightLacking if matches!(c.code, 3..=9 | 11) => !record.bit(c.i, c.o, Right::Own),
+        Refusal::NotSet => {
+            let k = Basic::from_number(c.k).expect("k is in bounds");
+            let named = [Right::Plain(k), Right::Starred(k)][(c.code - 8) as usize];
+            !record.bit(c.s, c.o, named)
+        }
         Refusal::WalkMeets => record.way_up(c.s).contains(&c.o),
         Refusal::OtherController => !record.other_controllers(c.o).is_empty(),
         _ => true,

@@ -2,7 +2,9 @@
 
 use std::hash::{DefaultHasher, Hash, Hasher};
 
-use crate::library::{Command, Header, MOST_PLAIN, MOST_SUBJECTS, Right, command, new_record};
+use crate::library::{
+    Basic, Command, Header, MOST_PLAIN, MOST_SUBJECTS, Right, command, new_record,
+};
 use crate::version::Version;
 
 /// The most logins and the most logs of a station.
@@ -67,7 +69,27 @@ fn any_grant(numbers: &mut Numbers, record: &[u8]) -> Command {
     Command::new(numbers.pick(&[4, 5]), owner, s, o, k)
 }
 
-/// A command over a record's names and basic rights, mostly with 0 where its code uses nothing.
+/// A delete by a login itself of a basic right that it has over a column: the next such right from any place of the record on.
+fn own_deletion(numbers: &mut Numbers, record: &[u8]) -> Option<Command> {
+    let header = Header::read(record).expect("a record has a header");
+    let (columns, basics) = (u64::from(header.columns()), header.basic_rights());
+    let places = u64::from(header.n) * columns * basics;
+    let from = numbers.below(places);
+    let (code, form) =
+        numbers.pick(&[(8, Right::Plain as fn(Basic) -> Right), (9, Right::Starred)]);
+    let mut rights = (from..from + places).map(|place| {
+        let cell = place % places / basics;
+        (cell / columns, cell % columns, place % basics)
+    });
+    let (s, o, k) = rights.find(|(s, o, k)| {
+        let right = Basic::from_number(*k).map(form).expect("k is in range");
+        right.in_cell(header.cell(record, *s, *o).unwrap_or(0))
+    })?;
+    Some(Command::new(code, s, s, o, k))
+}
+
+/// A command over a record's names and basic rights, mostly with 0 where its code uses nothing. Of the deletes half are of a right that is set,
+/// where there is one.
 pub fn any_command(numbers: &mut Numbers, record: &[u8]) -> Command {
     let header = Header::read(record).expect("a record has a header");
     let (n, columns) = (u64::from(header.n), u64::from(header.columns()));
@@ -78,6 +100,13 @@ pub fn any_command(numbers: &mut Numbers, record: &[u8]) -> Command {
     } else {
         0
     };
+    let set = match code {
+        8 | 9 if numbers.below(2) == 0 => own_deletion(numbers, record),
+        _ => None,
+    };
+    if let Some(deletion) = set {
+        return deletion;
+    }
     match code {
         10 | 11 => Command::new(code, i, 0, o, k),
         12 | 13 => Command::new(code, i, s, 0, k),
