@@ -10,7 +10,7 @@ use lib.ListN.{getD, set}
 use lib.Arith.{digits-div, digits-mod, digits-lt}
 use lib.Pow.{pow-add, shr-shr}
 use lib.Seq.{getD-set-other}
-use borrow.Author.Tests.{eqb-true, eqb-false, eq-eqb, ne-eqb, ltb-true, ltb-false}
+use borrow.Author.Tests.{eqb-true, eq-eqb, ne-eqb, ltb-true, ltb-false}
 use Rattle.matrix.specs.Bytes.{numberAt, setNumber, bit}
 use Rattle.matrix.specs.Shaped.{Octets}
 use Rattle.laws.specs.Tests.{way, same-test}

@@ -25,6 +25,9 @@ use Rattle.codec.specs.Codes.{codeOf-test}
 pub columnOf-nameOf : (n c : ℕ) → columnOf (nameOf n c) ≡ c
 columnOf-nameOf n c = ⊎-elim (λ (h : ltb c n ≡ true). rw h refl) (λ (h : ltb c n ≡ false). rw h refl) (way (ltb c n))
 
+pub subject-named : (n s : ℕ) → s < n → nameOf n s ≡ Subject s
+subject-named n s l = rw (lt-ltb s n l) refl
+
 pub named-nameOf : (n p c : ℕ) → c < n + p → named n p (nameOf n c) ≡ true
 named-nameOf n p c l =
     ⊎-elim (λ (h : ltb c n ≡ true). rw (h, h) refl) (λ (h : ltb c n ≡ false). rw (h, h) (lt-ltb c (n + p) l)) (way (ltb c n))

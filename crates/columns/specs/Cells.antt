@@ -1,7 +1,7 @@
 -- The cells of a record as lanes. A cell is one lane or two, in the order of its bytes, and its last lane has own and control, in the upper
 -- byte. The number q of a cell's lanes is an argument; what it may be is known here alone.
-use Prim.Native.Nat.{ℕ, zero, suc, _+_, _-_, _*_, _/_, _%_, _^_, _≤_, _<_}
-use native.Mathlib.Nat.{mul-left-comm, le-refl}
+use Prim.Native.Nat.{ℕ, suc, _+_, _-_, _*_, _/_, _%_, _^_, _≤_, _<_}
+use native.Mathlib.Nat.{le-refl}
 use native.Mathlib.Omega.{arith}
 use mathlib.Core.Path.{_≡_, refl, sym, _∙_, ap, ap₂, subst}
 use mathlib.Core.Logic.{_⊎_, inl, inr, ⊎-elim}
@@ -14,7 +14,7 @@ use borrow.Author.Tests.{eqb-true, eqb-false, eq-eqb}
 use Rattle.matrix.specs.Bounded.{all}
 use Rattle.matrix.specs.Bytes.{numberAt, bit}
 use Rattle.matrix.specs.declared.Shape.{Shape}
-use Rattle.matrix.specs.Shape.{shapeOf, mostSubjects, mostPlain, widthOf, columns, cellPlace, sizeOf}
+use Rattle.matrix.specs.Shape.{shapeOf, mostSubjects, mostPlain, columns, cellPlace, sizeOf}
 use Rattle.matrix.specs.Reading.{cellAt}
 use Rattle.laws.specs.Tests.{way, same-test, and-left, and-right, and-both}
 use Rattle.laws.specs.Bounded.{all-same, all-each, each-all}
@@ -22,8 +22,7 @@ use Rattle.codec.specs.Bits.{bit-low}
 use Rattle.codec.specs.Numbers.{two-read, four-read}
 use Rattle.codec.specs.ShapeRight.{TwoOrFour, widths}
 use Rattle.lanes.specs.declared.Matrix.{Matrix}
-use Rattle.lanes.specs.Lanes.{merged, rowPlace, laneIn, laneAt, upperAt, bitIn}
-use Rattle.lanes.specs.LaneLaws.{upper-byte}
+use Rattle.lanes.specs.Lanes.{merged, rowPlace, laneIn, laneAt, bitIn}
 use Rattle.lanes.specs.Zeros.{or-zero, merged-zero}
 
 -- a cell has one lane or two

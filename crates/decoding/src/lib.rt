@@ -5,7 +5,6 @@ use matrix::Command;
 use matrix::Fields;
 use matrix::Form;
 use matrix::Kind;
-use matrix::Name;
 use matrix::Right;
 use matrix::Rule;
 use matrix::Shape;

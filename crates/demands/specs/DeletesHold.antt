@@ -24,11 +24,11 @@ use Rattle.matrix.specs.Shaped.{Octets}
 use Rattle.matrix.specs.Reading.{stateOf}
 use Rattle.matrix.specs.Calls.{namesFit, rawOf, commandAnswer, commandBytes}
 use Rattle.laws.specs.Tests.{and-both, or-cases}
+use Rattle.laws.specs.Passed.{itself}
 use Rattle.laws.specs.Changed.{has-put}
 use Rattle.laws.specs.Same.{sameRight-refl, isCell-same}
 use Rattle.demands.specs.SheetHolds.{sheet}
 use Rattle.demands.specs.Printed.{oneOf}
-use Rattle.demands.specs.Refusals.{same-number}
 use Rattle.demands.specs.Demand2Holds.{demand-2}
 use Rattle.demands.specs.Deletes.{deletes, Deletes}
 
@@ -53,8 +53,8 @@ module _ (basics : ℕ) (names : Bool) where
 
     number : (form : Form) → refusal basics names S (deletes i s o k form) ≡ cond (names && ltb k basics) (inTurn (exists S i) there entitled (S .basic k form s o)) 7
     unfolding refusal refusalOf firstFailed
-    number Plain = ap (λ (m : ℕ). cond (names && ltb k basics) m 7) (same-number (inTurn (exists S i) there entitled (S .basic k Plain s o)))
-    number Starred = ap (λ (m : ℕ). cond (names && ltb k basics) m 7) (same-number (inTurn (exists S i) there entitled (S .basic k Starred s o)))
+    number Plain = ap (λ (m : ℕ). cond (names && ltb k basics) m 7) (itself (inTurn (exists S i) there entitled (S .basic k Plain s o)))
+    number Starred = ap (λ (m : ℕ). cond (names && ltb k basics) m 7) (itself (inTurn (exists S i) there entitled (S .basic k Starred s o)))
 
     leaves : (form : Form) → refusal basics names S (deletes i s o k form) ≡ 0 → next basics names S (deletes i s o k form) ≡ put (Basic k form) s o false S
     leaves Plain e = sheet basics names S i s o k .delete-plain .leaves e

@@ -8,7 +8,6 @@ use mathlib.Core.List.{List}
 use lib.Dec.{leb}
 use lib.ListN.{length}
 use borrow.Author.Tests.{leb-true, leb-false}
-use Rattle.matrix.specs.declared.Fields.{Fields}
 use Rattle.matrix.specs.Shape.{Limits, limits, mostSubjects, shapeOf, inRange}
 use Rattle.matrix.specs.Record.{recordRefusal}
 use Rattle.matrix.specs.Calls.{validAnswer, heldRefusal, heldAnswer, heldResult, commandAnswer, commandResult, commandBytes, runRefusal, runAnswer, runResult, runBytes}

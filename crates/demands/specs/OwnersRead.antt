@@ -2,11 +2,10 @@
 -- of those the sheet tells.
 use Prim.Native.Nat.{ℕ, _<_}
 use mathlib.Core.Path.{_≡_}
-use mathlib.Core.Bool.{true, false, _||_}
+use mathlib.Core.Bool.{_||_}
 use mathlib.Core.List.{List, []}
 use lib.ListN.{length}
 use Rattle.matrix.specs.declared.Name.{Name}
-use Rattle.matrix.specs.declared.Form.{Form}
 use Rattle.matrix.specs.declared.Form.the-variants.{Plain, Starred}
 use Rattle.matrix.specs.declared.Right.the-variants.{Own, Control, Basic}
 use Rattle.matrix.specs.declared.Holding.{Holding}

@@ -7,7 +7,7 @@ use mathlib.Core.Bool.{Bool, true, false, cond, not, _&&_}
 use mathlib.Core.List.{List, [], _∷_, _++_}
 use lib.Dec.{eqb, leb}
 use lib.ListN.{length, drop}
-use borrow.Author.Tests.{leb-true, leb-false, eqb-true, not-true, not-false}
+use borrow.Author.Tests.{leb-true, leb-false, not-true, not-false}
 use Rattle.matrix.specs.declared.Fields.{Fields}
 use Rattle.matrix.specs.Names.{nameOf, columnOf}
 use Rattle.matrix.specs.State.{State, exists}
@@ -23,6 +23,7 @@ use Rattle.matrix.specs.CommandList.{wellFormed}
 use Rattle.matrix.specs.Calls.{questionFits, heldRefusal, namesFit, rawOf, refusalOn, runRefusal}
 use Rattle.matrix.specs.Converting.{basicFrom, convertRefusal}
 use Rattle.laws.specs.Tests.{way, clash}
+use Rattle.laws.specs.Passed.{itself}
 use Rattle.laws.specs.Basics.{SetFrom, basic-found, basic-hit, basic-none}
 use Rattle.laws.specs.Range.{Ranged, ranged}
 use Rattle.codec.specs.Columns.{columnOf-nameOf}
@@ -90,10 +91,6 @@ record-numbered b =
 
 -- ---- the conditions of a command
 
--- a number given as a test by itself is that number
-pub same-number : (m : ℕ) → cond (eqb m 0) 0 m ≡ m
-same-number m = ⊎-elim (λ e. rw e (sym (eqb-true m 0 e))) (λ e. rw e refl) (way (eqb m 0))
-
 module _ (f : Shape) (S : State) (c : Fields) where
   abbrev code-tests : List Test
   code-tests =
@@ -105,7 +102,7 @@ module _ (f : Shape) (S : State) (c : Fields) where
   one-list : refusalOn f S c ≡ firstFailed code-tests
   unfolding refusalOn refusal refusalOf firstFailed
   one-list =
-      ap (λ (m : ℕ). cond (known (c .code)) (cond fit m 7) 6) (same-number (refusalOf S (decode (rawOf f c))))
+      ap (λ (m : ℕ). cond (known (c .code)) (cond fit m 7) 6) (itself (refusalOf S (decode (rawOf f c))))
     where
       fit : Bool
       fit = namesFit f c && fieldsFit (basicsOf f) (ruleOf (c .code) (c .k)) (c .s) (columnOf (nameOf (f .n) (c .o))) (c .k)

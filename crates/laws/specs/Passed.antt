@@ -1,9 +1,9 @@
 -- Lists of tests: no test failed exactly where every test is passed, and what the tests of an accepted command say.
 use Prim.Native.Nat.{ℕ}
 use native.Mathlib.Omega.{arith}
-use mathlib.Core.Path.{_≡_, refl}
+use mathlib.Core.Path.{_≡_, refl, sym}
 use mathlib.Core.Logic.{_≢_, ⊎-elim}
-use mathlib.Core.Bool.{Bool, true, false, _&&_}
+use mathlib.Core.Bool.{Bool, true, false, cond, _&&_}
 use mathlib.Core.List.{List, [], _∷_}
 use lib.Dec.{eqb}
 use borrow.Author.Tests.{eqb-true, eqb-false}
@@ -38,6 +38,10 @@ pub all-passed : (ts : List Test) → Passed ts → firstFailed ts ≡ 0
 unfolding firstFailed
 all-passed [] h = refl
 all-passed (t ∷ ts) h = rw (h .0) (all-passed ts (h .1))
+
+-- a number as the only test, which 0 passes, is itself
+pub itself : (m : ℕ) → cond (eqb m 0) 0 m ≡ m
+itself m = ⊎-elim (λ e. rw e (sym (eqb-true m 0 e))) (λ e. rw e refl) (way (eqb m 0))
 
 -- a decoded command that is accepted has passed every test
 pub tests-passed : (S : State) (c : Command) → refusalOf S c ≡ 0 → Passed (commandTests S c)

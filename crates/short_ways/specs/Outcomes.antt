@@ -1,11 +1,9 @@
 -- The definition's refusal, links and next state of a command, from how it is decoded.
 use Prim.Native.Nat.{ℕ}
 use mathlib.Core.Path.{_≡_, refl, sym, _∙_, ap, ap₂, subst}
-use mathlib.Core.Logic.{⊎-elim}
 use mathlib.Core.Bool.{Bool, true, false, cond, _&&_, _||_}
 use mathlib.Core.List.{List, [], _∷_}
 use lib.Dec.{eqb}
-use borrow.Author.Tests.{eqb-true}
 use Rattle.matrix.specs.declared.Kind.{Kind}
 use Rattle.matrix.specs.declared.Fields.{Fields}
 use Rattle.matrix.specs.declared.Command.{Command}
@@ -21,17 +19,14 @@ use Rattle.matrix.specs.Step.{refusalOf, walkLinks, linksWith, refusal, links, 
 use Rattle.matrix.specs.Shape.{shapeOf, basicsOf}
 use Rattle.matrix.specs.Reading.{stateOf}
 use Rattle.matrix.specs.Calls.{rawOf, namesFit, refusalOn, linksOn, nextOn}
-use Rattle.laws.specs.Tests.{way, clash, and-right, and-both}
+use Rattle.laws.specs.Tests.{clash, and-right, and-both}
+use Rattle.laws.specs.Passed.{itself}
 use Rattle.codec.specs.Columns.{columnOf-nameOf}
 use Rattle.cells.specs.Station.{Station}
 use Rattle.rules.specs.Needs.{ActIn, CommandIn}
 use Rattle.short_ways.specs.Answered.{Answered, Carried}
 use Rattle.short_ways.specs.Rows.{row-right}
 use Rattle.short_ways.specs.Ready.{row-i, row-s, name-o, commandOf, DecodedTo, fitsAll, RefusedBy}
-
-itself : (m : ℕ) → cond (eqb m 0) 0 m ≡ m
-itself m =
-    ⊎-elim (λ (t : eqb m 0 ≡ true). ap (λ (b : Bool). cond b 0 m) t ∙ sym (eqb-true m 0 t)) (λ (t : eqb m 0 ≡ false). ap (λ (b : Bool). cond b 0 m) t) (way (eqb m 0))
 
 -- the tests 6 and 7, and then the refusal m of the decoded command
 three-tests : (t u : Bool) (m : ℕ) → firstFailed (test 6 t ∷ test 7 u ∷ test m (eqb m 0) ∷ []) ≡ cond t (cond u m 7) 6

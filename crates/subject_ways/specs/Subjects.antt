@@ -1,11 +1,8 @@
 -- Commands over a subject that are accepted on a valid record: codes 6, 12 and 13.
-use Prim.Native.Nat.{ℕ, _≤_, _<_}
-use native.Mathlib.Omega.{arith}
-use mathlib.Core.Path.{_≡_, refl, sym, _∙_, ap, subst}
-use mathlib.Core.Bool.{true, false, not, _&&_}
+use Prim.Native.Nat.{ℕ, _<_}
+use mathlib.Core.Path.{_≡_, refl, sym, subst}
+use mathlib.Core.Bool.{true, false}
 use mathlib.Core.List.{List}
-use borrow.Author.Tests.{lt-ltb}
-use Rattle.matrix.specs.declared.Name.{Name}
 use Rattle.matrix.specs.declared.Name.the-variants.{Subject}
 use Rattle.matrix.specs.declared.Right.the-variants.{Own, Control}
 use Rattle.matrix.specs.declared.Act.{Act}
@@ -14,23 +11,19 @@ use Rattle.matrix.specs.declared.Command.{Command}
 use Rattle.matrix.specs.declared.Fields.{Fields}
 use Rattle.matrix.specs.declared.Answer.the-variants.{Accepted}
 use Rattle.matrix.specs.declared.Shape.{Shape}
-use Rattle.matrix.specs.Names.{nameOf, named}
+use Rattle.matrix.specs.Names.{nameOf}
 use Rattle.matrix.specs.State.{State, exists, put}
 use Rattle.matrix.specs.Tests.{otherController}
 use Rattle.matrix.specs.Changes.{change}
 use Rattle.matrix.specs.Reading.{stateOf}
 use Rattle.laws.specs.Tests.{and-both}
+use Rattle.codec.specs.Columns.{subject-named}
 use Rattle.rules.specs.Needs.{ActIn, CommandIn}
 use Rattle.bits.specs.Became.{Became}
-use Rattle.bits.specs.Steps.{became-as}
 use Rattle.short_ways.specs.Answered.{Answered}
 use Rattle.short_ways.specs.Ready.{row-i, row-s, name-o, doing}
 use Rattle.short_ways.specs.Accepting.{answered-accepted}
 use Rattle.short_ways.specs.Objects.{WithoutBasic}
-
--- the column of a subject is named after it
-pub subject-named : (n o : ℕ) → o < n → nameOf n o ≡ Subject o
-subject-named n o l = rw (lt-ltb o n l) refl
 
 module _ {b : List ℕ} {f : Shape} (c : Fields) (h : WithoutBasic b f c) where
   abbrev S : State

@@ -1,13 +1,13 @@
 -- What is read of a record's state, by the lanes of its cells.
-use Prim.Native.Nat.{ℕ, suc, _+_, _*_, _^_, _≤_, _<_}
+use Prim.Native.Nat.{ℕ, suc, _+_, _^_, _≤_, _<_}
 use native.Mathlib.Omega.{arith}
 use mathlib.Core.Path.{_≡_, refl, sym, _∙_, ap}
 use mathlib.Core.Logic.{_⊎_, inl, inr, ⊎-elim}
-use mathlib.Core.Bool.{Bool, true, false, not, Bool·not-not}
+use mathlib.Core.Bool.{true, false, not, Bool·not-not}
 use mathlib.Core.List.{List}
 use lib.Dec.{eqb, ltb}
 use lib.ListN.{getD}
-use borrow.Author.Tests.{lt-ltb, le-ltb, ltb-true, ltb-false}
+use borrow.Author.Tests.{le-ltb, ltb-true, ltb-false}
 use Rattle.matrix.specs.declared.Name.the-variants.{Subject, Plain}
 use Rattle.matrix.specs.declared.Right.the-variants.{Own, Control}
 use Rattle.matrix.specs.Names.{nameOf}
@@ -23,12 +23,13 @@ use Rattle.laws.specs.Bounded.{any-same}
 use Rattle.codec.specs.Bits.{bit-zero, any-bit}
 use Rattle.codec.specs.Codes.{codeOf-rightOf}
 use Rattle.codec.specs.Cells.{cell-below}
+use Rattle.codec.specs.Columns.{subject-named}
 use Rattle.codec.specs.ShapeRight.{widths}
 use Rattle.codec.specs.Update.{has-state, bitAt-cell}
 use Rattle.lanes.specs.declared.Matrix.{Matrix}
 use Rattle.lanes.specs.Lanes.{laneAt, upperAt, bitIn}
 use Rattle.lanes.specs.LaneLaws.{upper-byte}
-use Rattle.columns.specs.Cells.{OneOrTwo, cellLanes, lastLane, matrixOf, ownBit, controlBit, zeroCell, bits-zero, one-or-two, cell-zero, cell-bit}
+use Rattle.columns.specs.Cells.{OneOrTwo, cellLanes, lastLane, matrixOf, ownBit, controlBit, zeroCell, bits-zero, cell-zero, cell-bit}
 use Rattle.validity.specs.Fast.{columnExists}
 use Rattle.validity.specs.Sound.{Bits}
 
@@ -58,9 +59,6 @@ module _ (b : List ℕ) (octets : Octets b) where
       → bitAt b i w (nameOf (shapeOf b .n) c) ≡ bitIn b m i (lastLane q c) w
   low-bit i h w c e l r k = bitAt-cell b w c r k i l ∙ cell-bit b i h w c e
 
-  subject-name : (n s : ℕ) → s < n → nameOf n s ≡ Subject s
-  subject-name n s l = rw (lt-ltb s n l) refl
-
   plain-name : (n c : ℕ) → n ≤ c → nameOf n c ≡ Plain c
   plain-name n c l = rw (le-ltb c n l) refl
 
@@ -74,10 +72,10 @@ module _ (b : List ℕ) (octets : Octets b) where
   control-read w c r k = has-state b Control w (nameOf (shapeOf b .n) c) ∙ low-bit 1 6 w c refl (low-room 1 (omega arith)) r k
 
   pub own-subject : (w s : ℕ) → w < shapeOf b .n → s < shapeOf b .n → stateOf b .owns w (Subject s) ≡ ownBit q b m w s
-  own-subject w s r l = ap (stateOf b .owns w) (sym (subject-name (shapeOf b .n) s l)) ∙ own-read w s r (omega arith)
+  own-subject w s r l = ap (stateOf b .owns w) (sym (subject-named (shapeOf b .n) s l)) ∙ own-read w s r (omega arith)
 
   pub control-subject : (w s : ℕ) → w < shapeOf b .n → s < shapeOf b .n → stateOf b .controls w (Subject s) ≡ controlBit q b m w s
-  control-subject w s r l = ap (stateOf b .controls w) (sym (subject-name (shapeOf b .n) s l)) ∙ control-read w s r (omega arith)
+  control-subject w s r l = ap (stateOf b .controls w) (sym (subject-named (shapeOf b .n) s l)) ∙ control-read w s r (omega arith)
 
   own-plain : (w c : ℕ) → w < shapeOf b .n → shapeOf b .n ≤ c → c < columns (shapeOf b) → stateOf b .owns w (Plain c) ≡ ownBit q b m w c
   own-plain w c r g l = ap (stateOf b .owns w) (sym (plain-name (shapeOf b .n) c g)) ∙ own-read w c r l

@@ -12,7 +12,7 @@ use Rattle.matrix.specs.Bounded.{any, all, count}
 use Rattle.matrix.specs.Bytes.{bit}
 use Rattle.matrix.specs.Shaped.{Octets}
 use Rattle.laws.specs.Tests.{way, same-test, and-left, and-right, and-both}
-use Rattle.laws.specs.Bounded.{any-hit, any-same, all-same, all-fails}
+use Rattle.laws.specs.Bounded.{any-hit, any-same, all-same}
 use Rattle.laws.specs.Counting.{some-count}
 use Rattle.laws.specs.BitOps.{bit-or}
 use Rattle.codec.specs.Bits.{bit-zero}

@@ -1,5 +1,4 @@
 -- `bits::own_joined` meets its contract.
-use borrow.Author.Needs.{needs}
 use Rattle.bits.specs.OwnBytes.{joined-is}
 use Rattle.bits.proofs.own_joined.Statement.{statement}
 use Rattle.bits.proofs.own_joined.Tie as tie

@@ -1,6 +1,6 @@
 -- `cells::two` meets its contract: both bytes make the number, which is one of 16 bits.
 use borrow.Author.Needs.{needs}
-use Prim.Native.Nat.{ℕ, _+_, _<_}
+use Prim.Native.Nat.{_+_, _<_}
 use native.Mathlib.Omega.{arith}
 use mathlib.Core.Path.{sym}
 use lib.ListN.{getD}

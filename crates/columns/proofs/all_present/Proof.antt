@@ -1,13 +1,12 @@
 -- `columns::all_present` meets its contract. The invariant: `missing` is the faults of the subjects below s, merged, and control of s is at `at`.
 use borrow.Author.Needs.{needs}
 use Prim.Native.Nat.{ℕ, _+_, _*_, _-_, _≤_, _<_}
-use native.Mathlib.Nat.{add-mul, one-mul}
 use native.Mathlib.Omega.{arith}
-use mathlib.Core.Path.{_≡_, refl, sym, _∙_, ap, ap₂}
+use mathlib.Core.Path.{_≡_, refl, _∙_, ap}
 use lib.Bits.{bitOr}
-use lib.ListN.{length, getD}
+use lib.ListN.{getD}
 use Rattle.matrix.specs.Bytes.{bit}
-use Rattle.lanes.specs.Lanes.{merged, faultOf, rowBytes, rowPlace}
+use Rattle.lanes.specs.Lanes.{merged, faultOf, rowPlace}
 use Rattle.lanes.specs.LaneLaws.{first-room, row-room}
 use Rattle.lanes.specs.Zeros.{merged-none, merged-more, merged-done, no-fault}
 use Rattle.columns.specs.Cells.{lastLane, lanes-few, lanes-most, last-inside, counted-most}

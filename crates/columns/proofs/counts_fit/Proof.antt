@@ -4,12 +4,11 @@ use Prim.Native.Nat.{ℕ, _-_, _≤_}
 use native.Mathlib.Omega.{arith}
 use mathlib.Core.Path.{_≡_, _∙_, ap}
 use lib.Bits.{bitOr}
-use lib.ListN.{getD}
 use borrow.Author.Tests.{not-true, not-false}
 use Rattle.lanes.specs.Lanes.{merged, faultOf}
 use Rattle.lanes.specs.Passing.{all-stop}
 use Rattle.lanes.specs.Zeros.{merged-more, merged-done, first-fault, no-fault}
-use Rattle.columns.specs.Cells.{lastLane, last-counted}
+use Rattle.columns.specs.Cells.{last-counted}
 use Rattle.columns.specs.Checks.{countTest}
 use Rattle.columns.specs.Loops.{count-root, count-other}
 use Rattle.columns.proofs.counts_fit.Statement.{statement}

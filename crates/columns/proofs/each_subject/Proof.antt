@@ -1,6 +1,6 @@
 -- `columns::each_subject` meets its contract. The invariant: every subject below s passes, and the row of s begins at `at`.
 use borrow.Author.Needs.{needs}
-use Prim.Native.Nat.{_+_, _*_, _-_, _≤_}
+use Prim.Native.Nat.{_+_, _-_, _≤_}
 use native.Mathlib.Omega.{arith}
 use mathlib.Core.Path.{_≡_}
 use mathlib.Core.Bool.{true}

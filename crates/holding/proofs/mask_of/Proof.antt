@@ -1,6 +1,6 @@
 -- `holding::mask_of` meets its contract: neither shift reaches the bits of a word.
 use Prim.Native.Nat.{ℕ, _^_, _<_}
-use mathlib.Core.Path.{_≡_, sym, _∙_, ap, ap₂, subst}
+use mathlib.Core.Path.{sym, _∙_, ap, ap₂, subst}
 use lib.Bits.{bitOr}
 use lib.Dec.{ltb}
 use mir.Val.{boolByte}

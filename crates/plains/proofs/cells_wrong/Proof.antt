@@ -1,8 +1,8 @@
 -- `plains::cells_wrong` meets its contract. The invariant: `wrong` is what is wrong with the cells from `from` on below c, merged.
 use borrow.Author.Needs.{needs}
-use Prim.Native.Nat.{ℕ, _+_, _-_, _≤_}
+use Prim.Native.Nat.{ℕ, _-_, _≤_}
 use native.Mathlib.Omega.{arith}
-use mathlib.Core.Path.{_≡_, sym, _∙_, ap}
+use mathlib.Core.Path.{_≡_, _∙_, ap}
 use lib.Bits.{bitOr}
 use lib.ListN.{getD}
 use Rattle.columns.specs.Cells.{last-inside}

@@ -1,12 +1,12 @@
 -- `plains::parts_right` meets its contract. The invariant: `wrong` is 0 just where every plain column below c passes its test.
 use borrow.Author.Needs.{needs}
-use Prim.Native.Nat.{ℕ, _+_, _-_, _/_, _≤_, _<_}
+use Prim.Native.Nat.{ℕ, _+_, _-_, _≤_, _<_}
 use native.Mathlib.Omega.{arith}
 use mathlib.Core.Path.{_≡_, refl, sym, _∙_, ap, subst}
 use lib.Bits.{bitOr}
 use Rattle.lanes.specs.Lists.{Part}
 use Rattle.lanes.specs.Lanes.{seenAt}
-use Rattle.columns.specs.Cells.{mostColumns, lanesOf, lanes-added, lanes-more}
+use Rattle.columns.specs.Cells.{lanesOf, lanes-added, lanes-more}
 use Rattle.plains.specs.Checks.{plainTest, plainWrong, wrongOf}
 use Rattle.plains.specs.Parts.{whole-cells, Tested, tested-none, tested-all, tested-part}
 use Rattle.plains.proofs.parts_right.Statement.{statement}

@@ -1,6 +1,5 @@
 -- `short_ways::give_own` meets its contract.
-use mathlib.Core.Path.{sym, _∙_, ap}
-use mathlib.Core.Bool.{true}
+use mathlib.Core.Path.{sym, _∙_}
 use borrow.Author.Tests.{not-false}
 use Rattle.matrix.specs.declared.Name.{Name}
 use Rattle.matrix.specs.declared.Kind.the-variants.{PlainName}

@@ -1,5 +1,5 @@
 -- `short_ways::put_allowed` meets its contract.
-use mathlib.Core.Path.{_≡_, sym, _∙_, ap₂}
+use mathlib.Core.Path.{sym, _∙_, ap₂}
 use borrow.Author.Tests.{not-false}
 use Rattle.matrix.specs.declared.Name.{Name}
 use Rattle.matrix.specs.declared.Form.{Form}

@@ -6,12 +6,11 @@ use mathlib.Core.Bool.{true}
 use borrow.Author.Tests.{not-true, not-false}
 use Rattle.matrix.specs.Bounded.{all}
 use Rattle.matrix.specs.declared.Shape.{Shape}
-use Rattle.matrix.specs.Shape.{columns}
 use Rattle.codec.specs.ShapeRight.{ShapeRight, two-or-four}
 use Rattle.cells.specs.Station.{right-shape}
 use Rattle.lanes.specs.declared.Matrix.{Matrix}
 use Rattle.lanes.specs.Lanes.{seenAt, Counted}
-use Rattle.columns.specs.Cells.{OneOrTwo, mostCounted, lanesOf, matrixOf, counted-most, lanes-of-width}
+use Rattle.columns.specs.Cells.{OneOrTwo, mostCounted, matrixOf, counted-most, lanes-of-width}
 use Rattle.columns.specs.Checks.{subjectTest, Celled}
 use Rattle.plains.specs.Checks.{plainTest}
 use Rattle.validity.specs.Header.{lanes-celled}
