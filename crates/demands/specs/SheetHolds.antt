@@ -25,6 +25,13 @@ use Rattle.frame.specs.Untouched.{refused-same}
 use Rattle.demands.specs.Row.{AllHold, raw, Row}
 use Rattle.demands.specs.Sheet.{Sheet}
 
+-- of a transfer or a grant no bit is asked; of a delete its own is
+no-bit : (true ≡ true) ↔ AllHold []
+no-bit = (λ e. tt, λ h. refl)
+
+its-bit : (set : Bool) → (set ≡ true) ↔ AllHold (set ∷ [])
+its-bit set = (λ e. (e, tt), λ h. h .0)
+
 module _ (basics : ℕ) (names : Bool) (S : State) where
   -- whether a command's fields fit its code
   abbrev fit : Raw → Bool
@@ -78,17 +85,6 @@ module _ (basics : ℕ) (names : Bool) (S : State) where
         (h .1 .1 .0, (refl, (and-both (h .1 .1 .1 .0) (h .1 .1 .1 .1 .0), (refl, (h .1 .1 .1 .1 .1 .0, (asked .1 (h .1 .1 .1 .1 .1 .1), (refl, (refl, tt)))))))) in
         (h .0, fits ∙ h .1 .0, subst Passed (sym tests) q))
 
-    -- a transfer or a grant, of which nothing more is asked; a delete, of which its bit is
-    give-row : (code : ℕ) (entitled : Bool) → known code ≡ true → fit (raw code i s o k) ≡ ltb k basics
-        → commandTests S (decode (raw code i s o k)) ≡ rightTests entitled true
-        → Row basics names S (raw code i s o k) (overRight entitled []) (change S (decode (raw code i s o k)) (ruleOf code k .act)) (walkLinks S (decode (raw code i s o k)) (ruleOf code k .act))
-    give-row code entitled is-known fits tests = over-right code entitled true [] is-known fits tests (λ e. tt, λ h. refl)
-
-    delete-row : (code : ℕ) (entitled set : Bool) → known code ≡ true → fit (raw code i s o k) ≡ ltb k basics
-        → commandTests S (decode (raw code i s o k)) ≡ rightTests entitled set
-        → Row basics names S (raw code i s o k) (overRight entitled (set ∷ [])) (change S (decode (raw code i s o k)) (ruleOf code k .act)) (walkLinks S (decode (raw code i s o k)) (ruleOf code k .act))
-    delete-row code entitled set is-known fits tests = over-right code entitled set (set ∷ []) is-known fits tests (λ e. (e, tt), λ h. h .0)
-
     -- own handed to whom it belongs: the bit is cleared and set again
     own-again : S .owns i o ≡ true → put Own i o true (put Own i o false S) ≡ S
     own-again own = put-set Own i o S (put Own i o false S) refl (λ z w x e. has-put-other Own i o false S z w x e) own
@@ -121,16 +117,16 @@ module _ (basics : ℕ) (names : Bool) (S : State) where
     pub sheet : Sheet basics names S i s o k
     sheet =
         record {
-          transfer-plain = give-row i s o k 1 (S .basic k Starred i o) refl refl refl;
-          transfer-starred = give-row i s o k 2 (S .basic k Starred i o) refl refl refl;
+          transfer-plain = over-right i s o k 1 (S .basic k Starred i o) true [] refl refl refl no-bit;
+          transfer-starred = over-right i s o k 2 (S .basic k Starred i o) true [] refl refl refl no-bit;
           transfer-own =
               row (raw 3 i s o k) _ refl
               (λ n f p. let h = here i s o k (p .1 .1 .0) in (n, (f, (p .0, (h .0, (h .1, (p .1 .1 .1 .1 .0, (p .1 .1 .1 .1 .1 .1 .0, tt))))))))
               (λ h. (h .0, h .1 .0, (h .1 .1 .0, (refl, (and-both (h .1 .1 .1 .0) (h .1 .1 .1 .1 .0), (refl, (h .1 .1 .1 .1 .1 .0, (refl, (h .1 .1 .1 .1 .1 .1 .0, (refl, tt))))))))));
           transfer-to-itself = to-itself i o k;
           transfer-lasts = transfer-lasts basics names S (raw 3 i s o k) refl;
-          grant-plain = give-row i s o k 4 (S .owns i o) refl refl refl;
-          grant-starred = give-row i s o k 5 (S .owns i o) refl refl refl;
+          grant-plain = over-right i s o k 4 (S .owns i o) true [] refl refl refl no-bit;
+          grant-starred = over-right i s o k 5 (S .owns i o) true [] refl refl refl no-bit;
           grant-control =
               row (raw 6 i s o k) _ refl
               (λ n f p. let h = here i s o k (p .1 .1 .0) in (n, (f, (p .0, (p .1 .0, (h .0, (h .1, (p .1 .1 .1 .1 .0, (p .1 .1 .1 .1 .1 .1 .1 .0, tt)))))))))
@@ -139,8 +135,8 @@ module _ (basics : ℕ) (names : Bool) (S : State) where
               row (raw 7 i s o k) _ refl
               (λ n f p. let h = here i s o k (p .1 .1 .0) in (n, (f, (p .0, (p .1 .0, (h .0, (h .1, (p .1 .1 .1 .1 .0, tt))))))))
               (λ h. (h .0, h .1 .0, (h .1 .1 .0, (h .1 .1 .1 .0, (and-both (h .1 .1 .1 .1 .0) (h .1 .1 .1 .1 .1 .0), (refl, (h .1 .1 .1 .1 .1 .1 .0, (refl, (refl, (refl, tt))))))))));
-          delete-plain = delete-row i s o k 8 (S .owns i o || S .controls i (Subject s)) (S .basic k Plain s o) refl refl refl;
-          delete-starred = delete-row i s o k 9 (S .owns i o || S .controls i (Subject s)) (S .basic k Starred s o) refl refl refl;
+          delete-plain = over-right i s o k 8 (S .owns i o || S .controls i (Subject s)) (S .basic k Plain s o) (S .basic k Plain s o ∷ []) refl refl refl (its-bit (S .basic k Plain s o));
+          delete-starred = over-right i s o k 9 (S .owns i o || S .controls i (Subject s)) (S .basic k Starred s o) (S .basic k Starred s o ∷ []) refl refl refl (its-bit (S .basic k Starred s o));
           create-object =
               row (raw 10 i s o k) _ refl
               (λ n f p. let u = unused i s o k f in (n, (u .0, (u .1, (p .0, (p .1 .0, (p .1 .1 .1 .0, tt)))))))

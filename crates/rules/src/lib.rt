@@ -143,12 +143,7 @@ pub fn is_deletable(b: &[u8], f: Shape, c: Command) -> bool
     let act = c.act;
     let o = c.o;
     match act {
-        Act::Transfer(_) => true,
-        Act::Grant(_) => true,
         Act::Delete(y) => states::has_bit(b, f, y, c.s, o),
-        Act::CreateObject => true,
-        Act::DestroyObject => true,
-        Act::CreateSubject => true,
-        Act::DestroySubject => true,
+        _ => true,
     }
 }

@@ -22,6 +22,7 @@ use Rattle.matrix.specs.Commands.{kindOf}
 use Rattle.matrix.specs.Owners.{walk, meets, linksOf}
 use Rattle.matrix.specs.Tests.{firstFailed, kindFits, permitted, deletable, apart, uncontrolled, otherController}
 use Rattle.matrix.specs.Step.{refusalOf, walkLinks, linksWith}
+use Rattle.matrix.specs.Reading.{stateOf}
 use Rattle.verdict.specs.declared.Verdict.{Verdict}
 use Rattle.verdict.specs.Stages.{late, early, refusal-stages, early-not-thirteen}
 use Rattle.verdict.specs.Judged.{Entitled, JudgedLate, Judged}
@@ -42,18 +43,6 @@ module _ (S : State) (c : Command) where
   unfolding late firstFailed
   unset h d = judged (rw (h, d) refl) refl
 
-  pub met : {l : ℕ} → permitted S c (c .act) ≡ true → deletable S c (c .act) ≡ true → apart S c (c .act) ≡ false → walkLinks S c (c .act) ≡ l → JudgedLate S c (verdictOf 13 l)
-  unfolding late firstFailed
-  met h d e f = judged (rw (h, d, e) refl) f
-
-  pub shared : permitted S c (c .act) ≡ true → deletable S c (c .act) ≡ true → apart S c (c .act) ≡ true → uncontrolled S c (c .act) ≡ false → JudgedLate S c (verdictOf 14 0)
-  unfolding late firstFailed
-  shared h d e f = judged (rw (h, d, e, f) refl) refl
-
-  pub passes : {l : ℕ} → permitted S c (c .act) ≡ true → deletable S c (c .act) ≡ true → apart S c (c .act) ≡ true → uncontrolled S c (c .act) ≡ true → walkLinks S c (c .act) ≡ l → JudgedLate S c (verdictOf 0 l)
-  unfolding late firstFailed
-  passes h d e f g = judged (rw (h, d, e, f) refl) g
-
   -- the whole verdict from the two stages
   pub judged-early : {r : ℕ} → r ≡ early S c → (r ≡ 0 → ⊥) → Judged S c (verdictOf r 0)
   judged-early {r} e h =
@@ -70,9 +59,26 @@ module _ (S : State) (c : Command) where
       let f : refusalOf S c ≡ late S c = refusal-stages S c ∙ ap (λ (m : ℕ). cond (eqb m 0) (late S c) m) h in
       record { refusal = j .refusal ∙ sym f; links = j .links ∙ sym (ap (λ (m : ℕ). linksWith m S c) f) }
 
+-- a command that has passed 12 and 19
+module _ {b : List ℕ} {f : Shape} {c : Command} (h : Entitled b f c) where
+  abbrev S : State
+  S = stateOf b
+
+  met : {l : ℕ} → apart S c (c .act) ≡ false → walkLinks S c (c .act) ≡ l → JudgedLate S c (verdictOf 13 l)
+  unfolding late firstFailed
+  met e f = judged S c (rw (h .right, h .set, e) refl) f
+
+  shared : apart S c (c .act) ≡ true → uncontrolled S c (c .act) ≡ false → JudgedLate S c (verdictOf 14 0)
+  unfolding late firstFailed
+  shared e f = judged S c (rw (h .right, h .set, e, f) refl) refl
+
+  passes : {l : ℕ} → apart S c (c .act) ≡ true → uncontrolled S c (c .act) ≡ true → walkLinks S c (c .act) ≡ l → JudgedLate S c (verdictOf 0 l)
+  unfolding late firstFailed
+  passes e f g = judged S c (rw (h .right, h .set, e, f) refl) g
+
   -- an act that the tests 13 and 14 do not look at
-  pub pass-judged : (a : Act) → permitted S c (c .act) ≡ true → deletable S c (c .act) ≡ true → c .act ≡ a → apart S c a ≡ true → uncontrolled S c a ≡ true → walkLinks S c a ≡ 0 → JudgedLate S c (verdictOf 0 0)
-  pass-judged a h d e f g l = passes h d (ap (λ (a : Act). apart S c a) e ∙ f) (ap (λ (a : Act). uncontrolled S c a) e ∙ g) (ap (λ (a : Act). walkLinks S c a) e ∙ l)
+  pub pass-judged : (a : Act) → c .act ≡ a → apart S c a ≡ true → uncontrolled S c a ≡ true → walkLinks S c a ≡ 0 → JudgedLate S c (verdictOf 0 0)
+  pass-judged a e f g l = passes (ap (λ (a : Act). apart S c a) e ∙ f) (ap (λ (a : Act). uncontrolled S c a) e ∙ g) (ap (λ (a : Act). walkLinks S c a) e ∙ l)
 
   -- what the tests ask of a transfer of own over the name x
   own-apart : {x : Name} → c .act ≡ Transfer Own → c .o ≡ x → apart S c (c .act) ≡ not (isSubject x && meets (walk S (c .s) x))
@@ -82,11 +88,11 @@ module _ (S : State) (c : Command) where
   own-links own object = ap (λ (a : Act). walkLinks S c a) own ∙ ap (λ (x : Name). cond (isSubject x) (linksOf (walk S (c .s) x)) 0) object
 
   -- over a plain object there is no walk
-  pub object-judged : {t : ℕ} → permitted S c (c .act) ≡ true → deletable S c (c .act) ≡ true → c .act ≡ Transfer Own → c .o ≡ Plain t → JudgedLate S c (verdictOf 0 0)
-  object-judged right set own object = passes right set (own-apart own object) (ap (λ (a : Act). uncontrolled S c a) own) (own-links own object)
+  pub object-judged : {t : ℕ} → c .act ≡ Transfer Own → c .o ≡ Plain t → JudgedLate S c (verdictOf 0 0)
+  object-judged own object = passes (own-apart own object) (ap (λ (a : Act). uncontrolled S c a) own) (own-links own object)
 
   -- over subject t, with the answer w of the walk
-  module _ {t : ℕ} (right : permitted S c (c .act) ≡ true) (set : deletable S c (c .act) ≡ true) (own : c .act ≡ Transfer Own) (object : c .o ≡ Subject t) where
+  module _ {t : ℕ} (own : c .act ≡ Transfer Own) (object : c .o ≡ Subject t) where
     pub own-judged : {v : Walked} (w : Walked) → v ≡ walk S (c .s) (Subject t) → v ≡ w → JudgedLate S c (verdictOf (cond (meets w) 13 0) (linksOf w))
     own-judged w e f =
         let g : walk S (c .s) (Subject t) ≡ w = sym e ∙ f in
@@ -96,20 +102,20 @@ module _ (S : State) (c : Command) where
         answered w a l u
       where
         answered : (w : Walked) → apart S c (c .act) ≡ not (meets w) → walkLinks S c (c .act) ≡ linksOf w → uncontrolled S c (c .act) ≡ true → JudgedLate S c (verdictOf (cond (meets w) 13 0) (linksOf w))
-        answered (Meets l) a f u = met right set a f
-        answered (Root l) a f u = passes right set a u f
-        answered Lost a f u = passes right set a u f
+        answered (Meets l) a f u = met a f
+        answered (Root l) a f u = passes a u f
+        answered Lost a f u = passes a u f
 
   -- a grant of control over subject t, with the answer r of the search for another controller
-  module _ {t : ℕ} (right : permitted S c (c .act) ≡ true) (set : deletable S c (c .act) ≡ true) (control : c .act ≡ Grant Control) (object : c .o ≡ Subject t) where
+  module _ {t : ℕ} (control : c .act ≡ Grant Control) (object : c .o ≡ Subject t) where
     pub control-judged : {r : Bool} (u : Bool) → r ≡ otherController S (Subject t) → r ≡ u → JudgedLate S c (verdictOf (cond u 14 0) 0)
     control-judged u e f = answered u (ap (λ (a : Act). uncontrolled S c a) control ∙ ap (λ (x : Name). not (otherController S x)) object ∙ ap not (sym e ∙ f))
       where
         answered : (u : Bool) → uncontrolled S c (c .act) ≡ not u → JudgedLate S c (verdictOf (cond u 14 0) 0)
-        answered true g = shared right set (ap (λ (a : Act). apart S c a) control) g
-        answered false g = passes right set (ap (λ (a : Act). apart S c a) control) g (ap (λ (a : Act). walkLinks S c a) control)
+        answered true g = shared (ap (λ (a : Act). apart S c a) control) g
+        answered false g = passes (ap (λ (a : Act). apart S c a) control) g (ap (λ (a : Act). walkLinks S c a) control)
 
--- o is a subject where the act needs one
-pub not-plain : {b : List ℕ} {f : Shape} {c : Command} {t : ℕ} {a : Act} → Entitled b f c → c .act ≡ a → kindOf a ≡ SubjectName → c .o ≡ Plain t → ⊥
-not-plain {c = c} h e k o =
-    false≢true (ap (λ (x : Name). kindFits SubjectName x) (sym o) ∙ ap (λ (k : Kind). kindFits k (c .o)) (sym (ap kindOf e ∙ k)) ∙ h .kind)
+  -- o is a subject where the act needs one
+  pub not-plain : {t : ℕ} {a : Act} → c .act ≡ a → kindOf a ≡ SubjectName → c .o ≡ Plain t → ⊥
+  not-plain e k o =
+      false≢true (ap (λ (x : Name). kindFits SubjectName x) (sym o) ∙ ap (λ (k : Kind). kindFits k (c .o)) (sym (ap kindOf e ∙ k)) ∙ h .kind)

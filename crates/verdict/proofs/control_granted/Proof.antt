@@ -15,13 +15,13 @@ controlled-requires c κs =
     (q .station, named-subject (record { station = q .station; column = q .object }) (c .before .o .given .1))
 
 returns : tie.Need-returns
-returns c = control-judged _ _ (c .before .before .before .before .before .before .pre .0 .right) (c .before .before .before .before .before .before .pre .0 .set) (c .before .before .before .before .before .before .pre .1) (c .before .before .before .o .given .1) _ (c .before .controlled .ensures) (c .if1 .taken)
+returns c = control-judged (c .before .before .before .before .before .before .pre .0) (c .before .before .before .before .before .before .pre .1) (c .before .before .before .o .given .1) _ (c .before .controlled .ensures) (c .if1 .taken)
 
 enum-told : tie.Need-enum-told
 enum-told c = search needs
 
 returns-2 : tie.Need-returns-2
-returns-2 c = control-judged _ _ (c .before .before .before .before .before .before .pre .0 .right) (c .before .before .before .before .before .before .pre .0 .set) (c .before .before .before .before .before .before .pre .1) (c .before .before .before .o .given .1) _ (c .before .controlled .ensures) (c .if1 .left)
+returns-2 c = control-judged (c .before .before .before .before .before .before .pre .0) (c .before .before .before .before .before .before .pre .1) (c .before .before .before .o .given .1) _ (c .before .controlled .ensures) (c .if1 .left)
 
 returns-3 : tie.Need-returns-3
 returns-3 c = absurd (not-plain (c .before .before .before .pre .0) (c .before .before .before .pre .1) refl (c .enum-told .given .1))

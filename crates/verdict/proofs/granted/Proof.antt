@@ -21,14 +21,14 @@ enum-told-3 c = search needs
 
 returns : tie.Need-returns
 returns c =
-    pass-judged _ _ _ (c .before .before .before .pre .0 .right) (c .before .before .before .pre .0 .set) (c .before .before .before .pre .1 ∙ ap (λ (y : Right). Grant y) (c .enum-told .given .1)) refl refl refl
+    pass-judged (c .before .before .before .pre .0) _ (c .before .before .before .pre .1 ∙ ap (λ (y : Right). Grant y) (c .enum-told .given .1)) refl refl refl
 
 returns-2 : tie.Need-returns-2
 returns-2 c = search needs
 
 returns-3 : tie.Need-returns-3
 returns-3 c =
-    pass-judged _ _ _ (c .before .before .before .pre .0 .right) (c .before .before .before .pre .0 .set) (c .before .before .before .pre .1 ∙ ap (λ (y : Right). Grant y) (c .enum-told3 .given .1)) refl refl refl
+    pass-judged (c .before .before .before .pre .0) _ (c .before .before .before .pre .1 ∙ ap (λ (y : Right). Grant y) (c .enum-told3 .given .1)) refl refl refl
 
 pub granted-spec : {M : Type 1} → statement M
 granted-spec =

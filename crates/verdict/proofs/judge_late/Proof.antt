@@ -71,19 +71,19 @@ returns-4 : tie.Need-returns-4
 returns-4 c = search needs
 
 returns-5 : tie.Need-returns-5
-returns-5 c = let e = entitled (c .before .before) in pass-judged _ _ _ (e .right) (e .set) (c .enum-told .given .1) refl refl refl
+returns-5 c = pass-judged (entitled (c .before .before)) _ (c .enum-told .given .1) refl refl refl
 
 returns-6 : tie.Need-returns-6
-returns-6 c = let e = entitled (c .before .before) in pass-judged _ _ _ (e .right) (e .set) (c .enum-told2 .given .1) refl refl refl
+returns-6 c = pass-judged (entitled (c .before .before)) _ (c .enum-told2 .given .1) refl refl refl
 
 returns-7 : tie.Need-returns-7
-returns-7 c = let e = entitled (c .before .before) in pass-judged _ _ _ (e .right) (e .set) (c .enum-told3 .given .1) refl refl refl
+returns-7 c = pass-judged (entitled (c .before .before)) _ (c .enum-told3 .given .1) refl refl refl
 
 returns-8 : tie.Need-returns-8
-returns-8 c = let e = entitled (c .before .before) in pass-judged _ _ _ (e .right) (e .set) (c .enum-told4 .given .1) refl refl refl
+returns-8 c = pass-judged (entitled (c .before .before)) _ (c .enum-told4 .given .1) refl refl refl
 
 returns-9 : tie.Need-returns-9
-returns-9 c = let e = entitled (c .before .before) in pass-judged _ _ _ (e .right) (e .set) (c .enum-told5 .given .1) refl refl refl
+returns-9 c = pass-judged (entitled (c .before .before)) _ (c .enum-told5 .given .1) refl refl refl
 
 pub judge-late-spec : {M : Type 1} → statement M
 judge-late-spec =

@@ -24,18 +24,18 @@ enum-told-2 c = search needs
 
 returns : tie.Need-returns
 returns c =
-    own-judged _ _ (c .before .before .before .before .before .before .before .before .pre .0 .right) (c .before .before .before .before .before .before .before .before .pre .0 .set) (c .before .before .before .before .before .before .before .before .pre .1) (c .before .before .before .before .before .o .given .1) _ (c .before .before .before .owner-walk .ensures) (c .before .w .given .1)
+    own-judged (c .before .before .before .before .before .before .before .before .pre .0) (c .before .before .before .before .before .before .before .before .pre .1) (c .before .before .before .before .before .o .given .1) _ (c .before .before .before .owner-walk .ensures) (c .before .w .given .1)
 
 returns-2 : tie.Need-returns-2
 returns-2 c =
-    own-judged _ _ (c .before .before .before .before .before .before .before .before .pre .0 .right) (c .before .before .before .before .before .before .before .before .pre .0 .set) (c .before .before .before .before .before .before .before .before .pre .1) (c .before .before .before .before .before .o .given .1) _ (c .before .before .before .owner-walk .ensures) (c .before .w2 .given .1)
+    own-judged (c .before .before .before .before .before .before .before .before .pre .0) (c .before .before .before .before .before .before .before .before .pre .1) (c .before .before .before .before .before .o .given .1) _ (c .before .before .before .owner-walk .ensures) (c .before .w2 .given .1)
 
 returns-3 : tie.Need-returns-3
 returns-3 c =
-    own-judged _ _ (c .before .before .before .before .before .before .before .pre .0 .right) (c .before .before .before .before .before .before .before .pre .0 .set) (c .before .before .before .before .before .before .before .pre .1) (c .before .before .before .before .o .given .1) _ (c .before .before .owner-walk .ensures) (c .enum-told .given .1)
+    own-judged (c .before .before .before .before .before .before .before .pre .0) (c .before .before .before .before .before .before .before .pre .1) (c .before .before .before .before .o .given .1) _ (c .before .before .owner-walk .ensures) (c .enum-told .given .1)
 
 returns-4 : tie.Need-returns-4
-returns-4 c = object-judged _ _ (c .before .before .before .pre .0 .right) (c .before .before .before .pre .0 .set) (c .before .before .before .pre .1) (c .enum-told2 .given .1)
+returns-4 c = object-judged (c .before .before .before .pre .0) (c .before .before .before .pre .1) (c .enum-told2 .given .1)
 
 pub own-transferred-spec : {M : Type 1} → statement M
 own-transferred-spec =

@@ -24,11 +24,11 @@ returns c = search needs
 
 returns-2 : tie.Need-returns-2
 returns-2 c =
-    pass-judged _ _ _ (c .before .before .before .pre .0 .right) (c .before .before .before .pre .0 .set) (c .before .before .before .pre .1 ∙ ap (λ (y : Right). Transfer y) (c .enum-told2 .given .1)) refl refl refl
+    pass-judged (c .before .before .before .pre .0) _ (c .before .before .before .pre .1 ∙ ap (λ (y : Right). Transfer y) (c .enum-told2 .given .1)) refl refl refl
 
 returns-3 : tie.Need-returns-3
 returns-3 c =
-    pass-judged _ _ _ (c .before .before .before .pre .0 .right) (c .before .before .before .pre .0 .set) (c .before .before .before .pre .1 ∙ ap (λ (y : Right). Transfer y) (c .enum-told3 .given .1)) refl refl refl
+    pass-judged (c .before .before .before .pre .0) _ (c .before .before .before .pre .1 ∙ ap (λ (y : Right). Transfer y) (c .enum-told3 .given .1)) refl refl refl
 
 pub transferred-spec : {M : Type 1} → statement M
 transferred-spec =
