@@ -1,4 +1,4 @@
--- The steps of a list run.
+-- The steps of what goes through a list command by command, and those of a list run.
 use Prim.Native.Nat.{ℕ, suc, _+_, _-_, _≤_, _<_}
 use native.Mathlib.Omega.{arith}
 use mathlib.Core.Path.{_≡_, refl, sym, _∙_, ap, subst}
@@ -15,7 +15,7 @@ use Rattle.matrix.specs.Numbers.{commandNumbers}
 use Rattle.matrix.specs.Step.{answer, refusal, next}
 use Rattle.matrix.specs.Shape.{shapeOf}
 use Rattle.matrix.specs.Reading.{stateOf}
-use Rattle.matrix.specs.CommandList.{fieldsAt, commandPlace, commandsFrom, commandsIn}
+use Rattle.matrix.specs.CommandList.{fieldsAt, commandPlace, commandsFrom, commandsIn, commandsOf}
 use Rattle.matrix.specs.Calls.{refusalOn, linksOn, nextOn, Ran, runFrom, ranOn}
 use Rattle.matrix.specs.Valid.{Valid}
 use Rattle.laws.specs.Tests.{way}
@@ -24,7 +24,7 @@ use Rattle.kept.specs.Keeps.{on-keeps}
 use Rattle.states.specs.Needs.{Guessed}
 use Rattle.short_ways.specs.Answered.{Answered}
 use Rattle.bits.specs.Steps.{station-after, length-after}
-use Rattle.runs.specs.Reached.{RunOn, Reached}
+use Rattle.runs.specs.Reached.{RunOn, Reached, ranFrom}
 
 -- the next command of those that are left
 next-command : (l : List ℕ) (j m : ℕ) → j < m → commandsFrom l j (m - j) ≡ fieldsAt l (commandPlace j) ∷ commandsFrom l (j + 1) (m - (j + 1))
@@ -53,10 +53,10 @@ unfolding nextOn next refusalOn
 refused-state f S c h = rw h refl
 
 -- before the first command
-pub reached-none : {b owners l : List ℕ} {f : Shape} {m : ℕ} → Guessed b f owners → m ≡ commandsIn l → Reached b b l f m 0
-reached-none {b} {l = l} {m = m} h e =
+pub reached-none : {A : Type 0} {end : ℕ → State → List Fields → A} {b owners l : List ℕ} {f : Shape} {m : ℕ} → Guessed b f owners → m ≡ commandsIn l → Reached end b b l f m 0
+reached-none {end = end} {b} {l = l} {m = m} h e =
     let z : m - 0 ≡ commandsIn l = omega arith in
-    record { station = h .station; valid = h .valid; shape = refl; size = refl; rest = ap (λ (k : ℕ). runFrom 0 (shapeOf b) (stateOf b) (commandsFrom l 0 k)) z }
+    record { station = h .station; valid = h .valid; shape = refl; size = refl; rest = ap (λ (k : ℕ). end 0 (stateOf b) (commandsFrom l 0 k)) z }
 
 -- a reply that is refused has a refusal
 refused-number : (r l : ℕ) {k x : ℕ} → answer r l ≡ Refused k x → eqb r 0 ≡ false
@@ -68,12 +68,13 @@ refused-number r l {k} {x} h = ⊎-elim (λ t. absurd (never t)) (λ t. t) (way 
         let z : _≡_ {A = ℕ} 0 1 = cc in
         omega arith
 
-module _ {b₀ b b′ l : List ℕ} {f : Shape} {m j : ℕ} {c : Fields} {r : Answer} (h : Reached b₀ b l f m j) (more : j < m) (read : c ≡ fieldsAt l (commandPlace j)) (w : Answered b b′ c r) where
-  -- the run from here, with the next command in front
-  here : runFrom j (shapeOf b₀) (stateOf b) (c ∷ commandsFrom l (j + 1) (m - (j + 1))) ≡ ranOn b₀ l
+-- the next command, read and answered
+module _ {A : Type 0} {end : ℕ → State → List Fields → A} {b₀ b b′ l : List ℕ} {f : Shape} {m j : ℕ} {c : Fields} {r : Answer} (h : Reached end b₀ b l f m j) (more : j < m) (read : c ≡ fieldsAt l (commandPlace j)) (w : Answered b b′ c r) where
+  -- what is left of the list, with the next command in front
+  pub here : end j (stateOf b) (c ∷ commandsFrom l (j + 1) (m - (j + 1))) ≡ end 0 (stateOf b₀) (commandsOf l)
   here =
-      ap (λ (c : Fields). runFrom j (shapeOf b₀) (stateOf b) (c ∷ commandsFrom l (j + 1) (m - (j + 1)))) read
-      ∙ ap (λ (cs : List Fields). runFrom j (shapeOf b₀) (stateOf b) cs) (sym (next-command l j m more))
+      ap (λ (c : Fields). end j (stateOf b) (c ∷ commandsFrom l (j + 1) (m - (j + 1)))) read
+      ∙ ap (λ (cs : List Fields). end j (stateOf b) cs) (sym (next-command l j m more))
       ∙ h .rest
 
   -- the reply and the state after it, at the first record's shape
@@ -83,25 +84,41 @@ module _ {b₀ b b′ l : List ℕ} {f : Shape} {m j : ℕ} {c : Fields} {r : An
   after : stateOf b′ ≡ nextOn (shapeOf b₀) (stateOf b) c
   after = w .became .state ∙ ap (λ (f : Shape). nextOn f (stateOf b) c) (h .shape)
 
-  pub reached-more : {x : ℕ} → r ≡ Accepted x → Reached b₀ b′ l f m (j + 1)
-  reached-more e =
-      let z : refusalOn (shapeOf b₀) (stateOf b) c ≡ 0 = sym (answer-number (refusalOn (shapeOf b₀) (stateOf b) c) (linksOn (shapeOf b) (stateOf b) c)) ∙ ap (λ (a : Answer). commandNumbers a .refusal) (sym reply ∙ e) in
+  -- its refusal is the reply's
+  number-is : commandNumbers r .refusal ≡ refusalOn (shapeOf b₀) (stateOf b) c
+  number-is = ap (λ (a : Answer). commandNumbers a .refusal) reply ∙ answer-number (refusalOn (shapeOf b₀) (stateOf b) c) (linksOn (shapeOf b) (stateOf b) c)
+
+  pub is-refused : {x k : ℕ} → r ≡ Refused k x → eqb (refusalOn (shapeOf b₀) (stateOf b) c) 0 ≡ false
+  is-refused e = refused-number (refusalOn (shapeOf b₀) (stateOf b) c) (linksOn (shapeOf b) (stateOf b) c) (sym reply ∙ e)
+
+  -- it is accepted, and by the step of `end` what is left comes to the same on the bytes after it
+  pub reached-more : {x : ℕ} → ((cs : List Fields) → refusalOn (shapeOf b₀) (stateOf b) c ≡ 0 → end j (stateOf b) (c ∷ cs) ≡ end (j + 1) (nextOn (shapeOf b₀) (stateOf b) c) cs) → r ≡ Accepted x → Reached end b₀ b′ l f m (j + 1)
+  reached-more step e =
+      let z : refusalOn (shapeOf b₀) (stateOf b) c ≡ 0 = sym number-is ∙ ap (λ (a : Answer). commandNumbers a .refusal) e in
       record {
         station = station-after (h .station) (w .became);
         valid = subst Valid (sym after) (on-keeps (shapeOf b₀) (stateOf b) c (h .valid));
         shape = w .became .shape ∙ h .shape;
         size = length-after (h .station) (w .became) ∙ h .size;
-        rest =
-            ap (λ (S : State). runFrom (j + 1) (shapeOf b₀) S (commandsFrom l (j + 1) (m - (j + 1)))) after
-            ∙ sym (run-accepts (shapeOf b₀) (stateOf b) c _ j z)
-            ∙ here;
+        rest = ap (λ (S : State). end (j + 1) S (commandsFrom l (j + 1) (m - (j + 1)))) after ∙ sym (step (commandsFrom l (j + 1) (m - (j + 1))) z) ∙ here;
       }
 
+-- an equal number in the place of the number of commands
+pub reached-as : {A : Type 0} {end : ℕ → State → List Fields → A} {b₀ b l : List ℕ} {f : Shape} {m j k : ℕ} → k ≡ j → Reached end b₀ b l f m j → Reached end b₀ b l f m k
+reached-as e h = rw e h
+
+-- ---- a run
+
+-- an accepted command of a run
+pub ran-more : (b₀ : List ℕ) (S : State) (c : Fields) (j : ℕ) (cs : List Fields) → refusalOn (shapeOf b₀) S c ≡ 0 → ranFrom b₀ j S (c ∷ cs) ≡ ranFrom b₀ (j + 1) (nextOn (shapeOf b₀) S c) cs
+ran-more b₀ S c j cs z = run-accepts (shapeOf b₀) S c cs j z
+
+module _ {b₀ b b′ l : List ℕ} {f : Shape} {m j : ℕ} {c : Fields} {r : Answer} (h : Reached (ranFrom b₀) b₀ b l f m j) (more : j < m) (read : c ≡ fieldsAt l (commandPlace j)) (w : Answered b b′ c r) where
   pub ran-refused : {x k number : ℕ} → r ≡ Refused k x → number ≡ commandNumbers r .refusal → RunOn b₀ b′ l (record { accepted = j; refusal = number })
   ran-refused {number = number} e d =
-      let t : eqb (refusalOn (shapeOf b₀) (stateOf b) c) 0 ≡ false = refused-number (refusalOn (shapeOf b₀) (stateOf b) c) (linksOn (shapeOf b) (stateOf b) c) (sym reply ∙ e) in
-      let q : number ≡ refusalOn (shapeOf b₀) (stateOf b) c = d ∙ ap (λ (a : Answer). commandNumbers a .refusal) reply ∙ answer-number (refusalOn (shapeOf b₀) (stateOf b) c) (linksOn (shapeOf b) (stateOf b) c) in
-      let g : record { accepted = j; refusal = refusalOn (shapeOf b₀) (stateOf b) c; state = stateOf b } ≡ ranOn b₀ l = sym (run-refuses (shapeOf b₀) (stateOf b) c _ j t) ∙ here in
+      let t : eqb (refusalOn (shapeOf b₀) (stateOf b) c) 0 ≡ false = is-refused h more read w e in
+      let q : number ≡ refusalOn (shapeOf b₀) (stateOf b) c = d ∙ number-is h more read w in
+      let g : record { accepted = j; refusal = refusalOn (shapeOf b₀) (stateOf b) c; state = stateOf b } ≡ ranOn b₀ l = sym (run-refuses (shapeOf b₀) (stateOf b) c _ j t) ∙ here h more read w in
       record {
         outcome = λ i. record { accepted = g i .accepted; refusal = (q ∙ ap (λ (x : Ran). x .refusal) g) i };
         became =
@@ -109,12 +126,12 @@ module _ {b₀ b b′ l : List ℕ} {f : Shape} {m j : ℕ} {c : Fields} {r : An
               shaped = w .became .shaped;
               octets = w .became .octets;
               shape = w .became .shape ∙ h .shape;
-              state = after ∙ refused-state (shapeOf b₀) (stateOf b) c t ∙ ap (λ (x : Ran). x .state) g;
+              state = after h more read w ∙ refused-state (shapeOf b₀) (stateOf b) c t ∙ ap (λ (x : Ran). x .state) g;
             };
       }
 
 -- after the last command
-pub ran-all : {b₀ b l : List ℕ} {f : Shape} {m j : ℕ} → Reached b₀ b l f m j → m ≤ j → RunOn b₀ b l (record { accepted = j; refusal = 0 })
+pub ran-all : {b₀ b l : List ℕ} {f : Shape} {m j : ℕ} → Reached (ranFrom b₀) b₀ b l f m j → m ≤ j → RunOn b₀ b l (record { accepted = j; refusal = 0 })
 ran-all {b₀} {b} {l} {m = m} {j = j} h d =
     let z : m - j ≡ 0 = omega arith in
     let g : record { accepted = j; refusal = 0; state = stateOf b } ≡ ranOn b₀ l = sym (done z) ∙ h .rest in
@@ -125,10 +142,6 @@ ran-all {b₀} {b} {l} {m = m} {j = j} h d =
   where
     done : m - j ≡ 0 → runFrom j (shapeOf b₀) (stateOf b) (commandsFrom l j (m - j)) ≡ record { accepted = j; refusal = 0; state = stateOf b }
     done z = ap (λ (k : ℕ). runFrom j (shapeOf b₀) (stateOf b) (commandsFrom l j k)) z ∙ none-left j (shapeOf b₀) (stateOf b) l j
-
--- an equal number in the place of the number of commands
-pub reached-as : {b₀ b l : List ℕ} {f : Shape} {m j k : ℕ} → k ≡ j → Reached b₀ b l f m j → Reached b₀ b l f m k
-reached-as e h = rw e h
 
 pub counted-as : {b₀ b l : List ℕ} {j k r : ℕ} → k ≡ j → RunOn b₀ b l (record { accepted = j; refusal = r }) → RunOn b₀ b l (record { accepted = k; refusal = r })
 counted-as e w = rw e w
