@@ -5,9 +5,11 @@ use matrix::Holding;
 use matrix::Numbers;
 use question::Safety;
 ghost use mathlib.Core.Path.{_≡_};
+ghost use lib.ListN.{length};
 ghost use Rattle.matrix.specs.Shape.{limits};
 ghost use Rattle.matrix.specs.Calls.{validAnswer, heldAnswer, commandAnswer, commandBytes, runAnswer, runBytes};
 ghost use Rattle.matrix.specs.Converting.{convertResult, convertOutput};
+ghost use Rattle.matrix.specs.FirstHeld.{firstHeldResult, Lent};
 ghost use Rattle.station.specs.Given.{fieldsOf};
 ghost use Rattle.matrix.specs.Numbers.{truth, heldNumbers, commandNumbers, runNumbers};
 ghost use Rattle.history.specs.Calls.{Emptied, Put, Counted};
@@ -109,6 +111,22 @@ pub extern "C" fn bunvespo_safety(
             value: 0,
         },
     }
+}
+
+// The first command of a list after which a right is held: the value is 0 for none, and m + 1 where m commands come before.
+#[no_mangle]
+pub extern "C" fn bunvespo_first_held(
+    b: &[u8],
+    l: &[u8],
+    s: u64,
+    o: u64,
+    right: u64,
+    copy: &mut [u8],
+) -> Numbers
+    ensures numbers { λ r. ⌜ r ≡ firstHeldResult limits (now (b .entry)) (now (l .entry)) s o right (length (now (copy .entry))) ⌝ }
+    ensures lent { λ r. ⌜ Lent (r .refusal) (length (now (b .entry))) (now (copy .entry)) (now (copy .exit)) ⌝ }
+{
+    station::first_held(b, l, s, o, right, copy)
 }
 
 // A record in version 1 at the start of the output: the value is the bytes of the new record.

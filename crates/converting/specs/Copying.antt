@@ -5,10 +5,9 @@ use native.Mathlib.Numerals.{add-one}
 use native.Mathlib.Omega.{arith}
 use mathlib.Core.Path.{_≡_, sym, _∙_, ap, ap₂, subst}
 use mathlib.Core.Logic.{⊎-elim}
-use mathlib.Core.List.{List, _++_, append-nil}
+use mathlib.Core.List.{List}
 use lib.Arith.{digits-lt, digits-div, digits-mod}
-use lib.ListN.{length, take, drop}
-use lib.Seq.{take-length, drop-length}
+use lib.ListN.{length}
 use Rattle.matrix.specs.declared.Shape.{Shape}
 use Rattle.matrix.specs.Bytes.{numberAt, setNumber}
 use Rattle.matrix.specs.Shape.{shapeOf, bitsOf, columns, sizeOf}
@@ -154,8 +153,3 @@ own-record {b} h e = sym (read-write b (h .station .shaped) (h .station .octets)
 -- and has as many bytes
 pub own-size : {b : List ℕ} {f g : Shape} → Wanted b f g → f .version ≡ g .version → length b ≡ sizeOf g
 own-size h e = h .station .shaped .size ∙ ap sizeOf (sym (own-shape h e))
-
--- bytes copied over as many
-pub copied-over : (b out : List ℕ) → length out ≡ length b → take (length b) b ++ drop (length b) out ≡ b
-copied-over b out e =
-    ap₂ {C = List ℕ} (λ x y. x ++ y) (take-length b) (ap (λ (m : ℕ). drop m out) (sym e) ∙ drop-length out) ∙ append-nil b

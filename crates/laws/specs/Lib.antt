@@ -10,3 +10,4 @@ pub mod Rules
 pub mod Numbers
 pub mod Range
 pub mod BitOps
+pub mod Copied

@@ -20,3 +20,4 @@ pub mod Record
 pub mod CommandList
 pub mod Calls
 pub mod Converting
+pub mod FirstHeld

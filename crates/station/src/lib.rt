@@ -10,9 +10,11 @@ use question::Safety;
 ghost use mathlib.Core.Path.{_≡_};
 ghost use Rattle.matrix.specs.Numbers.{heldNumbers, commandNumbers, runNumbers};
 ghost use mathlib.Core.Bool.{true};
+ghost use lib.ListN.{length};
 ghost use Rattle.matrix.specs.Shape.{limits, knownVersion};
 ghost use Rattle.matrix.specs.Calls.{validAnswer, heldAnswer, heldResult, commandAnswer, commandResult, commandBytes, runAnswer, runResult, runBytes};
 ghost use Rattle.matrix.specs.Converting.{convertResult, convertOutput};
+ghost use Rattle.matrix.specs.FirstHeld.{firstHeldResult, Lent};
 ghost use Rattle.question.specs.Asked.{Answers};
 ghost use Rattle.station.specs.Given.{fieldsOf};
 
@@ -79,6 +81,15 @@ pub fn run(b: &mut [u8], l: &[u8]) -> Outcome
     }
     let f = opening::shape(b);
     runs::run_on(b, f, &mut owners, l)
+}
+
+// After which command of a list a right is first held, if the commands are tried in turn on a copy of the record: refusal 0 and the number of
+// commands before, and one, or 0 where it is held after none; or the refusal and 0. The copy is lent, at least as long as the record.
+pub fn first_held(b: &[u8], l: &[u8], s: u64, o: u64, right: u64, copy: &mut [u8]) -> Numbers
+    ensures result { λ r. ⌜ r ≡ firstHeldResult limits (now (b .entry)) (now (l .entry)) s o right (length (now (copy .entry))) ⌝ }
+    ensures lent { λ r. ⌜ Lent (r .refusal) (length (now (b .entry))) (now (copy .entry)) (now (copy .exit)) ⌝ }
+{
+    trials::first_held(b, l, s as usize, o as usize, right as usize, copy)
 }
 
 // The record in a version, which is one that is read, at the start of `out`.

@@ -1,7 +1,8 @@
 -- `converting::fill` meets its contract: a record of the wanted version is the record itself.
 use native.Mathlib.Omega.{arith}
 use mathlib.Core.Path.{sym, _∙_}
-use Rattle.converting.specs.Copying.{own-record, own-size, copied-over}
+use Rattle.laws.specs.Copied.{copied-over}
+use Rattle.converting.specs.Copying.{own-record, own-size}
 use borrow.Author.Needs.{needs}
 use Rattle.converting.proofs.fill.Statement.{statement}
 use Rattle.converting.proofs.fill.Tie as tie
