@@ -1,12 +1,16 @@
-//! The seven calls on a record, of any bytes and any numbers. Tests go by their numbers, the lowest first, but for
+//! The eight calls on a record, of any bytes and any numbers. Tests go by their numbers, the lowest first, but for
 //! 18, which comes before 15, and 19, which comes directly after 12; and where one holds the call is turned down
-//! and changes nothing.
+//! and changes nothing. So `first_held` has 1 to 5, then 7, then 15, then 16. The commands of a list have their
+//! tests after the 16 of the whole list. One that is refused ends the list: `run` answers its refusal and keeps the
+//! changes before it, and `first_held` is not turned down by it.
 
 use crate::Refusal;
 use crate::command::{self, Refused, allowed, change};
 use crate::list::read_list;
 use crate::record::{Station, read, write};
+use crate::rights::Right;
 use crate::safety::{buffer_minimum, leaks, question};
+use crate::state::Name;
 use crate::version::Version;
 
 /// An answer as the C interface gives it: refusal 0 where the call is answered.
@@ -30,23 +34,28 @@ pub fn valid(record: &[u8]) -> bool {
     read(record).is_ok()
 }
 
-/// Whether a right is held (Manual 8.6): value 1 for yes and 0 for no, which is the answer for absent names.
-pub fn held(record: &[u8], s: u64, o: u64, right: u64) -> Answer {
-    let station = match read(record) {
-        Ok(station) => station,
-        Err(refusal) => return Answer { refusal, value: 0 },
-    };
-    // 7: the bounds of a held question (Manual 7.2). That of the right's code is the version's.
+/// The test 7 of a held question (Manual 7.2). The bound of the right's code is the version's. Gives the name of
+/// the column and the right.
+fn asked_right(station: &Station, s: u64, o: u64, right: u64) -> Result<(Name, Right), Refusal> {
     let in_bounds = s < station.n && o < station.n + station.p;
     match station.version.right(right) {
-        Some(right) if in_bounds => Answer {
+        Some(right) if in_bounds => Ok((station.name(o), right)),
+        _ => Err(7),
+    }
+}
+
+/// Whether a right is held (Manual 8.6): value 1 for yes and 0 for no, which is the answer for absent names.
+pub fn held(record: &[u8], s: u64, o: u64, right: u64) -> Answer {
+    let checked = read(record).and_then(|station| {
+        let (o, right) = asked_right(&station, s, o, right)?;
+        Ok(station.state.held(s, o, right))
+    });
+    match checked {
+        Ok(yes) => Answer {
             refusal: 0,
-            value: u64::from(station.state.held(s, station.name(o), right)),
+            value: u64::from(yes),
         },
-        _ => Answer {
-            refusal: 7,
-            value: 0,
-        },
+        Err(refusal) => Answer { refusal, value: 0 },
     }
 }
 
@@ -107,6 +116,59 @@ pub fn run(record: &mut [u8], list: &[u8]) -> Answer {
     Answer {
         refusal,
         value: accepted,
+    }
+}
+
+/// After how many commands of a list the right is held for the first time, with the tests 1 to 5, 7, 15 and 16.
+/// The value is m + 1 for the least m such that the first m commands are accepted in turn and the right is held
+/// after them, and 0 where there is no such m. The commands are tried on a copy that the caller lends; only its
+/// length is asked for here, since what it contains afterwards is left free.
+pub fn first_held(
+    record: &[u8],
+    list: &[u8],
+    s: u64,
+    o: u64,
+    right: u64,
+    copy_length: usize,
+) -> Answer {
+    let checked = read(record).and_then(|station| {
+        let (o, right) = asked_right(&station, s, o, right)?;
+        // 15: the copy is shorter than the record.
+        if copy_length < record.len() {
+            return Err(15);
+        }
+        let commands = read_list(list)?;
+        let is_held = |station: &Station| station.state.held(s, o, right);
+        Ok(least_count(station, &commands, is_held))
+    });
+    match checked {
+        Ok(least) => Answer {
+            refusal: 0,
+            value: least.map_or(0, |m| m + 1),
+        },
+        Err(refusal) => Answer { refusal, value: 0 },
+    }
+}
+
+/// The least m such that the first m commands are accepted in turn and the right is held after them; none where
+/// no m is such.
+fn least_count(
+    mut station: Station,
+    commands: &[[u64; 5]],
+    is_held: impl Fn(&Station) -> bool,
+) -> Option<u64> {
+    // Here the first m commands have been accepted, for m from 0 on, and the station is the one after them.
+    let mut m = 0;
+    loop {
+        if is_held(&station) {
+            return Some(m);
+        }
+        // Where there is no next command, or it is refused, no greater m has its first m commands accepted.
+        let next = commands.get(m as usize)?;
+        if step(&mut station, *next).refusal != 0 {
+            return None;
+        }
+        m += 1;
     }
 }
 

@@ -17,7 +17,9 @@ mod valid;
 mod version;
 mod window;
 
-pub use calls::{Answer, Safety, command, held, run, safety, to_version_1, to_version_2, valid};
+pub use calls::{
+    Answer, Safety, command, first_held, held, run, safety, to_version_1, to_version_2, valid,
+};
 pub use command::{Command, Uses, allowed, change, decode, decode_in, uses};
 pub use leak::leaks_by;
 pub use list::{LIST_MAXIMUM, read_list, write_list};
