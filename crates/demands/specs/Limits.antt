@@ -8,6 +8,7 @@ use Rattle.matrix.specs.declared.Fields.{Fields}
 use Rattle.matrix.specs.Shape.{Limits, limits, shapeOf}
 use Rattle.matrix.specs.Calls.{validAnswer, heldAnswer, heldResult, commandAnswer, commandResult, commandBytes, runAnswer, runResult, runBytes}
 use Rattle.matrix.specs.Converting.{convertResult, convertOutput}
+use Rattle.matrix.specs.FirstHeld.{firstHeldResult}
 use Rattle.question.specs.declared.Safety.{Safety}
 use Rattle.question.specs.Asked.{safetyRefusal, Answers}
 
@@ -20,7 +21,7 @@ pub record NotAbove (most : Limits) (b : List ℕ) : Type 0 where
   pub plain : shapeOf b .p ≤ most .plain
 
 -- Every call on a record is the same under two limits: its answer, also in numbers, and the bytes after it. The safety question's answer is any
--- that the definition allows, so that what is allowed, with the buffer after it, is the same. A C call's numbers and the program's answer are made
+-- that the definition allows, so that what is allowed, with the buffer after it, is the same; what is left of a lent copy has no limits (`Lent`). A C call's numbers and the program's answer are made
 -- of these answers alone (`AnswersNumbers`, `AnswersInput`). A window's calls have no limits in their definitions.
 pub record SameCalls (most other : Limits) (b : List ℕ) : Type 0 where
   pub valid : validAnswer most b ≡ validAnswer other b
@@ -34,6 +35,7 @@ pub record SameCalls (most other : Limits) (b : List ℕ) : Type 0 where
   pub run-bytes : (l : List ℕ) → runBytes most b l ≡ runBytes other b l
   pub convert-result : (v : ℕ) (out : List ℕ) → convertResult most v b out ≡ convertResult other v b out
   pub convert-output : (v : ℕ) (out : List ℕ) → convertOutput most v b out ≡ convertOutput other v b out
+  pub first-held : (l : List ℕ) (s o right room : ℕ) → firstHeldResult most b l s o right room ≡ firstHeldResult other b l s o right room
   pub safety : (mask s o right : ℕ) (out out′ : List ℕ) (r : Safety)
       → Answers most b mask s o right out out′ r ↔ Answers other b mask s o right out out′ r
 

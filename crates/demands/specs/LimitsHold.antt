@@ -12,6 +12,7 @@ use Rattle.matrix.specs.Shape.{Limits, limits, mostSubjects, shapeOf, inRange}
 use Rattle.matrix.specs.Record.{recordRefusal}
 use Rattle.matrix.specs.Calls.{validAnswer, heldRefusal, heldAnswer, heldResult, commandAnswer, commandResult, commandBytes, runRefusal, runAnswer, runResult, runBytes}
 use Rattle.matrix.specs.Converting.{convertRefusal, convertResult, convertOutput}
+use Rattle.matrix.specs.FirstHeld.{firstHeldRefusal, firstHeldResult}
 use Rattle.laws.specs.Tests.{way, same-test}
 use Rattle.laws.specs.Range.{ranged, in-range}
 use Rattle.question.specs.declared.Safety.{Safety}
@@ -44,7 +45,7 @@ module _ (most other : Limits) (b : List ℕ) (here : NotAbove most b) (there : 
   refusal-same = rw (same-test (inRange most (shapeOf b)) (inRange other (shapeOf b)) (passes most other b there) (passes other most b here)) refl
 
   same-calls : SameCalls most other b
-  unfolding validAnswer heldRefusal heldAnswer heldResult commandAnswer commandResult commandBytes runRefusal runAnswer runResult runBytes convertRefusal convertResult convertOutput safetyRefusal
+  unfolding validAnswer heldRefusal heldAnswer heldResult commandAnswer commandResult commandBytes runRefusal runAnswer runResult runBytes convertRefusal convertResult convertOutput firstHeldRefusal firstHeldResult safetyRefusal
   same-calls =
       record {
         valid = rw refusal-same refl;
@@ -58,6 +59,7 @@ module _ (most other : Limits) (b : List ℕ) (here : NotAbove most b) (there : 
         run-bytes = λ l. rw refusal-same refl;
         convert-result = λ v out. rw refusal-same refl;
         convert-output = λ v out. rw refusal-same refl;
+        first-held = λ l s o right room. rw refusal-same refl;
         safety = λ mask s o right out out′ r.
             (answers-same most other b mask s o right out out′ r (rw refusal-same refl), answers-same other most b mask s o right out out′ r (rw refusal-same refl));
       }

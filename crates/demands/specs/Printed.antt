@@ -122,6 +122,14 @@ safetyConditions b mask s o right room =
     ++ (condition 7 ((questionFits (shapeOf b) s o right && trustFits (shapeOf b) mask) ≡ false) ∷
     condition 15 (room < listRoom (shapeOf b .n + 2)) ∷ [])
 
+-- the question after which command a right is first held, with a copy of so many bytes
+abbrev pub firstHeldConditions : List ℕ → List ℕ → ℕ → ℕ → ℕ → ℕ → List Condition
+firstHeldConditions b l s o right room =
+    recordConditions b
+    ++ (condition 7 (questionFits (shapeOf b) s o right ≡ false) ∷
+    condition 15 (room < length b) ∷
+    condition 16 (wellFormed l ≡ false) ∷ [])
+
 -- 18: in the cell of some row and column a basic right above 6 is set, plain or starred
 abbrev pub HighRight : Shape → State → Type 0
 HighRight f S =

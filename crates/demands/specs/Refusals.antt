@@ -22,6 +22,7 @@ use Rattle.matrix.specs.Record.{validMatrix, recordRefusal}
 use Rattle.matrix.specs.CommandList.{wellFormed}
 use Rattle.matrix.specs.Calls.{questionFits, heldRefusal, namesFit, rawOf, refusalOn, runRefusal}
 use Rattle.matrix.specs.Converting.{basicFrom, convertRefusal}
+use Rattle.matrix.specs.FirstHeld.{firstHeldRefusal}
 use Rattle.laws.specs.Tests.{way, clash}
 use Rattle.laws.specs.Passed.{itself}
 use Rattle.laws.specs.Basics.{SetFrom, basic-found, basic-hit, basic-none}
@@ -35,7 +36,7 @@ use Rattle.owners.specs.Read.{recordTests}
 use Rattle.question.specs.Asked.{trustFits, listRoom, safetyRefusal}
 use Rattle.demands.specs.First.{Condition, condition, Numbered}
 use Rattle.demands.specs.FirstLaws.{Against, AllAgainst, numbered, numbered-then}
-use Rattle.demands.specs.Printed.{OutOfRange, recordConditions, fieldsRight, commandConditions, heldConditions, runConditions, safetyConditions, HighRight, recordBytes, version1Conditions, version2Conditions}
+use Rattle.demands.specs.Printed.{OutOfRange, recordConditions, fieldsRight, commandConditions, heldConditions, runConditions, safetyConditions, firstHeldConditions, HighRight, recordBytes, version1Conditions, version2Conditions}
 use Rattle.demands.specs.Codes.{Agrees, agrees}
 
 -- a test, and the condition that it fails
@@ -166,6 +167,13 @@ module _ (b : List ℕ) where
       then-numbered _ _
       (numbered (test 7 (questionFits (shapeOf b) s o right && trustFits (shapeOf b) mask) ∷ test 15 (leb (listRoom (shapeOf b .n + 2)) room) ∷ []) _
       (fails-test 7 _ (omega arith), λ e. (below-test 15 (listRoom (shapeOf b .n + 2)) room (omega arith), λ e. tt)))
+
+  pub first-held-numbered : (l : List ℕ) (s o right room : ℕ) → Numbered (firstHeldConditions b l s o right room) (firstHeldRefusal limits b l s o right room)
+  unfolding firstHeldRefusal firstFailed
+  first-held-numbered l s o right room =
+      then-numbered _ _
+      (numbered (test 7 (questionFits (shapeOf b) s o right) ∷ test 15 (leb (length b) room) ∷ test 16 (wellFormed l) ∷ []) _
+      (fails-test 7 _ (omega arith), λ e. (below-test 15 (length b) room (omega arith), λ e. (fails-test 16 _ (omega arith), λ e. tt))))
 
   -- a basic right above 6 is found exactly where the printed condition holds
   high-test : Against (test 18 (not (basicFrom 7 (shapeOf b) (stateOf b)))) (condition 18 (HighRight (shapeOf b) (stateOf b)))
