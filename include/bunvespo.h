@@ -1,6 +1,6 @@
 /*
  * Bunvespo: the rights record of a log station (Graham-Denning), its thirteen commands and its safety question, and a window of the
- * commands that were refused of late. The ten calls of the proved library, for C99 and C++11. `./install PREFIX` puts this header,
+ * commands that were refused of late. The eleven calls of the proved library, for C99 and C++11. `./install PREFIX` puts this header,
  * the archive and a file for pkg-config below a prefix; without it, link with target/staticlib/libbunvespo.a, which
  * `rt staticlib bunvespo` proves and writes. The archive is built for x86-64 and needs nothing but memcpy and memset of the C
  * library.
@@ -41,22 +41,23 @@
  * written.
  *
  * SLICES. Each pointer is followed by its length in bytes. A call reads, and where the pointer isn't const may write, these
- * bytes and no others, and keeps no pointer after it returns. A record, a buffer or an output that a call may write must not overlap
- * its other slice: so a record is never converted in its own place.
+ * bytes and no others, and keeps no pointer after it returns. A record, a buffer, an output or a copy that a call may write must not
+ * overlap its other slices: so a record is never converted in its own place, nor a list tried on the record itself.
  * NULL with length 0 is an empty slice, for each of them: the compiled code looks at a slice's length before it reads or
  * writes a byte, and never at the pointer itself. So an empty record, NULL or not, gives 0 for validity and else refusal 1;
  * an empty list on a valid record refusal 16; an empty buffer on a valid record refusal 15 (7 stands before it); an empty output on a
- * valid record refusal 15 (18 stands before it); and an empty slice for a window is one of another length than a window's. NULL with
- * another length is not allowed.
+ * valid record refusal 15 (18 stands before it), an empty copy too (7 stands before it); and an empty slice for a window is one of
+ * another length than a window's. NULL with another length is not allowed.
  * tests/c_interface/null_and_empty.c tests this.
  *
  * THREADS. The library has no variables and takes no locks: all that a call touches is the bytes lent to it. So threads may call
  * it at the same time, under the rule that C has for all bytes: none may be written by one thread while another reads or writes it.
- *   - valid, held, safety, to_version_1 and to_version_2 only read a record, run only reads a list, and window_count only reads a window:
- *     any number of threads may ask of one record or window, convert one record, and share one list, at once.
- *   - command and run write their record, safety its buffer, to_version_1 and to_version_2 their output, and window_empty and window_put
- *     their window. While a thread is in such a call, no other may use that record, buffer, output or window in any call, not even to
- *     ask. A lock, or a copy of the record for each thread, is the caller's to provide.
+ *   - valid, held, safety, first_held, to_version_1 and to_version_2 only read a record, run and first_held only read a list, and
+ *     window_count only reads a window: any number of threads may ask of one record or window, convert one record, and share one list, at
+ *     once.
+ *   - command and run write their record, safety its buffer, first_held its copy, to_version_1 and to_version_2 their output, and
+ *     window_empty and window_put their window. While a thread is in such a call, no other may use that record, buffer, copy, output or
+ *     window in any call, not even to ask. A lock, or a copy of the record for each thread, is the caller's to provide.
  */
 #ifndef BUNVESPO_H
 #define BUNVESPO_H
@@ -76,9 +77,10 @@ extern "C" {
  *   #if BUNVESPO_LIBRARY_VERSION >= 6000      0.6.0 or later: records of version 2, with fifteen basic rights, and the conversions
  *   #if BUNVESPO_LIBRARY_VERSION >= 7000      0.7.0 or later: own counts as holding every basic right
  *   #if BUNVESPO_LIBRARY_VERSION >= 8000      0.8.0 or later: a delete of a bit that is not set is refused by 19
+ *   #if BUNVESPO_LIBRARY_VERSION >= 9000      0.9.0 or later: bunvespo_first_held
  */
 #define BUNVESPO_VERSION_MAJOR 0
-#define BUNVESPO_VERSION_MINOR 8
+#define BUNVESPO_VERSION_MINOR 9
 #define BUNVESPO_VERSION_PATCH 0
 #define BUNVESPO_LIBRARY_VERSION (BUNVESPO_VERSION_MAJOR * 1000000 + BUNVESPO_VERSION_MINOR * 1000 + BUNVESPO_VERSION_PATCH)
 
@@ -88,6 +90,7 @@ extern "C" {
  *   command                     1 to 12, 19, 13, 14
  *   run                         1 to 5, 16, and then 6 to 12, 19, 13, 14 for each command in its turn
  *   safety                      1 to 5, 7, 15
+ *   first_held                  1 to 5, 7, 15, 16
  *   to_version_1                1 to 5, 18, 15
  *   to_version_2                1 to 5, 15
  *   window_put, window_count    17
@@ -96,14 +99,14 @@ extern "C" {
  */
 enum {
     BUNVESPO_ANSWERED = 0,                  /* not refused */
-    BUNVESPO_REFUSED_RECORD_SHORT = 1,      /* 1 to 5: held, command, run, safety, to_version_1, to_version_2 */
+    BUNVESPO_REFUSED_RECORD_SHORT = 1,      /* 1 to 5: held, command, run, safety, first_held, to_version_1, to_version_2 */
     BUNVESPO_REFUSED_VERSION = 2,
     BUNVESPO_REFUSED_COUNTS = 3,
     BUNVESPO_REFUSED_RECORD_LENGTH = 4,     /* each version has its own L and its own length, as above */
     BUNVESPO_REFUSED_NOT_VALID = 5,         /* one of the five conditions above fails */
     BUNVESPO_REFUSED_CODE = 6,              /* command, run: codes are 1 to 13 */
-    BUNVESPO_REFUSED_BOUNDS = 7,            /* held, command, run, safety: subjects and trust bits are below n, columns below n + p;
-                                               k is at most 6 and a right at most 15 at version 1, 14 and 31 at version 2 */
+    BUNVESPO_REFUSED_BOUNDS = 7,            /* held, command, run, safety, first_held: subjects and trust bits are below n, columns
+                                               below n + p; k is at most 6 and a right at most 15 at version 1, 14 and 31 at version 2 */
     BUNVESPO_REFUSED_INITIATOR_ABSENT = 8,  /* command, run */
     BUNVESPO_REFUSED_KIND = 9,              /* command, run: code 6 takes a subject, 7, 10 and 11 a plain object */
     BUNVESPO_REFUSED_NAME_ABSENT = 10,      /* command, run */
@@ -111,9 +114,9 @@ enum {
     BUNVESPO_REFUSED_RIGHT_LACKING = 12,    /* command, run */
     BUNVESPO_REFUSED_WALK_MEETS = 13,       /* command, run: code 3 over a subject */
     BUNVESPO_REFUSED_OTHER_CONTROLLER = 14, /* command, run: code 6 */
-    BUNVESPO_REFUSED_BUFFER_SHORT = 15,     /* safety: its buffer; to_version_1, to_version_2: their output */
-    BUNVESPO_REFUSED_LIST_FORM = 16,        /* run: fewer than 5 bytes, a version other than 1, a command that does not begin with 05, or
-                                               an L above 60,000, not divisible by six, or not the number of bytes after it */
+    BUNVESPO_REFUSED_BUFFER_SHORT = 15,     /* safety: its buffer; to_version_1, to_version_2: their output; first_held: its copy */
+    BUNVESPO_REFUSED_LIST_FORM = 16,        /* run, first_held: fewer than 5 bytes, a version other than 1, a command that does not begin
+                                               with 05, or an L above 60,000, not divisible by six, or not the number of bytes after it */
     BUNVESPO_REFUSED_WINDOW_NUMBER = 17,    /* window_put, window_count: whatever the window's bytes */
     BUNVESPO_REFUSED_HIGH_RIGHT = 18,       /* to_version_1: one of the bits 16 to 31 is set in some cell of a record of version 2 */
     BUNVESPO_REFUSED_NOT_SET = 19           /* command, run: codes 8 and 9; neither own nor the other form of the right helps */
@@ -140,7 +143,7 @@ static inline const char *bunvespo_refusal_words(uint64_t refusal)
     case BUNVESPO_REFUSED_WALK_MEETS: return "the owner walk from s meets o";
     case BUNVESPO_REFUSED_OTHER_CONTROLLER: return "somebody else controls o already";
     case BUNVESPO_REFUSED_BUFFER_SHORT:
-        return "the buffer is shorter than 5 + 6 (n + 2) bytes, or the output than the new record";
+        return "the buffer is shorter than 5 + 6 (n + 2) bytes, the output than the new record, or the copy than the record";
     case BUNVESPO_REFUSED_LIST_FORM: return "the list is not of the right form";
     case BUNVESPO_REFUSED_WINDOW_NUMBER: return "the initiator, or the number whose count is read, is 64 or more";
     case BUNVESPO_REFUSED_HIGH_RIGHT: return "a basic right above 6 is set, for which version 1 has no room";
@@ -183,7 +186,7 @@ enum {
                                                 become zero */
 };
 
-/* The limits of a record, and the bytes of the longest one of either version, which are output enough for every conversion. Then the
+/* The limits of a record, and the bytes of the longest one of either version, which are output or copy enough for every call. Then the
    bytes of buffer that a safety question asks for on a record of n subject names. With an n above the limit it is the size for
    BUNVESPO_MOST_SUBJECTS, which is enough for every record. */
 #define BUNVESPO_MOST_SUBJECTS 40
@@ -235,6 +238,18 @@ bunvespo_answer bunvespo_run(uint8_t *record, size_t record_len, const uint8_t *
  */
 bunvespo_answer bunvespo_safety(const uint8_t *record, size_t record_len, uint64_t trust, uint64_t s, uint64_t o,
                                 uint64_t right, uint8_t *out, size_t out_len);
+
+/*
+ * The first command of a list after which subject s holds a right over column o, if the commands are tried in turn, up to the first that
+ * is refused. They are tried on copy, lent bytes, at least as many as the record has. Refusals, tested in this order: 1 to 5, 7, 15, 16;
+ * a command that is refused ends the search and is no refusal of the call.
+ * value: m + 1, where m is the least number such that the first m commands are accepted in turn and the right is held after them, by own
+ * too, so that 1 means held already; 0 where there is no such number, and with a refusal.
+ * The record and the list are only read. On a refusal copy is unchanged; else what stands in its first record_len bytes is left free, and
+ * later bytes are unchanged.
+ */
+bunvespo_answer bunvespo_first_held(const uint8_t *record, size_t record_len, const uint8_t *list, size_t list_len, uint64_t s,
+                                    uint64_t o, uint64_t right, uint8_t *copy, size_t copy_len);
 
 /*
  * A record converted: to version 1 by the first call, to version 2 by the second. The new record stands at the start of out. It has the

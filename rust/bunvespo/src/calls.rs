@@ -17,7 +17,7 @@ pub enum Safety {
     Leaks(u64),
 }
 
-/// The refusal of an answer, if it has one. The archive gives no number above 18.
+/// The refusal of an answer, if it has one. The archive gives no number above 19.
 pub(crate) fn refusal_of(answer: raw::Answer) -> Option<Refusal> {
     if answer.refusal == 0 {
         return None;
@@ -136,6 +136,63 @@ pub fn run(record: &mut [u8], list: &[u8]) -> Result<u64, RunRefused> {
     match refusal_of(answer) {
         None => Ok(accepted),
         Some(refusal) => Err(RunRefused { refusal, accepted }),
+    }
+}
+
+/// The first command of a list after which subject s holds a right over column o, if the commands are tried in turn, up to the first that
+/// is refused. `Some(m)`: m is the least number such that the first m commands are accepted in turn and the right is held after them, 0
+/// where it is held at the start. `None`: it is held after none of them. The commands are tried on `copy`, which has at least as many bytes
+/// as the record; what stands in these after the call is left free. Every later byte of `copy`, and all of it on a refusal, stays as it is.
+/// Refusals: 1 to 5, 7, 15, 16.
+///
+/// ```
+/// use bunvespo::{Basic, Command, Refusal, Right, encode, first_held, new_record};
+///
+/// let record = new_record(3, 1)?;
+/// let list = encode(&[
+///     Command::create_subject(0, 1),
+///     Command::create_object(1, 3),
+///     Command::create_subject(0, 2),
+///     Command::grant(1, 2, 3, Basic::R0),
+/// ])?;
+/// let mut copy = record.clone();
+/// let read = Right::Plain(Basic::R0);
+/// assert_eq!(first_held(&record, &list, 2, 3, read, &mut copy)?, Some(4));
+/// assert_eq!(first_held(&record, &list, 1, 3, read, &mut copy)?, Some(2)); // who owns a log reads it
+/// assert_eq!(first_held(&record, &list, 0, 0, Right::Control, &mut copy)?, Some(0));
+/// assert_eq!(first_held(&record, &list, 0, 3, read, &mut copy)?, None);
+/// assert_eq!(first_held(&record, &list, 0, 3, read, &mut []), Err(Refusal::BufferShort));
+/// # Ok::<(), Box<dyn std::error::Error>>(())
+/// ```
+pub fn first_held(
+    record: &[u8],
+    list: &[u8],
+    s: u64,
+    o: u64,
+    right: Right,
+    copy: &mut [u8],
+) -> Result<Option<u64>, Refusal> {
+    let (at, length) = (record.as_ptr(), record.len());
+    let (list_at, list_length) = (list.as_ptr(), list.len());
+    let (copy_at, copy_length) = (copy.as_mut_ptr(), copy.len());
+    let right = right.code();
+    // SAFETY: the pointers and lengths are those of three slices, of which the third overlaps no other as it is lent to be written.
+    let answer = unsafe {
+        raw::bunvespo_first_held(
+            at,
+            length,
+            list_at,
+            list_length,
+            s,
+            o,
+            right,
+            copy_at,
+            copy_length,
+        )
+    };
+    match refusal_of(answer) {
+        None => Ok(answer.value.checked_sub(1)),
+        Some(refusal) => Err(refusal),
     }
 }
 

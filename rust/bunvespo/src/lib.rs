@@ -1,7 +1,7 @@
 //! Safe calls of the proved library Bunvespo, which keeps the rights record of a log station: who owns, controls and may read each
 //! login (subject) and each log (plain object), as bytes.
 //!
-//! There are seven calls on a record: [`valid`], [`held`], [`command`], [`run`] and [`safety`], and [`to_version_1`] and
+//! There are eight calls on a record: [`valid`], [`held`], [`command`], [`run`], [`safety`] and [`first_held`], and [`to_version_1`] and
 //! [`to_version_2`], which convert it; [`check`] and [`witness`] are two of them in another form. Each takes any bytes, an empty slice
 //! too, and any numbers as names; one that is out of range is refused and never wraps. Errors are types that `?` takes, each with the
 //! refusal's number and words. The calls keep nothing between them, so threads may call them at the same time; who may write a record is
@@ -40,7 +40,9 @@ mod refused;
 mod right;
 mod window;
 
-pub use calls::{Safety, check, command, held, run, safety, trust_mask, valid, witness};
+pub use calls::{
+    Safety, check, command, first_held, held, run, safety, trust_mask, valid, witness,
+};
 pub use command::{Command, code};
 pub use convert::{to_version_1, to_version_2};
 pub use header::{Header, MOST_PLAIN, MOST_RECORD_BYTES, MOST_SUBJECTS, buffer_size, new_record};

@@ -1,4 +1,4 @@
-//! The ten exports of the archive, as `include/bunvespo.h` declares them. A slice is a pointer and then its length.
+//! The eleven exports of the archive, as `include/bunvespo.h` declares them. A slice is a pointer and then its length.
 //!
 //! # Safety
 //! Each pointer and length are those of bytes that may be read, or written where the pointer is `*mut`, and that overlap no other
@@ -56,6 +56,19 @@ unsafe extern "C" {
         right: u64,
         out: *mut u8,
         out_len: usize,
+    ) -> Answer;
+
+    /// The value is 0 where the right is held after none of the commands, and m + 1 where it is first held after m of them.
+    pub fn bunvespo_first_held(
+        record: *const u8,
+        record_len: usize,
+        list: *const u8,
+        list_len: usize,
+        s: u64,
+        o: u64,
+        right: u64,
+        copy: *mut u8,
+        copy_len: usize,
     ) -> Answer;
 
     /// The value is the number of bytes of the new record, which is of version 1.

@@ -52,10 +52,10 @@ pub enum Refusal {
     WalkMeets = 13,
     /// Somebody besides the column controls it.
     OtherController = 14,
-    /// The buffer can't hold the longest list, given by `safety`; or the output can't hold the new record, given by `to_version_1` and
-    /// `to_version_2`.
+    /// The buffer can't hold the longest list, given by `safety`; the output can't hold the new record, given by `to_version_1` and
+    /// `to_version_2`; or the copy can't hold the record, given by `first_held`.
     BufferShort = 15,
-    /// The bytes of the list are no list. Given by `run` alone.
+    /// The bytes of the list are no list. Given by `run` and `first_held` alone.
     ListForm = 16,
     /// The number has no count in a window. Given by `Window` alone.
     WindowNumber = 17,
@@ -131,7 +131,7 @@ impl Refusal {
             Refusal::WalkMeets => "the owner walk from s meets o",
             Refusal::OtherController => "somebody else controls o already",
             Refusal::BufferShort => {
-                "the buffer is shorter than 5 + 6 (n + 2) bytes, or the output than the new record"
+                "the buffer is shorter than 5 + 6 (n + 2) bytes, the output than the new record, or the copy than the record"
             }
             Refusal::ListForm => "the list is not of the right form",
             Refusal::WindowNumber => {
