@@ -27,8 +27,8 @@ pub fn ask_version(b: &[u8], version: u8, out: &mut [u8]) {
     say_numbers(convert(b, version, out));
 }
 
-// An output, to be lent up to a length.
-fn output(room: usize) -> [u8; 55]
+// An output, or a copy, to be lent up to a length.
+pub fn output(room: usize) -> [u8; 55]
     requires { ⌜ room ≤ 55 ⌝ }
     ensures { λ r. ⌜ Counts room r ⌝ }
 {
