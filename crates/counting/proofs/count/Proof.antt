@@ -6,7 +6,7 @@ use mathlib.Core.Path.{_≡_, refl}
 use lib.ListN.{length}
 use Rattle.lanes.specs.Lists.{part-next}
 use Rattle.lanes.specs.LaneLaws.{first-room}
-use Rattle.counting.specs.Blocks.{atOnce, Below, below-none, below-sized, below-part, below-done}
+use Rattle.tallies.specs.Blocks.{atOnce, Below, below-none, below-sized, below-part, below-done}
 use Rattle.counting.proofs.count.Statement.{statement}
 use Rattle.counting.proofs.count.Tie as tie
 

@@ -5,7 +5,7 @@ use native.Mathlib.Omega.{arith}
 use mathlib.Core.Path.{_≡_, refl}
 use lib.ListN.{length}
 use Rattle.lanes.specs.LaneLaws.{first-room}
-use Rattle.counting.specs.Blocks.{atOnce, Below, below-none, below-sized, below-part, below-done}
+use Rattle.tallies.specs.Blocks.{atOnce, Below, below-none, below-sized, below-part, below-done}
 use Rattle.counting.proofs.count_pairs.Statement.{statement}
 use Rattle.counting.proofs.count_pairs.Tie as tie
 

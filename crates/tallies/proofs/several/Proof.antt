@@ -1,4 +1,4 @@
--- `counting::several` meets its contract. The first loop's invariant: the lists count the first r rows, and row r's lanes begin at `at`. The second's: the first j lanes are filled.
+-- `tallies::several` meets its contract. The first loop's invariant: the lists count the first r rows, and row r's lanes begin at `at`. The second's: the first j lanes are filled.
 use borrow.Author.Needs.{needs}
 use Prim.Native.Nat.{ℕ, _+_, _*_, _/_, _-_, _≤_}
 use native.Mathlib.Omega.{arith}
@@ -6,9 +6,9 @@ use mathlib.Core.Path.{_≡_, refl, ap}
 use lib.ListN.{length, getD}
 use Rattle.lanes.specs.Lanes.{rowBytes, rowPlace, upperAt}
 use Rattle.lanes.specs.LaneLaws.{first-place, first-room, next-place, row-room}
-use Rattle.counting.specs.Blocks.{atOnce, Column, column-low, column-count, column-done, Several, several-none, several-room, several-next, Filling, filling-none, filling-step, filling-done}
-use Rattle.counting.proofs.several.Statement.{statement}
-use Rattle.counting.proofs.several.Tie as tie
+use Rattle.tallies.specs.Blocks.{atOnce, Column, column-low, column-count, column-done, Several, several-none, several-room, several-next, Filling, filling-none, filling-step, filling-done}
+use Rattle.tallies.proofs.several.Statement.{statement}
+use Rattle.tallies.proofs.several.Tie as tie
 
 abbrev Inv-loop : tie.InvT-loop
 Inv-loop tally odd marks b m c rows low₀ parity₀ since₀ at₀ r₀ low parity since at r = (r ≤ rows) × (at ≡ rowPlace m r + 2 * c) × Several b m c r low parity since

@@ -1,4 +1,4 @@
--- `counting::pairs` meets its contract. The invariant: the halves of the lists' numbers count the first r rows, and row r's lanes begin at `at`.
+-- `pairs::pairs` meets its contract. The invariant: the halves of the lists' numbers count the first r rows, and row r's lanes begin at `at`.
 use borrow.Author.Needs.{needs}
 use Prim.Native.Nat.{ℕ, _+_, _*_, _-_, _≤_}
 use native.Mathlib.Omega.{arith}
@@ -6,9 +6,9 @@ use mathlib.Core.Path.{_≡_, refl, ap}
 use lib.ListN.{length}
 use Rattle.lanes.specs.Lanes.{rowBytes, rowPlace}
 use Rattle.lanes.specs.LaneLaws.{first-place, first-room, next-place, row-room}
-use Rattle.counting.specs.Pairs.{lower, upper, unitOf, PairRoom, Pairs, pairs-none, pairs-room, pairs-next, pairs-done, pairs-count, pairs-filling}
-use Rattle.counting.proofs.pairs.Statement.{statement}
-use Rattle.counting.proofs.pairs.Tie as tie
+use Rattle.pairs.specs.Pairs.{lower, upper, unitOf, PairRoom, Pairs, pairs-none, pairs-room, pairs-next, pairs-done, pairs-count, pairs-filling}
+use Rattle.pairs.proofs.pairs.Statement.{statement}
+use Rattle.pairs.proofs.pairs.Tie as tie
 
 abbrev Inv-loop : tie.InvT-loop
 Inv-loop tally odd marks b m c rows low₀ parity₀ since₀ at₀ r₀ low parity since at r = (r ≤ rows) × (at ≡ rowPlace m r + 2 * c) × Pairs b m c r low parity since

@@ -1,4 +1,4 @@
--- `counting::one` meets its contract. The invariant: what is counted of the lane is that of the first r rows, and `at` is its upper byte in row r.
+-- `tallies::one` meets its contract. The invariant: what is counted of the lane is that of the first r rows, and `at` is its upper byte in row r.
 use borrow.Author.Needs.{needs}
 use Prim.Native.Nat.{ℕ, _+_, _*_, _-_, _≤_}
 use native.Mathlib.Omega.{arith}
@@ -6,9 +6,9 @@ use mathlib.Core.Path.{_≡_, refl, ap}
 use lib.ListN.{length, getD}
 use Rattle.lanes.specs.Lanes.{rowBytes, rowPlace, upperAt}
 use Rattle.lanes.specs.LaneLaws.{first-place, first-room, next-place, row-room}
-use Rattle.counting.specs.Blocks.{Column, column-none, column-next, column-low, column-count, column-done, filling-one}
-use Rattle.counting.proofs.one.Statement.{statement}
-use Rattle.counting.proofs.one.Tie as tie
+use Rattle.tallies.specs.Blocks.{Column, column-none, column-next, column-low, column-count, column-done, filling-one}
+use Rattle.tallies.proofs.one.Statement.{statement}
+use Rattle.tallies.proofs.one.Tie as tie
 
 abbrev Inv-loop : tie.InvT-loop
 Inv-loop tally odd marks b m c rows low₀ parity₀ since₀ at₀ r₀ low parity since at r = (r ≤ rows) × (at ≡ rowPlace m r + (2 * c + 1)) × Column (λ v. upperAt b m v c) r low parity since

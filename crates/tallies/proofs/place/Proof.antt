@@ -1,9 +1,9 @@
--- `counting::place` meets its contract: the definition makes the same test.
+-- `tallies::place` meets its contract: the definition makes the same test.
 use mathlib.Core.Path.{refl}
 use borrow.Author.Tests.{eq-eqb, ne-eqb}
 use borrow.Author.Needs.{needs}
-use Rattle.counting.proofs.place.Statement.{statement}
-use Rattle.counting.proofs.place.Tie as tie
+use Rattle.tallies.proofs.place.Statement.{statement}
+use Rattle.tallies.proofs.place.Tie as tie
 
 cast-result : tie.Need-cast-result
 cast-result c = search needs

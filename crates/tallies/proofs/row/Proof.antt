@@ -1,12 +1,12 @@
--- `counting::row` meets its contract. The invariant: in each of the three lists the lanes below j have the row, those from j on are as before.
+-- `tallies::row` meets its contract. The invariant: in each of the three lists the lanes below j have the row, those from j on are as before.
 use borrow.Author.Needs.{needs}
 use Prim.Native.Nat.{ℕ, _-_, _*_, _%_, _≤_}
 use native.Mathlib.Nat.{le-refl}
 use native.Mathlib.Omega.{arith}
 use mathlib.Core.Path.{ap}
-use Rattle.counting.specs.Blocks.{atOnce, lowBits, lanesFrom, ownUpper, Joined, joined-none, joined-step, joined-done}
-use Rattle.counting.proofs.row.Statement.{statement}
-use Rattle.counting.proofs.row.Tie as tie
+use Rattle.tallies.specs.Blocks.{atOnce, lowBits, lanesFrom, ownUpper, Joined, joined-none, joined-step, joined-done}
+use Rattle.tallies.proofs.row.Statement.{statement}
+use Rattle.tallies.proofs.row.Tie as tie
 
 abbrev Inv-loop : tie.InvT-loop
 Inv-loop low₀ odd₀ since₀ b at j₀ low odd since j = (j ≤ atOnce) × Joined (lowBits b at) (lanesFrom b at) ownUpper j low₀ odd₀ since₀ low odd since

@@ -10,7 +10,7 @@ use Rattle.lanes.specs.Lists.{Filled, filled-from, filled-both}
 use Rattle.lanes.specs.declared.Matrix.{Matrix}
 use Rattle.lanes.specs.Lanes.{lows, paired, since, placeOf, rowPlace, upperAt, Laid}
 use Rattle.lanes.specs.LaneLaws.{low-bits, row-room}
-use Rattle.counting.specs.Blocks.{atOnce, Sized, sized-none, Joined, joined-sized, Column, column-none, column-next, column-low, column-count, column-done, Filling}
+use Rattle.tallies.specs.Blocks.{atOnce, Sized, sized-none, Joined, joined-sized, Column, column-none, column-next, column-low, column-count, column-done, Filling}
 
 -- the two halves of a number of 16 bits: its lower byte, and what stands above that
 pub data Half : Type 0 where

@@ -1,12 +1,12 @@
--- `counting::row_of_pairs` meets its contract. The invariant: in each of the three lists the numbers below j have the row, those from j on are as before.
+-- `pairs::row_of_pairs` meets its contract. The invariant: in each of the three lists the numbers below j have the row, those from j on are as before.
 use borrow.Author.Needs.{needs}
 use Prim.Native.Nat.{_-_, _≤_}
 use native.Mathlib.Nat.{le-refl}
 use native.Mathlib.Omega.{arith}
-use Rattle.counting.specs.Blocks.{atOnce, Joined, joined-none, joined-step, joined-done}
-use Rattle.counting.specs.Pairs.{lower, upper, half, pairsFrom, ownBoth}
-use Rattle.counting.proofs.row_of_pairs.Statement.{statement}
-use Rattle.counting.proofs.row_of_pairs.Tie as tie
+use Rattle.tallies.specs.Blocks.{atOnce, Joined, joined-none, joined-step, joined-done}
+use Rattle.pairs.specs.Pairs.{lower, upper, half, pairsFrom, ownBoth}
+use Rattle.pairs.proofs.row_of_pairs.Statement.{statement}
+use Rattle.pairs.proofs.row_of_pairs.Tie as tie
 
 abbrev Inv-loop : tie.InvT-loop
 Inv-loop low₀ odd₀ since₀ b at j₀ low odd since j = (j ≤ atOnce) × Joined (pairsFrom b at) (pairsFrom b at) ownBoth j low₀ odd₀ since₀ low odd since
