@@ -35,7 +35,7 @@ try check file
 
 for version in 1 2; do
     # The largest record of a version: a new one, and one in which each login made the next one and three logs, and U controls the last login.
-    rm -f new full full.names show.html leak.html
+    rm -f new full {new,full}.history full.names show.html leak.html
     try new new 40 120 --version "$version"
     whole file "$version" 40 120
     cmp file new

@@ -4,7 +4,7 @@ run() {
     try run "$@"
     hex station
 }
-cp "$a" station
+put "$a" station
 echo 'login 1 destroys login 2' >commands
 run station commands --dry
 run station commands
@@ -17,7 +17,7 @@ run station commands
 run station commands
 echo 'login 0 grants r0 over login 0 to login 0' >commands
 run station commands
-cp "$a" station
+put "$a" station
 for command in '14 0 0 0 0' '0 255 0 0 0' '4 0 0 4 0' '4 300 0 0 0' '4 0 0 0 7' '10 0 1 3 0' '12 0 1 1 0' '3 0 0 1 1' '6 2 1 3 0' \
     'login 1 grants own over login 2 to login 0' 'login 0 transfers own over log 3 to login 1' 'login 0 creates login 1' \
     'login 2 creates log 3' 'login 0 destroys login 2' 'login 0 destroys log 3' 'login 0 transfers own over login 1 to login 2' \
@@ -53,7 +53,7 @@ cmp "$a" station
 echo 'login 1 grants control over login 2 to login 0
 1 grants control over 2 to 0' >commands
 run station commands
-cp "$b" station
+put "$b" station
 for command in 'login 1 creates login 1' 'login 0 destroys log 2' 'login 0 destroys login 1' 'login 0 grants r0 over log 2 to login 0' \
     'login 0 transfers own over log 2 to login 0'; do
     echo "$command" >commands
@@ -70,7 +70,7 @@ $command" >commands
 done
 cmp "$b" station
 # Lists of bytes.
-cp "$a" station
+put "$a" station
 bytes commands 01 00 00 00 0c 05 0d 01 02 00 00 05 04 01 01 03 00
 run station commands
 bytes commands 01 00 00 00 0c 05 04 01 01 03 01 05 0d 01 02 00 00
@@ -100,12 +100,12 @@ yes 'login 0 creates log 40
 login 0 destroys log 40' | head -n 30001 >many || true
 "$program" run large many
 # Permissions stay; a link stays a link, and its target is replaced; another folder.
-cp "$a" station
+put "$a" station
 chmod 640 station
 mkdir folder
 ln -s ../station folder/link
 echo '13 1 2 0 0' >commands
-(cd folder && "$program" run link ../commands)
+(cd folder && "$program" run link ../commands) | sed "s|$PWD/||"
 stat -c '%A %F' station folder/link
 hex station
 [[ -z $(ls -A | grep '\.new$') ]] || fail "a file is left over"

@@ -42,6 +42,12 @@ no_record() {
     [[ ! -e made ]] || fail "a record is made of $what"
 }
 
+# A record as a file without a history, in place of one that may have one.
+put() {
+    cp "$1" "$2"
+    rm -f "$2.history"
+}
+
 # The words, with quotes where a shell needs them.
 shown() {
     local word

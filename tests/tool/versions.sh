@@ -66,7 +66,7 @@ for version in 1 2; do
     { for s in {1..15}; do echo "12 0 $s 0 0"; done; echo '10 0 0 16 0'; for k in 0 1 6; do echo "5 0 9 16 $k"; done; } | "$program" run many - >/dev/null
     [[ $version == 1 ]] || for k in 10 14; do echo "4 0 9 16 $k"; done | "$program" run many - >/dev/null
     "$program" show many --html - | grep -o 'In a cell [^.]*\.\|title="login 9 has [^<]*over log 16">[^<]*'
-    rm many
+    rm many many.history
 done
 
 # In another version, and back: the same record. In the version that it has already: a copy.

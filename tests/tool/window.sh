@@ -1,5 +1,5 @@
 # Windows: the commands of runs are entered in a file, which tells how many of the last 256 were refused.
-cp "$a" station
+put "$a" station
 
 # Runs commands with options: the first argument has the options, each other one a command.
 enter() {
@@ -83,7 +83,7 @@ try run station commands --window listed
 try refused listed
 
 # What is no window: nothing is run.
-cp "$a" station
+put "$a" station
 cp station before
 cp w before-w
 echo '13 1 2 0 0' >commands
@@ -212,7 +212,7 @@ try refused written --json
 { cat entries; printf '\x01\x07'; tail -c +3 counts; times 119 000; } >wrong-high
 { times 1 101; times 384 000; } >wrong-login
 times 385 377 >wrong-ones
-cp "$a" station
+put "$a" station
 cp station before
 echo '13 1 2 0 0' >commands
 for wrong in wrong-*; do

@@ -32,7 +32,7 @@ impl Answer {
 }
 
 /// How many lines are printed of those that might be thousands.
-const MOST_LINES: usize = 20;
+pub const MOST_LINES: usize = 20;
 
 /// The first of some lines, each set in, and how many more there are.
 pub fn first_lines(lines: &[String]) -> String {

@@ -88,14 +88,20 @@ impl Commands {
         Ran::Whole
     }
 
+    /// How many commands a run accepted, and the refusal that ended it.
+    pub fn outcome(&self, ran: &Ran) -> (usize, Option<Refusal>) {
+        match ran {
+            Ran::Whole => (self.numbered.len(), None),
+            Ran::Refused(accepted, refused) => (*accepted, Some(refused.refusal)),
+            Ran::NoList => (0, None),
+        }
+    }
+
     /// The commands that a run tried, in order: the initiator of each and its outcome, which is 0 where it was accepted and else the
     /// number of the refusal.
     pub fn tried(&self, ran: &Ran) -> Vec<(u64, u64)> {
-        let (accepted, refused) = match ran {
-            Ran::Whole => (self.numbered.len(), None),
-            Ran::Refused(accepted, refused) => (*accepted, Some(u64::from(refused.number()))),
-            Ran::NoList => (0, None),
-        };
+        let (accepted, refusal) = self.outcome(ran);
+        let refused = refusal.map(|refusal| u64::from(refusal.number()));
         let outcomes = repeat_n(0, accepted).chain(refused);
         let initiators = self.numbered.iter().map(|(_, c)| c.i);
         initiators.zip(outcomes).collect()

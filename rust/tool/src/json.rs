@@ -2,7 +2,7 @@
 
 use std::fmt::Write;
 
-use crate::library::Right;
+use crate::library::{Command, Right};
 use crate::names::Names;
 use crate::record::{Name, column_of};
 
@@ -55,4 +55,21 @@ pub fn right(right: Right, names: &Names) -> String {
         ("code", right.code().to_string()),
         ("name", text(&names.right_label(right))),
     ])
+}
+
+/// A command: its five numbers and its words.
+pub fn command(c: Command, words: &str) -> String {
+    object(&command_fields(c, words))
+}
+
+/// The fields of a command, to which others may be added.
+pub fn command_fields(c: Command, words: &str) -> [(&'static str, String); 6] {
+    [
+        ("code", c.code.to_string()),
+        ("i", c.i.to_string()),
+        ("s", c.s.to_string()),
+        ("o", c.o.to_string()),
+        ("k", c.k.to_string()),
+        ("words", text(words)),
+    ]
 }

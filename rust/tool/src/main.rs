@@ -6,6 +6,7 @@ mod command_text;
 mod commands;
 mod faults;
 mod held_by;
+mod history;
 mod html;
 mod input;
 mod json;
@@ -18,6 +19,7 @@ mod record;
 mod replace;
 mod sentence;
 mod spoken;
+mod stop;
 mod table;
 #[cfg(test)]
 mod tests;
@@ -82,6 +84,10 @@ fn run(given: &Given) -> Answered<Answer> {
         "ask" => commands::ask::ask(given),
         "run" => commands::run::run(given),
         "refused" => commands::refused::refused(given),
+        "log" => commands::log::log(given),
+        "why" => commands::why::why(given),
+        "audit" => commands::audit::audit(given),
+        "adopt" => commands::adopt::adopt(given),
         _ => commands::diff::diff(given),
     }
 }

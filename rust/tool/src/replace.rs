@@ -8,15 +8,17 @@ use std::io::{self, ErrorKind, Write};
 use std::os::unix::fs::{MetadataExt, OpenOptionsExt, fchown};
 use std::path::{Path, PathBuf};
 use std::thread::sleep;
-use std::time::Duration;
+use std::time::{Duration, Instant};
 
 use crate::html::START;
 use crate::input::{called, read_from, trouble};
 use crate::no_answer::{Answered, NoAnswer, no_answer};
+use crate::stop::{REPLACED, Steps, stop_for_test};
 
-/// How often another run's lock is tried, and the pause between.
-const TRIES: u32 = 200;
-const PAUSE: Duration = Duration::from_millis(50);
+/// How long another run's lock is waited for, and the pause between two tries. The pause is short beside the time for which a run has the
+/// lock, so that a run comes to its turn also where many others follow each other.
+const WAIT: Duration = Duration::from_secs(20);
+const PAUSE: Duration = Duration::from_millis(2);
 
 /// A file that is to be replaced or made, locked until this value goes.
 pub struct Locked {
@@ -87,9 +89,34 @@ impl Locked {
         }))
     }
 
+    /// Locks the folder of a file that is not there yet, which a command of this name makes.
+    pub fn to_make(path: &OsStr, command: &str) -> Answered<Locked> {
+        let file = called(path);
+        until_locked(path, || match fs::symlink_metadata(path) {
+            Ok(_) => no_answer(format!(
+                "{file} is there already, and {command} writes over nothing"
+            )),
+            Err(error) if error.kind() == ErrorKind::NotFound => Locked::try_new(path),
+            Err(error) => Err(trouble(path, "made", &error)),
+        })
+    }
+
     /// Whether the file is to be made.
     pub fn is_new(&self) -> bool {
         self.is_new
+    }
+
+    /// The file, or where it is to be made its place.
+    pub fn target(&self) -> &Path {
+        &self.target
+    }
+
+    /// The permissions and the owner of the file that is there; none where it is to be made.
+    pub fn old(&self) -> io::Result<Option<Metadata>> {
+        if self.is_new {
+            return Ok(None);
+        }
+        self.open.metadata().map(Some)
     }
 
     /// The file's bytes, `most` and one more at most.
@@ -99,28 +126,24 @@ impl Locked {
 
     /// Writes the new file, which is not in its place yet. The permissions and the owner of the old one stay.
     pub fn prepare(&self, bytes: &[u8]) -> Answered<Fresh> {
-        let old = if self.is_new {
-            Ok(None)
-        } else {
-            self.open.metadata().map(Some)
-        };
-        let fresh = old.and_then(|old| Fresh::write(&self.target, bytes, old.as_ref()));
+        let old = self.old();
+        let fresh = old.and_then(|old| Fresh::write(&self.target, bytes, old.as_ref(), REPLACED));
         fresh.map_err(|error| self.failed(&error))
     }
 
-    /// Puts the new file in its place.
-    pub fn put(&self, fresh: Fresh) -> Answered<()> {
+    /// Puts the new file in its place. It stays locked as the old one was.
+    pub fn put(&mut self, fresh: Fresh) -> Answered<()> {
         let put = if self.is_new {
             fresh.put_new()
         } else {
-            fresh.put()
+            let locked = fresh.locked.try_clone();
+            locked.and_then(|locked| {
+                fresh.put()?;
+                self.open = locked;
+                Ok(())
+            })
         };
         put.map_err(|error| self.failed(&error))
-    }
-
-    /// Replaces the file.
-    pub fn replace(&self, bytes: &[u8]) -> Answered<()> {
-        self.put(self.prepare(bytes)?)
     }
 
     fn failed(&self, error: &io::Error) -> NoAnswer {
@@ -134,22 +157,10 @@ impl Locked {
     }
 }
 
-/// Makes a file that is not there yet, whole or not at all, for a command of this name.
-pub fn make(path: &OsStr, bytes: &[u8], command: &str) -> Answered<()> {
-    let file = called(path);
-    let locked = until_locked(path, || match fs::symlink_metadata(path) {
-        Ok(_) => no_answer(format!(
-            "{file} is there already, and {command} writes over nothing"
-        )),
-        Err(error) if error.kind() == ErrorKind::NotFound => Locked::try_new(path),
-        Err(error) => Err(trouble(path, "made", &error)),
-    })?;
-    locked.replace(bytes)
-}
-
 /// Tries a lock until it is there.
 fn until_locked(path: &OsStr, attempt: impl Fn() -> Answered<Option<Locked>>) -> Answered<Locked> {
-    for _ in 0..TRIES {
+    let begun = Instant::now();
+    while begun.elapsed() < WAIT {
         if let Some(locked) = attempt()? {
             return Ok(locked);
         }
@@ -174,6 +185,14 @@ fn try_lock(file: &File) -> io::Result<bool> {
 fn same_file(file: &File, path: &Path) -> io::Result<bool> {
     let (held, there) = (file.metadata()?, fs::metadata(path)?);
     Ok((held.dev(), held.ino()) == (there.dev(), there.ino()))
+}
+
+/// Whether two paths lead to one file.
+pub fn is_one_file(path: impl AsRef<Path>, other: impl AsRef<Path>) -> bool {
+    match (fs::metadata(path), fs::metadata(other)) {
+        (Ok(one), Ok(other)) => (one.dev(), one.ino()) == (other.dev(), other.ino()),
+        _ => false,
+    }
 }
 
 /// Whether there is nothing at a path. A link to nothing is turned down, since a file in its place would end the link.
@@ -225,29 +244,36 @@ pub struct Fresh {
     fresh: PathBuf,
     target: PathBuf,
     is_put: bool,
-    _locked: File,
+    locked: File,
+    steps: Steps,
 }
 
 impl Fresh {
-    /// Writes the new file.
-    fn write(target: &Path, bytes: &[u8], old: Option<&Metadata>) -> io::Result<Fresh> {
+    /// Writes the new file, with the permissions and the owner of an old one where one is given.
+    pub fn write(
+        target: &Path,
+        bytes: &[u8],
+        old: Option<&Metadata>,
+        steps: Steps,
+    ) -> io::Result<Fresh> {
         let name = target.file_name().ok_or(ErrorKind::InvalidInput)?;
         let mut fresh_name = OsString::from(".");
         fresh_name.push(name);
         fresh_name.push(".new");
         let path = target.with_file_name(fresh_name);
         let fresh = Fresh {
-            _locked: new_file(&path, old.is_none())?,
+            locked: new_file(&path, old.is_none())?,
             fresh: path,
             target: target.to_path_buf(),
             is_put: false,
+            steps,
         };
-        fill(&fresh._locked, bytes, old)?;
+        fill(&fresh.locked, bytes, old, steps)?;
         Ok(fresh)
     }
 
     /// Gives it the target's name.
-    fn put(mut self) -> io::Result<()> {
+    pub fn put(mut self) -> io::Result<()> {
         fs::rename(&self.fresh, &self.target)?;
         self.is_put = true;
         self.sync_folder();
@@ -256,7 +282,7 @@ impl Fresh {
 
     /// Gives it the target's name if no file has that, not even one that another program made meanwhile. Its first name goes with this
     /// value. Where the file system has no second names it is renamed.
-    fn put_new(self) -> io::Result<()> {
+    pub fn put_new(self) -> io::Result<()> {
         match fs::hard_link(&self.fresh, &self.target) {
             Ok(()) => self.sync_folder(),
             Err(error) if error.kind() == ErrorKind::AlreadyExists => return Err(error),
@@ -267,10 +293,15 @@ impl Fresh {
 
     /// Syncs the folder once the target is there. That this fails is no reason to say that the target isn't.
     fn sync_folder(&self) {
-        stop_for_test("renamed");
-        let folder = or_here(self.target.parent().unwrap_or(Path::new("")));
-        let _ = File::open(folder).and_then(|folder| folder.sync_all());
+        stop_for_test(self.steps[2]);
+        sync_folder_of(&self.target);
     }
+}
+
+/// Syncs the folder of a file, as far as it can be.
+pub fn sync_folder_of(file: &Path) {
+    let folder = or_here(file.parent().unwrap_or(Path::new("")));
+    let _ = File::open(folder).and_then(|folder| folder.sync_all());
 }
 
 impl Drop for Fresh {
@@ -299,10 +330,10 @@ fn new_file(path: &Path, for_all: bool) -> io::Result<File> {
 }
 
 /// Fills a new file with the bytes, gives it the permissions and the owner of the old one, and syncs it.
-fn fill(mut file: &File, bytes: &[u8], old: Option<&Metadata>) -> io::Result<()> {
+fn fill(mut file: &File, bytes: &[u8], old: Option<&Metadata>, steps: Steps) -> io::Result<()> {
     let (first, second) = bytes.split_at(bytes.len() / 2);
     file.write_all(first)?;
-    stop_for_test("half");
+    stop_for_test(steps[0]);
     file.write_all(second)?;
     if let Some(old) = old {
         let new = file.metadata()?;
@@ -312,15 +343,8 @@ fn fill(mut file: &File, bytes: &[u8], old: Option<&Metadata>) -> io::Result<()>
         file.set_permissions(old.permissions())?;
     }
     file.sync_all()?;
-    stop_for_test("written");
+    stop_for_test(steps[1]);
     Ok(())
-}
-
-/// Ends the program at once, as a loss of power would, at the place that a test names.
-fn stop_for_test(place: &str) {
-    if std::env::var_os("BUNVESPO_TEST_STOP").is_some_and(|wanted| wanted == place) {
-        std::process::abort();
-    }
 }
 
 /// Writes a page to a file that is new, or is a page already. What is no file, as a terminal or a pipe, is written to.
@@ -350,7 +374,7 @@ pub fn write_page(path: &OsStr, page: &str) -> Answered<()> {
             ));
         }
     }
-    let fresh = Fresh::write(&target, page.as_bytes(), old.as_ref());
+    let fresh = Fresh::write(&target, page.as_bytes(), old.as_ref(), REPLACED);
     fresh
         .and_then(Fresh::put)
         .map_err(|error| match error.kind() {

@@ -130,7 +130,7 @@ impl Entered {
             "is left as it is"
         };
         let how = match (locked, self.fresh) {
-            (Some(locked), Some(fresh)) => {
+            (Some(mut locked), Some(fresh)) => {
                 locked.put(fresh)?;
                 String::from(if is_new { "is made" } else { "is replaced" })
             }

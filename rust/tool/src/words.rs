@@ -9,10 +9,12 @@ pub struct Form {
     pub command: &'static str,
     pub words: &'static [&'static str],
     pub options: &'static [&'static str],
+    /// The option with which a command takes these words, where it has two forms.
+    with: Option<&'static str>,
 }
 
-/// The commands. `--names FILE` is taken by each but `new`.
-pub const FORMS: [Form; 10] = [
+/// The commands. `--names FILE` is taken by each that reads a record and prints names.
+pub const FORMS: [Form; 15] = [
     form("new", &["FILE", "LOGINS", "LOGS"], &["--version"]),
     form("convert", &["FILE", "VERSION", "OUT"], &["--names"]),
     form("show", &["FILE"], &["--html", "--names"]),
@@ -35,6 +37,18 @@ pub const FORMS: [Form; 10] = [
     ),
     form("refused", &["WINDOW"], &["--json", "--names"]),
     form("diff", &["OLD", "NEW"], &["--json", "--names"]),
+    Form {
+        with: Some("--at"),
+        ..form("log", &["FILE", "OUT"], &["--at"])
+    },
+    form("log", &["FILE"], &["--json", "--names"]),
+    form(
+        "why",
+        &["FILE", "LOGIN", "COLUMN", "RIGHT"],
+        &["--json", "--names"],
+    ),
+    form("audit", &["FILE"], &["--json", "--names"]),
+    form("adopt", &["FILE"], &["--names"]),
 ];
 
 const fn form(
@@ -46,11 +60,13 @@ const fn form(
         command,
         words,
         options,
+        with: None,
     }
 }
 
 /// The options, each with what follows it.
-const OPTIONS: [(&str, Option<&str>); 6] = [
+const OPTIONS: [(&str, Option<&str>); 7] = [
+    ("--at", Some("a change's number")),
     ("--json", None),
     ("--dry", None),
     ("--html", Some("a file")),
@@ -69,6 +85,7 @@ pub struct Given {
     pub names: Option<OsString>,
     pub window: Option<OsString>,
     pub version: Option<OsString>,
+    pub at: Option<OsString>,
 }
 
 impl Given {
@@ -158,7 +175,10 @@ impl Split {
         let Some(first) = words.next() else {
             return no_answer("there is no command; 'bunvespo help' says which there are");
         };
-        let Some(form) = FORMS.iter().find(|form| first == form.command) else {
+        let set = |name: &str| self.options.iter().find(|(other, _)| *other == name);
+        let fits = |form: &&Form| form.with.is_none_or(|option| set(option).is_some());
+        let mut forms = FORMS.iter().filter(fits);
+        let Some(form) = forms.find(|form| first == form.command) else {
             let word = shown(&first);
             return no_answer(format!(
                 "'{word}' is no command; 'bunvespo help' says which there are"
@@ -166,7 +186,10 @@ impl Split {
         };
         let (command, words) = (form.command, words.collect::<Vec<_>>());
         if words.len() != form.words.len() {
-            let takes = form.words.join(" ");
+            let mut takes = form.words.join(" ");
+            if let Some(option) = form.with {
+                takes = format!("{takes} with {option}");
+            }
             let given = match words.len() {
                 1 => String::from("1 word is"),
                 count => format!("{count} words are"),
@@ -177,7 +200,6 @@ impl Split {
         if let Some((name, _)) = options.find(|(name, _)| !form.options.contains(name)) {
             return no_answer(format!("{command} has no option {name}"));
         }
-        let set = |name: &str| self.options.iter().find(|(other, _)| *other == name);
         let value = |name: &str| set(name).and_then(|(_, value)| value.clone());
         Ok(Given {
             command,
@@ -188,6 +210,7 @@ impl Split {
             names: value("--names"),
             window: value("--window"),
             version: value("--version"),
+            at: value("--at"),
         })
     }
 }

@@ -29,9 +29,11 @@ impl Folder {
         Folder(folder)
     }
 
+    /// Writes a file, which has no history.
     fn file(&self, name: &str, bytes: &[u8]) -> PathBuf {
         let path = self.0.join(name);
         fs::write(&path, bytes).unwrap();
+        let _ = fs::remove_file(self.0.join(format!("{name}.history")));
         path
     }
 }

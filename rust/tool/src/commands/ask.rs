@@ -75,20 +75,11 @@ fn in_json(q: &Question, station: &Station, leak: Option<&[Step]>) -> String {
     let trusted = members(q.trust).into_iter();
     let trusted = trusted.map(|s| json::name(Name::Login(s), names));
     let commands = leak.unwrap_or(&[]).iter().map(|step| {
-        let c = step.command;
-        json::object(&[
-            ("code", c.code.to_string()),
-            ("i", c.i.to_string()),
-            ("s", c.s.to_string()),
-            ("o", c.o.to_string()),
-            ("k", c.k.to_string()),
-            ("words", json::text(&step.words)),
-            ("allowed", json::text(&step.allowed)),
-            (
-                "then",
-                json::array(step.effects.iter().map(|effect| json::text(effect))),
-            ),
-        ])
+        let mut fields = json::command_fields(step.command, &step.words).to_vec();
+        let effects = step.effects.iter().map(|effect| json::text(effect));
+        fields.push(("allowed", json::text(&step.allowed)));
+        fields.push(("then", json::array(effects)));
+        json::object(&fields)
     });
     let answer = json::object(&[
         ("trusted", json::array(trusted)),

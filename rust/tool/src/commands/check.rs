@@ -32,7 +32,7 @@ pub fn check(given: &Given) -> Answered<Answer> {
     Ok(Answer::new(text, library::valid(&bytes)))
 }
 
-fn text(file: &str, refusal: Refusal, faults: &[Fault]) -> String {
+pub fn text(file: &str, refusal: Refusal, faults: &[Fault]) -> String {
     let reasons = faults.iter().map(|fault| fault.sentence.clone());
     format!(
         "{file} is not valid (refusal {}):\n{}",

@@ -1,10 +1,10 @@
 //! `convert FILE VERSION OUT`: the record of a file, in another version, as a new file.
 
 use crate::answer::{Answer, first_lines};
+use crate::history::make::make;
 use crate::input::{Station, called, station};
 use crate::library::Refusal;
 use crate::no_answer::{Answered, no_answer};
-use crate::replace::make;
 use crate::version::Version;
 use crate::words::Given;
 

@@ -1,10 +1,11 @@
-//! `diff OLD NEW`: every right gained and lost and every name made or gone, grouped by login.
+//! `diff OLD NEW`: every right gained and lost and every name made or gone, grouped by login. Each is the record of a file, or of its past.
 
 use crate::answer::Answer;
 use crate::changes::{Changes, by_login, changes};
-use crate::input::{Station, beside, names_of, opened, record_bytes};
+use crate::history::past::Side;
+use crate::input::{Station, beside, names_of};
 use crate::json;
-use crate::names::counted;
+use crate::names::{Names, counted};
 use crate::no_answer::{Answered, no_answer};
 use crate::record::{Name, Record};
 use crate::words::Given;
@@ -14,9 +15,9 @@ pub fn diff(given: &Given) -> Answered<Answer> {
     if old == "-" && new == "-" {
         return no_answer("OLD and NEW can't both be the standard input");
     }
-    let old_record = opened(old, record_bytes(old)?)?;
-    let new_record = opened(new, record_bytes(new)?)?;
-    let station = named(given, &old_record, new_record)?;
+    let (old, new) = (Side::read(old)?, Side::read(new)?);
+    let station = named(given, &old, new)?;
+    let old_record = old.record;
     let changes = changes(&old_record, &station.record);
     let resized = sizes(&old_record) != sizes(&station.record);
     let same = changes.is_empty() && !resized;
@@ -35,18 +36,17 @@ pub fn diff(given: &Given) -> Answered<Answer> {
 
 /// The new record with the names given, or those beside it, or those beside the old one. Names beside a record are read for it, those
 /// given for both.
-fn named(given: &Given, old: &Record, new: Record) -> Answered<Station> {
-    let (old_path, new_path) = (&given.words[0], &given.words[1]);
+fn named(given: &Given, old: &Side, new: Side) -> Answered<Station> {
     let names = if given.names.is_some() {
-        names_of(new_path, given.names.as_ref(), &[old, &new])?
-    } else if beside(new_path).is_some() {
-        names_of(new_path, None, &[&new])?
+        names_of(&new.path, given.names.as_ref(), &[&old.record, &new.record])?
+    } else if beside(&new.path).is_some() {
+        names_of(&new.path, None, &[&new.record])?
     } else {
-        names_of(old_path, None, &[old])?
+        names_of(&old.path, None, &[&old.record])?
     };
     Ok(Station {
-        file: crate::input::called(new_path),
-        record: new,
+        file: crate::input::called(&new.path),
+        record: new.record,
         names,
     })
 }
@@ -94,25 +94,27 @@ fn in_json(old: &Record, new: &Station, changes: &Changes, differs: bool) -> Str
         ])
     };
     let listed = |list: &[Name]| json::array(list.iter().map(|name| json::name(*name, names)));
-    let moves = |gained: bool| {
-        let moves = changes.moved.iter().filter(|m| m.gained == gained);
-        json::array(moves.map(|m| {
-            json::object(&[
-                ("login", json::name(Name::Login(m.login), names)),
-                ("over", json::name(m.over, names)),
-                ("right", json::right(m.right, names)),
-                ("held", (gained || m.still_by.is_some()).to_string()),
-            ])
-        }))
-    };
     let answer = json::object(&[
         ("differs", differs.to_string()),
         ("old", size(old)),
         ("new", size(&new.record)),
         ("made", listed(&changes.made)),
         ("gone", listed(&changes.gone)),
-        ("gained", moves(true)),
-        ("lost", moves(false)),
+        ("gained", moves(changes, true, names)),
+        ("lost", moves(changes, false, names)),
     ]);
     format!("{answer}\n")
+}
+
+/// The rights that are gained, or those that are lost, as JSON.
+pub fn moves(changes: &Changes, gained: bool, names: &Names) -> String {
+    let moves = changes.moved.iter().filter(|m| m.gained == gained);
+    json::array(moves.map(|m| {
+        json::object(&[
+            ("login", json::name(Name::Login(m.login), names)),
+            ("over", json::name(m.over, names)),
+            ("right", json::right(m.right, names)),
+            ("held", (gained || m.still_by.is_some()).to_string()),
+        ])
+    }))
 }

@@ -1,10 +1,10 @@
 //! `new FILE LOGINS LOGS`: a station in which U alone exists, of version 1 unless another is given.
 
 use crate::answer::Answer;
+use crate::history::make::make;
 use crate::library::{MOST_PLAIN, MOST_SUBJECTS, new_record};
 use crate::names::counted;
 use crate::no_answer::{Answered, NoAnswer, no_answer, shown};
-use crate::replace::make;
 use crate::spoken::number;
 use crate::version::Version;
 use crate::words::Given;

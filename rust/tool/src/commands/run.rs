@@ -1,22 +1,23 @@
-//! `run FILE COMMANDS`: runs commands on a record, and replaces its file by what they make of it. With a window the commands that were
-//! tried are entered there.
+//! `run FILE COMMANDS`: runs commands on a record, enters them in its history, and replaces its file by what they make of it. With a window
+//! the commands that were tried are entered there.
 
 use std::ffi::OsStr;
 use std::fs;
-use std::os::unix::fs::MetadataExt;
 
 use crate::answer::Answer;
 use crate::changes::{by_login, changes};
 use crate::command_text::{Commands, Ran, read};
+use crate::history::file::HistoryFile;
+use crate::history::kept::Kept;
 use crate::input::{self, MOST_TEXT, Station, called, names_of, opened, record_bytes};
 use crate::library::MOST_RECORD_BYTES;
 use crate::names::counted;
 use crate::no_answer::{Answered, NoAnswer, no_answer};
 use crate::record::Record;
-use crate::replace::Locked;
+use crate::replace::{Locked, folder_of, is_one_file};
 use crate::sentence::in_full;
 use crate::why;
-use crate::window_file::Kept;
+use crate::window_file::{self, Entered};
 use crate::words::Given;
 
 pub fn run(given: &Given) -> Answered<Answer> {
@@ -31,7 +32,9 @@ pub fn run(given: &Given) -> Answered<Answer> {
         Some(Locked::open(path)?)
     };
     let window = window(given)?;
-    let station = station(given, locked.as_ref())?;
+    let mut station = station(given, locked.as_ref())?;
+    let open = locked.map(|locked| Open::new(path, locked, &mut station));
+    let open = open.transpose()?;
     let commands = read(bytes, &station.record, &station.names)
         .map_err(|why| NoAnswer(format!("{}, {why}; nothing is run", called(from))))?;
     let mut after = station.record.clone();
@@ -43,16 +46,103 @@ pub fn run(given: &Given) -> Answered<Answer> {
         ));
     }
     let text = text(&station, &after, &commands, &ran);
-    let put_record = || put(&station, &after, locked.as_ref());
-    let last = match window {
-        None => format!("{}.\n", put_record()?),
-        Some(window) => put_both(put_record, &station, window, &commands.tried(&ran))?,
+    let entered = window.map(|window| enter(window, &station, &commands.tried(&ran)));
+    let entered = entered.transpose()?;
+    let put = match open {
+        None => Put::dry(&station),
+        Some(open) => open.put(&station, &after, &commands, &ran)?,
     };
-    Ok(Answer::new(text + &last, matches!(ran, Ran::Whole)))
+    let last = put.with_window(entered)?;
+    Ok(Answer::new(
+        put.first + &text + &last,
+        matches!(ran, Ran::Whole),
+    ))
+}
+
+/// The record's file, locked, and its history.
+struct Open {
+    locked: Locked,
+    kept: Kept,
+}
+
+impl Open {
+    /// Opens the history of the station's record. Where its last change is to be finished, the station's record is that after it.
+    fn new(path: &OsStr, locked: Locked, station: &mut Station) -> Answered<Open> {
+        let kept = Kept::open(path, &locked, &station.record.bytes)?;
+        let kept = kept.map_err(|not_kept| not_kept.told())?;
+        if let Some(finished) = kept.finished() {
+            station.record = opened(path, finished.to_vec())?;
+        }
+        Ok(Open { locked, kept })
+    }
+
+    /// Enters the run in the history where a command was tried, and replaces the record's file where something changed. The new record is
+    /// written beside its place before the history, so that what hinders it is met while both are as they were.
+    fn put(
+        mut self,
+        station: &Station,
+        after: &Record,
+        commands: &Commands,
+        ran: &Ran,
+    ) -> Answered<Put> {
+        let first = self.kept.recover(&mut self.locked)?;
+        let file = &station.file;
+        let changed = *after != station.record;
+        let fresh = changed.then(|| self.locked.prepare(&after.bytes));
+        let fresh = fresh.transpose()?;
+        let (accepted, refusal) = commands.outcome(ran);
+        let given = commands.numbered.iter().map(|(_, c)| *c);
+        let begun = if commands.numbered.is_empty() {
+            String::new()
+        } else {
+            let before = &station.record.bytes;
+            self.kept
+                .add(&self.locked, before, given, accepted, refusal)?
+        };
+        let last = match fresh {
+            None => format!("{file} is left as it is"),
+            Some(fresh) => {
+                let put = self.locked.put(fresh);
+                put.map_err(|why| self.kept.take_back(why))?;
+                format!("{file} is replaced")
+            }
+        };
+        Ok(Put { first, begun, last })
+    }
+}
+
+/// How the files of a record and its history are left: what was done of an earlier run, whether the history is begun, and last, without
+/// its full stop, how the record's file is left.
+struct Put {
+    first: String,
+    begun: String,
+    last: String,
+}
+
+impl Put {
+    fn dry(station: &Station) -> Put {
+        let file = &station.file;
+        Put {
+            first: String::new(),
+            begun: String::new(),
+            last: format!("{file} is left as it is, since this is a dry run"),
+        }
+    }
+
+    /// Puts the window in its place, where there is one, and tells how all the files are left.
+    fn with_window(&self, entered: Option<Entered>) -> Answered<String> {
+        let Put { begun, last, .. } = self;
+        let window = match entered.map(Entered::put) {
+            None => String::new(),
+            Some(Ok(told)) => told,
+            Some(Err(NoAnswer(why))) => return no_answer(format!("{last}, but {why}")),
+        };
+        Ok(format!("{begun}{last}.\n{window}"))
+    }
 }
 
 /// The window that is given, if one is. It is opened, and locked unless the run is dry, before anything is run.
-fn window(given: &Given) -> Answered<Option<Kept>> {
+fn window(given: &Given) -> Answered<Option<window_file::Kept>> {
     let Some(path) = &given.window else {
         return Ok(None);
     };
@@ -63,17 +153,21 @@ fn window(given: &Given) -> Answered<Option<Kept>> {
             ));
         }
     }
-    let kept = Kept::open(path, given.dry);
+    if is_history(path, &given.words[0]) {
+        return no_answer("WINDOW can't be the history of FILE; nothing is run");
+    }
+    let kept = window_file::Kept::open(path, given.dry);
     kept.map(Some)
         .map_err(|NoAnswer(why)| NoAnswer(format!("{why}; nothing is run")))
 }
 
-/// Whether two paths lead to one file.
-fn is_one_file(path: &OsStr, other: &OsStr) -> bool {
-    match (fs::metadata(path), fs::metadata(other)) {
-        (Ok(one), Ok(other)) => (one.dev(), one.ino()) == (other.dev(), other.ino()),
-        _ => false,
-    }
+/// Whether a window would stand where the history of a record does.
+fn is_history(window: &OsStr, record: &OsStr) -> bool {
+    let (Ok(target), Ok((folder, name))) = (fs::canonicalize(record), folder_of(window)) else {
+        return false;
+    };
+    let history = HistoryFile::of(record, &target).path;
+    folder.join(name) == history || is_one_file(window, history)
 }
 
 /// The record before the run, with its names.
@@ -101,36 +195,13 @@ fn commands_bytes(from: &OsStr) -> Answered<Vec<u8>> {
     Ok(bytes)
 }
 
-/// Replaces the record's file where it is to be and something changed, and says so, without a full stop.
-fn put(station: &Station, after: &Record, locked: Option<&Locked>) -> Answered<String> {
-    let file = &station.file;
-    match locked {
-        None => Ok(format!("{file} is left as it is, since this is a dry run")),
-        Some(_) if *after == station.record => Ok(format!("{file} is left as it is")),
-        Some(locked) => {
-            locked.replace(&after.bytes)?;
-            Ok(format!("{file} is replaced"))
-        }
-    }
-}
-
-/// Enters the commands that were tried in a window, replaces the record and then the window, and says so. The window is written before
-/// the record is replaced, so that what hinders that is met while both are as they were.
-fn put_both(
-    put_record: impl FnOnce() -> Answered<String>,
-    station: &Station,
-    window: Kept,
-    tried: &[(u64, u64)],
-) -> Answered<String> {
-    let entered = window.enter(tried).map_err(|NoAnswer(why)| {
+/// Enters the commands that were tried in a window, which is written before the record is replaced and not in its place yet, so that what
+/// hinders that is met while both are as they were.
+fn enter(window: window_file::Kept, station: &Station, tried: &[(u64, u64)]) -> Answered<Entered> {
+    window.enter(tried).map_err(|NoAnswer(why)| {
         let file = &station.file;
         NoAnswer(format!("{why}; {file} is left as it is"))
-    })?;
-    let last = put_record()?;
-    match entered.put() {
-        Ok(told) => Ok(format!("{last}.\n{told}")),
-        Err(NoAnswer(why)) => no_answer(format!("{last}, but {why}")),
-    }
+    })
 }
 
 /// What was accepted, what was refused and why, and what that changes.

@@ -2,6 +2,9 @@
 
 mod agree;
 mod damaged;
+mod histories;
+mod history;
+mod origins;
 mod pages;
 mod random;
 mod spoken_names;
