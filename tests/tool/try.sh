@@ -56,9 +56,9 @@ shown() {
     done | sed "s/ $//" | places
 }
 
-# Text without the places of this machine.
+# Text without the places of this machine, and without times.
 places() {
-    sed "s|$root/||g"
+    sed -E "s|$root/||g; s/[0-9]{4}-[0-9]{2}-[0-9]{2} [0-9]{2}:[0-9]{2}:[0-9]{2} UTC/TIME/g; s/\"(time|since)\":[0-9]{9,}/\"\1\":TIME/g"
 }
 
 # A file of bytes, given as hexadecimal numbers.

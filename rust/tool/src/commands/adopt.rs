@@ -1,26 +1,29 @@
 //! `adopt FILE`: takes a record that was changed from outside into its history, as a change that no recorded command made.
 
-use std::io::{self, Read};
+use std::io;
 
 use crate::answer::Answer;
 use crate::changes::changes;
 use crate::commands::audit::{in_and_missing, resized};
 use crate::history::entries::Rest;
-use crate::history::file::{Adding, from_start, push_entry, started};
-use crate::history::kept::{Kept, NotKept, dropped, not_added};
-use crate::history::layout::{Entry, What};
+use crate::history::file::{Adding, bytes_from, push_entry, started};
+use crate::history::kept::{Kept, NotKept, damage, dropped, not_added};
+use crate::history::layout::{Entry, HEAD, SUM, What, head};
 use crate::history::replay::Replay;
 use crate::history::time::now;
 use crate::input::{called, names_of, opened};
 use crate::library::MOST_RECORD_BYTES;
 use crate::names::Names;
-use crate::no_answer::{Answered, NoAnswer};
+use crate::no_answer::{Answered, no_answer};
 use crate::record::Record;
 use crate::replace::Locked;
 use crate::words::Given;
 
 pub fn adopt(given: &Given) -> Answered<Answer> {
     let path = &given.words[0];
+    if path == "-" {
+        return no_answer("the standard input has no history");
+    }
     let mut locked = Locked::open(path)?;
     let record = opened(path, locked.read(MOST_RECORD_BYTES)?)?;
     let names = names_of(path, given.names.as_ref(), &[&record])?;
@@ -42,28 +45,55 @@ pub fn adopt(given: &Given) -> Answered<Answer> {
 
 /// Takes the record in, and tells what came in with it.
 fn adopted(not_kept: NotKept, locked: &Locked, record: &Record, names: &Names) -> Answered<String> {
-    if let Some(damage) = not_kept.damage() {
-        return mended(&not_kept, &damage, locked, record, names);
-    }
     let NotKept {
         record_file,
         history,
         file,
-        replay,
-    } = not_kept;
-    let replay = replay.map_err(|_| NoAnswer(String::new()))?;
+        ..
+    } = &not_kept;
+    let replay = match (&not_kept.replay, not_kept.damage()) {
+        (Ok(replay), None) => replay,
+        (_, damage) => {
+            let damage = damage.unwrap_or_default();
+            return mended(&not_kept, &damage, locked, record, names);
+        }
+    };
     let (end, sum) = (replay.end, replay.sum);
-    let mut adding = Adding { file, end, sum };
     let mut text = String::new();
+    let mut adding = Adding {
+        file: file.try_clone().map_err(|error| history.not_read(&error))?,
+        end,
+        sum,
+    };
     if replay.rest == Rest::CutOff {
+        let rest = bytes_from(file, end, MOST_REST);
+        let rest = rest.map_err(|error| history.not_read(&error))?;
+        if !begins_adoption(&rest, end, record) {
+            let damage = damage(replay.changes + 1, end, "it is cut off");
+            return mended(&not_kept, &damage, locked, record, names);
+        }
         let cut = adding.take_back();
         cut.map_err(|error| history.not_written(&error))?;
-        text.push_str(&dropped(&history));
+        text.push_str(&dropped(history));
     }
     let added = adding.add(&entry(record).body());
-    added.map_err(|why| not_added(&why, &record_file, &history))?;
-    text.push_str(&came_in(&record_file, &replay, record, names)?);
+    added.map_err(|why| not_added(&why, record_file, history))?;
+    text.push_str(&came_in(record_file, replay, record, names)?);
     Ok(text)
+}
+
+/// More bytes than an adoption has.
+const MOST_REST: u64 = MOST_RECORD_BYTES as u64 + 64;
+
+/// Whether bytes at the end of a history are what an adoption of this record leaves that was cut off: its beginning, whatever its time. All
+/// else may be a change that was damaged later.
+fn begins_adoption(rest: &[u8], place: u64, record: &Record) -> bool {
+    let body = entry(record).body();
+    let time = HEAD + 1..HEAD + 9;
+    let whole = [&head(body.len() as u32, place), body.as_slice()].concat();
+    let bytes = rest.iter().zip(&whole).enumerate();
+    let mut same = bytes.map(|(at, (there, begun))| there == begun || time.contains(&at));
+    rest.len() < whole.len() + SUM && same.all(|same| same)
 }
 
 fn entry(record: &Record) -> Entry<'_> {
@@ -106,10 +136,8 @@ fn mended(
             format!("{name} is begun anew, with {record_file} as its start.\n"),
         ),
         Ok(replay) => {
-            let mut bytes = Vec::new();
-            from_start(file, replay.end)
-                .and_then(|mut from| from.read_to_end(&mut bytes))
-                .map_err(|error| history.not_read(&error))?;
+            let bytes = bytes_from(file, 0, replay.end);
+            let mut bytes = bytes.map_err(|error| history.not_read(&error))?;
             push_entry(&mut bytes, &entry(record).body(), replay.sum);
             (bytes, came_in(record_file, replay, record, names)?)
         }

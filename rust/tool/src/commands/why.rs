@@ -32,7 +32,7 @@ pub fn why(given: &Given) -> Answered<Answer> {
     let column = column_of(asked.over);
     let is_held = held(&station.record.bytes, asked.login, column, asked.right)
         .map_err(|refusal| beyond(refusal, &station, &[asked.login], column))?;
-    let found = found(&seen, asked)?;
+    let found = found(&seen, is_held.then_some(asked))?;
     let given_by_command = matches!(found.origin, Some(Origin::Start | Origin::Command { .. }));
     let answer = Why {
         station,
@@ -68,9 +68,10 @@ struct Found {
     notes: Vec<String>,
 }
 
-fn found(seen: &Seen, asked: Asked) -> Answered<Found> {
+/// Replays the history, and searches it for the right where one is asked for.
+fn found(seen: &Seen, asked: Option<Asked>) -> Answered<Found> {
     let name = &seen.history.name;
-    let replay = match seen.replay(u64::MAX, Some(asked))? {
+    let replay = match seen.replay(u64::MAX, asked)? {
         Ok(replay) => replay,
         Err(NoStart(why)) => {
             return Ok(Found {

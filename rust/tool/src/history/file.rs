@@ -34,7 +34,11 @@ impl HistoryFile {
 
     /// Opens it to be read, or to be added to as well; none where there is no such file.
     pub fn open(&self, to_add: bool) -> Answered<Option<File>> {
-        if is_missing(self.path.as_os_str())? {
+        let to_nothing = |_| {
+            let name = &self.name;
+            NoAnswer(format!("{name} is a link to a file that is not there"))
+        };
+        if is_missing(self.path.as_os_str()).map_err(to_nothing)? {
             return Ok(None);
         }
         let failed = |error: io::Error| trouble(OsStr::new(&self.name), "opened", &error);
@@ -113,6 +117,14 @@ fn with_ending(path: &OsStr, ending: &str) -> OsString {
 pub fn from_start(mut file: &File, length: u64) -> io::Result<impl Read> {
     file.seek(SeekFrom::Start(0))?;
     Ok(file.take(length))
+}
+
+/// The bytes of an open file from a place on, so many at most.
+pub fn bytes_from(mut file: &File, place: u64, most: u64) -> io::Result<Vec<u8>> {
+    let mut bytes = Vec::new();
+    file.seek(SeekFrom::Start(place))?;
+    file.take(most).read_to_end(&mut bytes)?;
+    Ok(bytes)
 }
 
 /// The bytes of a history that has only its start, and the sum of that.

@@ -254,7 +254,7 @@ pub fn told_rest(replay: &Replay, name: &str) -> Option<String> {
     match replay.rest {
         Rest::Nothing => None,
         Rest::CutOff => Some(format!(
-            "A change is being written to {name} from byte {end} on, or was cut off there; the next run drops what was cut off"
+            "A change is being written to {name} from byte {end} on, or was cut off there, and then the next that is written drops it"
         )),
         Rest::Damaged(why) => Some(format!(
             "{name} is damaged {}",

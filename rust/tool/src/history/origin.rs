@@ -117,8 +117,8 @@ impl Search {
         }
     }
 
-    /// The place after the next command that can take the right from its holder, or the end. It names the column, as its object or as a login that
-    /// is made or destroyed, or destroys the holder: no command changes a bit that it does not name.
+    /// The place after the next command that can take the right from its holder, or the end. No command changes a bit that it does not name:
+    /// so it names the holder's cell, or the column as one that is transferred, made or destroyed, or makes or destroys the holder.
     fn next_that_takes(&self, batch: &Batch, at: usize, to: usize) -> usize {
         let Asked { login, over, .. } = self.asked;
         let column = column_of(over);
@@ -126,7 +126,8 @@ impl Search {
             let c = listed_command(bytes);
             match c.code {
                 code::CREATE_SUBJECT | code::DESTROY_SUBJECT => c.s == column || c.s == login,
-                _ => c.o == column,
+                code::TRANSFER_OWN | code::CREATE_OBJECT | code::DESTROY_OBJECT => c.o == column,
+                _ => c.s == login && c.o == column,
             }
         };
         let mut commands = batch.commands(at, to).chunks_exact(6);

@@ -15,6 +15,9 @@ use crate::spoken::number;
 
 /// The record of a file as it stood before the change of this number, which may be the next one.
 pub fn before(path: &OsStr, change: u64) -> Answered<Record> {
+    if change == 0 {
+        return no_answer("changes are counted from 1");
+    }
     let seen = Seen::read(path)?;
     let name = &seen.history.name;
     let replay = match seen.replay(change, None)? {

@@ -35,6 +35,8 @@ impl Seen {
             path => fs::canonicalize(path).map_err(|error| trouble(path, "read", &error))?,
         };
         let history = HistoryFile::of(path, &target);
+        // What is no file that can be read is told as such, and not as one without a history.
+        record_bytes(path)?;
         for _ in 0..TRIES {
             let Some(file) = history.open(false)? else {
                 let name = &history.name;
