@@ -132,8 +132,8 @@ fn mended(
     let name = &history.name;
     let (bytes, told) = match replay {
         Err(_) => (
-            started(&record.bytes).0,
-            format!("{name} is begun anew, with {record_file} as its start.\n"),
+            started(What::Adopted(&record.bytes)).0,
+            format!("{name} is begun anew, and {record_file} is adopted as its start.\n"),
         ),
         Ok(replay) => {
             let bytes = bytes_from(file, 0, replay.end);

@@ -116,7 +116,10 @@ impl Audited<'_> {
         let lines: Vec<String> = adopted
             .map(|(change, at)| {
                 let time = time::told(*at);
-                format!("change {change}, {time}, adopted a record changed from outside")
+                match change {
+                    0 => format!("its start, {time}, is an adopted record, since the history before was damaged"),
+                    _ => format!("change {change}, {time}, adopted a record changed from outside"),
+                }
             })
             .collect();
         first_lines(&lines)

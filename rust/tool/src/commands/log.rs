@@ -104,15 +104,19 @@ fn lines(seen: &Seen, replay: &Replay, names: &Names, as_json: bool) -> Answered
             names,
         };
         match (as_json, what) {
-            (false, What::Start(_)) => {
+            (true, _) if number == 0 => {}
+            (false, what) if number == 0 => {
                 let (name, changes) = (&seen.history.name, counted(replay.changes, "change"));
                 let (since, sizes) = (time::told(time), sizes(record));
+                let adopted = match what {
+                    What::Adopted(_) => "was adopted after the history before was damaged, and ",
+                    _ => "",
+                };
                 let _ = writeln!(
                     text,
-                    "{name}: {changes} since {since}, when the record had {sizes}."
+                    "{name}: {changes} since {since}, when the record {adopted}had {sizes}."
                 );
             }
-            (true, What::Start(_)) => {}
             (false, what) => told.in_words(&mut text, &what),
             (true, what) => {
                 let comma = if text.is_empty() { "" } else { "," };

@@ -153,6 +153,11 @@ impl Why {
                     in_full(command, record, names)
                 )
             }
+            Some(Origin::Adopted { change: 0, time }) => format!(
+                "No recorded command gave it: it came in with the record that was adopted as the start of {}, {}, since the history before was damaged.\n",
+                self.history,
+                time::told(time)
+            ),
             Some(Origin::Adopted { change, time }) => format!(
                 "No recorded command gave it: it came in by change {change}, {}, which adopted a record changed from outside.\n",
                 time::told(time)

@@ -98,8 +98,15 @@ impl<R: Read> Entries<R> {
         let Some(entry) = Entry::read(&self.buffer[from + HEAD..from + summed]) else {
             return Ok(damaged("an entry makes no sense"));
         };
-        if matches!(entry.what, What::Start(_)) != is_first {
-            return Ok(damaged("the first entry is no start, or a later one is"));
+        let in_place = match entry.what {
+            What::Start(_) => is_first,
+            What::Run(_) => !is_first,
+            What::Adopted(_) => true,
+        };
+        if !in_place {
+            return Ok(damaged(
+                "the first entry is no record, or a later one a start",
+            ));
         }
         self.used += whole;
         self.end += whole as u64;

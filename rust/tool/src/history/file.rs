@@ -127,14 +127,14 @@ pub fn bytes_from(mut file: &File, place: u64, most: u64) -> io::Result<Vec<u8>>
     Ok(bytes)
 }
 
-/// The bytes of a history that has only its start, and the sum of that.
-pub fn started(record: &[u8]) -> (Vec<u8>, u64) {
-    let start = Entry {
+/// The bytes of a history that has only its first entry, and the sum of that.
+pub fn started(first: What) -> (Vec<u8>, u64) {
+    let first = Entry {
         time: now(),
-        what: What::Start(record),
+        what: first,
     };
     let mut bytes = BEGINNING.to_vec();
-    let sum = push_entry(&mut bytes, &start.body(), first_sum());
+    let sum = push_entry(&mut bytes, &first.body(), first_sum());
     (bytes, sum)
 }
 

@@ -185,7 +185,7 @@ impl Kept {
 
 /// Begins a history with the record as it stands; the byte at which its start ends, and the sum of that.
 pub fn begin(history: &HistoryFile, locked: &Locked, record: &[u8]) -> io::Result<(u64, u64)> {
-    let (bytes, sum) = started(record);
+    let (bytes, sum) = started(What::Start(record));
     history.put(&bytes, locked.old()?.as_ref())?;
     Ok((bytes.len() as u64, sum))
 }

@@ -23,11 +23,11 @@ pub struct Entry<'a> {
 }
 
 pub enum What<'a> {
-    /// The record with which the history begins.
+    /// The record with which the history begins. It stands first, and nowhere else.
     Start(&'a [u8]),
     /// Commands that were run.
     Run(Run<'a>),
-    /// A record that was changed from outside and adopted.
+    /// A record that was changed from outside and adopted. It stands first where nothing of an earlier history could be used.
     Adopted(&'a [u8]),
 }
 

@@ -4,7 +4,6 @@
 use std::ffi::OsStr;
 use std::fs;
 
-use crate::history::entries::Rest;
 use crate::history::file::HistoryFile;
 use crate::history::kept::begin;
 use crate::input::called;
@@ -36,7 +35,7 @@ fn is_free(history: &HistoryFile, path: &OsStr) -> Answered<()> {
     };
     let (name, record_file) = (&history.name, called(path));
     match history.replay(&file, u64::MAX, u64::MAX, None)? {
-        Ok(replay) if replay.changes == 0 && replay.rest == Rest::Nothing => Ok(()),
+        Ok(replay) if replay.is_made_alone() => Ok(()),
         _ => no_answer(format!(
             "{name} is there already, without {record_file}, and nothing is written over it"
         )),

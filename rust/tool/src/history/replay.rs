@@ -19,7 +19,7 @@ pub struct Replay {
     /// How many changes there are, and how many commands were accepted in them.
     pub changes: u64,
     pub accepted: u64,
-    /// The adoptions among the changes: the number and the time of each.
+    /// The adoptions among the changes: the number and the time of each. The number is 0 where the history begins with one.
     pub adopted: Vec<(u64, u64)>,
     /// The byte at which the last whole entry ends, and its sum.
     pub end: u64,
@@ -27,6 +27,13 @@ pub struct Replay {
     pub rest: Rest,
     /// Since when the right that was asked for is held after the last change, and before it.
     pub origins: [Option<Origin>; 2],
+}
+
+impl Replay {
+    /// Whether there is nothing but a start: so it is beside a record that is made, until its first change.
+    pub fn is_made_alone(&self) -> bool {
+        self.changes == 0 && self.adopted.is_empty() && self.rest == Rest::Nothing
+    }
 }
 
 /// Why nothing of a history can be used.
@@ -69,7 +76,11 @@ fn pass<R: Read>(from: R, until: u64, asked: Option<Asked>) -> io::Result<Result
         Next::Entry(Entry {
             time,
             what: What::Start(record),
-        }) if valid(record) => Running::new(time, record, asked),
+        }) if valid(record) => Running::new(time, record, None, asked),
+        Next::Entry(Entry {
+            time,
+            what: What::Adopted(record),
+        }) if valid(record) => Running::new(time, record, Some(time), asked),
         Next::End(Rest::Damaged(why)) => return Ok(Err(Fault::NoStart(why))),
         Next::Entry(_) => return Ok(Err(Fault::NoStart("the record of its start is not valid"))),
         Next::End(_) => return Ok(Err(Fault::NoStart("it ends within its start"))),
@@ -110,10 +121,12 @@ struct Running {
 }
 
 impl Running {
-    fn new(time: u64, record: &[u8], asked: Option<Asked>) -> Running {
+    /// Begins with a record, which may be one that was adopted.
+    fn new(time: u64, record: &[u8], adopted: Option<u64>, asked: Option<Asked>) -> Running {
         let mut search = asked.map(Search::new);
+        let origin = |time| Origin::Adopted { change: 0, time };
         if let Some(search) = &mut search {
-            search.put(record, Origin::Start);
+            search.put(record, adopted.map_or(Origin::Start, origin));
         }
         Running {
             since: time,
@@ -121,7 +134,7 @@ impl Running {
             before: record.to_vec(),
             changes: 0,
             accepted: 0,
-            adopted: Vec::new(),
+            adopted: adopted.map(|time| (0, time)).into_iter().collect(),
             batch: Batch::new(),
             last_from: None,
             search,

@@ -2,6 +2,7 @@
 
 use crate::history::file::{push_entry, started};
 use crate::history::layout::{Entry, RunBytes, What};
+use crate::history::origin::Origin;
 use crate::history::replay::{NoStart, Replay, replay};
 use crate::library::{Command, command};
 use crate::tests::random::{Numbers, any_command, station};
@@ -18,6 +19,8 @@ pub struct History {
     pub made: Vec<Made>,
     pub records: Vec<Vec<u8>>,
     pub ends: Vec<usize>,
+    /// The origin of the rights of its first record.
+    pub start: Origin,
     sum: u64,
 }
 
@@ -28,8 +31,23 @@ pub fn time_of(change: u64) -> u64 {
 
 impl History {
     pub fn new(record: Vec<u8>) -> History {
-        let (bytes, sum) = started(&record);
+        History::begun(What::Start(&record), record.clone(), Origin::Start)
+    }
+
+    /// A history that begins with an adopted record.
+    fn adopted(record: Vec<u8>) -> History {
+        let mut history = History::begun(What::Adopted(&record), record.clone(), Origin::Start);
+        let time = replayed(&history.bytes, u64::MAX)
+            .expect("it is whole")
+            .since;
+        history.start = Origin::Adopted { change: 0, time };
+        history
+    }
+
+    fn begun(first: What, record: Vec<u8>, start: Origin) -> History {
+        let (bytes, sum) = started(first);
         History {
+            start,
             ends: vec![bytes.len()],
             bytes,
             made: Vec::new(),
@@ -40,7 +58,11 @@ impl History {
 
     /// A history of up to so many changes on a random station.
     pub fn random(numbers: &mut Numbers, changes: u64) -> History {
-        let mut history = History::new(station(numbers));
+        let first = station(numbers);
+        let mut history = match numbers.below(8) {
+            0 => History::adopted(first),
+            _ => History::new(first),
+        };
         for _ in 0..numbers.below(changes + 1) {
             match numbers.below(6) {
                 0 => history.adopt_random(numbers),

@@ -22,7 +22,7 @@ fn slow(history: &History, asked: Asked) -> Vec<Option<Origin>> {
         None => Some(origin),
         since => since,
     };
-    let mut now = since(None, &history.records[0], Origin::Start);
+    let mut now = since(None, &history.records[0], history.start);
     let mut all = vec![now];
     for (at, made) in history.made.iter().enumerate() {
         let change = at as u64 + 1;
