@@ -154,17 +154,20 @@ impl Told<'_> {
 
     /// How many commands were accepted, who began them, and which was refused.
     fn outcome(&self, run: &Run) -> String {
-        let all = counted(run.count() as u64, "command");
+        let all = run.count();
         let begun = self.names.logins(&initiators(run));
         match run.refusal {
-            None => format!("{all} accepted, begun by {begun}"),
+            None => format!(
+                "{} accepted, begun by {begun}",
+                counted(all as u64, "command")
+            ),
             Some(refusal) => {
                 let (accepted, number) = (run.accepted, refusal.number());
                 let place = accepted + 1;
                 let refused = run.commands().nth(accepted).map(|c| self.words(c));
                 let refused = refused.unwrap_or_default();
                 format!(
-                    "{accepted} of {all} accepted, begun by {begun}; command {place}, {refused}, is refused by {number}"
+                    "{accepted} of {all} commands accepted, begun by {begun}; command {place}, {refused}, is refused by {number}"
                 )
             }
         }
