@@ -34,6 +34,7 @@ static void empty_record(const char *what, uint8_t *at)
     expect(what, bunvespo_command(at, 0, 12, 0, 1, 0, 0), BUNVESPO_REFUSED_RECORD_SHORT, 0);
     expect(what, bunvespo_run(at, 0, list, sizeof list), BUNVESPO_REFUSED_RECORD_SHORT, 0);
     expect(what, bunvespo_safety(at, 0, 0, 0, 0, 0, out, sizeof out), BUNVESPO_REFUSED_RECORD_SHORT, 0);
+    expect(what, bunvespo_first_held(at, 0, list, sizeof list, 0, 0, 0, out, sizeof out), BUNVESPO_REFUSED_RECORD_SHORT, 0);
     expect(what, bunvespo_to_version_1(at, 0, out, sizeof out), BUNVESPO_REFUSED_RECORD_SHORT, 0);
     expect(what, bunvespo_to_version_2(at, 0, out, sizeof out), BUNVESPO_REFUSED_RECORD_SHORT, 0);
     for (size_t j = 0; j < sizeof out; j++) {
@@ -41,14 +42,32 @@ static void empty_record(const char *what, uint8_t *at)
     }
 }
 
-/* An empty list on a valid record, then both slices empty. */
+/* An empty list on a valid record, to be run and to be searched, then both slices empty. */
 static void empty_list(const char *what, const uint8_t *at, uint8_t *record_at)
 {
-    uint8_t record[sizeof station_a];
+    uint8_t record[sizeof station_a], copy[sizeof station_a];
     memcpy(record, station_a, sizeof record);
+    memcpy(copy, station_a, sizeof copy);
     expect(what, bunvespo_run(record, sizeof record, at, 0), BUNVESPO_REFUSED_LIST_FORM, 0);
     expect(what, bunvespo_run(record_at, 0, at, 0), BUNVESPO_REFUSED_RECORD_SHORT, 0);
+    expect(what, bunvespo_first_held(record, sizeof record, at, 0, 2, 3, 0, copy, sizeof copy), BUNVESPO_REFUSED_LIST_FORM, 0);
+    expect(what, bunvespo_first_held(record, sizeof record, at, 0, 3, 3, 0, copy, sizeof copy), BUNVESPO_REFUSED_BOUNDS, 0);
+    expect(what, bunvespo_first_held(record_at, 0, at, 0, 2, 3, 0, copy, sizeof copy), BUNVESPO_REFUSED_RECORD_SHORT, 0);
     failures += memcmp(record, station_a, sizeof record) != 0;
+    failures += memcmp(copy, station_a, sizeof copy) != 0;
+}
+
+/* An empty copy on a valid record, with a list and an empty one, where the right is held at the start and where it is not in range; then
+   all slices empty. */
+static void empty_copy(const char *what, uint8_t *at, const uint8_t *other_at)
+{
+    const uint8_t list[5] = {1, 0, 0, 0, 0};
+    const uint64_t is_short = BUNVESPO_REFUSED_BUFFER_SHORT, unfit = BUNVESPO_REFUSED_BOUNDS;
+    expect(what, bunvespo_first_held(station_a, sizeof station_a, list, sizeof list, 2, 3, 0, at, 0), is_short, 0);
+    expect(what, bunvespo_first_held(station_a, sizeof station_a, other_at, 0, 2, 3, 0, at, 0), is_short, 0);
+    expect(what, bunvespo_first_held(station_a, sizeof station_a, list, sizeof list, 2, 4, 0, at, 0), unfit, 0);
+    expect(what, bunvespo_first_held(station_a, sizeof station_a, other_at, 0, 2, 3, 16, at, 0), unfit, 0);
+    expect(what, bunvespo_first_held(other_at, 0, other_at, 0, 3, 4, 16, at, 0), BUNVESPO_REFUSED_RECORD_SHORT, 0);
 }
 
 /* An empty buffer on a valid record, where the answer would be safe and where it would be leaks; then both slices empty. */
@@ -93,6 +112,8 @@ int main(void)
     empty_record("record empty", bytes);
     empty_list("list NULL", NULL, NULL);
     empty_list("list empty", bytes, bytes);
+    empty_copy("copy NULL", NULL, NULL);
+    empty_copy("copy empty", bytes, bytes);
     empty_buffer("buffer NULL", NULL, NULL);
     empty_buffer("buffer empty", bytes, bytes);
     empty_output("output NULL", NULL, NULL);

@@ -1,4 +1,4 @@
-//! The C header and this crate say the same: version, refusals and their words, codes of commands and rights, limits.
+//! The C header and this crate say the same: version, calls, refusals and their words, codes of commands and rights, limits.
 
 use bunvespo::{
     MOST_PLAIN, MOST_RECORD_BYTES, MOST_SUBJECTS, Refusal, WINDOW_ENTRIES, WINDOW_NUMBERS,
@@ -6,6 +6,9 @@ use bunvespo::{
 };
 
 const HEADER: &str = include_str!("../../../include/bunvespo.h");
+
+/// The declarations of the calls in this crate.
+const RAW: &str = include_str!("../src/raw.rs");
 
 /// The words of each refusal, one a line after its number, which the header's own test prints.
 const WORDS: &str = include_str!("../../../tests/c_interface/refusal_words");
@@ -39,6 +42,26 @@ fn version() {
     let number = |part: &str| after(&format!("#define BUNVESPO_VERSION_{part} "));
     let numbers = [number("MAJOR"), number("MINOR"), number("PATCH")];
     assert_eq!(numbers.join("."), env!("CARGO_PKG_VERSION"));
+}
+
+/// The name and the number of parameters of each call that is declared after one of these texts at the start of a line.
+fn declared<'a>(source: &'a str, starts: &[&str]) -> Vec<(&'a str, usize)> {
+    let lines = source.match_indices('\n').map(|(at, _)| &source[at + 1..]);
+    let declarations = lines.filter_map(|line| starts.iter().find_map(|s| line.strip_prefix(s)));
+    let of_calls = declarations.filter(|declaration| declaration.starts_with("bunvespo_"));
+    let parts = of_calls.map(|declaration| {
+        let (name, rest) = declaration.split_once('(').unwrap();
+        let parameters = rest.split_once(')').unwrap().0.split(',');
+        (name, parameters.filter(|p| !p.trim().is_empty()).count())
+    });
+    parts.collect()
+}
+
+#[test]
+fn calls() {
+    let in_header = declared(HEADER, &["uint64_t ", "bunvespo_answer ", "void "]);
+    assert_eq!(in_header, declared(RAW, &["    pub fn "]));
+    assert_eq!(in_header.len(), 11);
 }
 
 #[test]

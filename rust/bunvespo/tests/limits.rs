@@ -1,9 +1,9 @@
 //! Whole records of both versions around the limits, in which U alone exists: L and the length fit their version, n and p. Above a limit
-//! every call refuses by 3, and neither the record nor the buffer nor the output changes, whatever is asked.
+//! every call refuses by 3, and neither the record nor the buffer nor the copy nor the output changes, whatever is asked.
 
 use bunvespo::{
     Command, Header, MOST_PLAIN, MOST_RECORD_BYTES, MOST_SUBJECTS, Refusal, Right, Safety, check,
-    command, encode, held, run, safety, to_version_1, to_version_2, valid,
+    command, encode, first_held, held, run, safety, to_version_1, to_version_2, valid,
 };
 
 /// The record of this version, n and p, which may be above the limits.
@@ -43,10 +43,23 @@ fn refused(record: &[u8]) {
     for list in [&create[..], &[]] {
         let answer = run(&mut after, list).unwrap_err();
         assert_eq!((answer.refusal, answer.accepted), (Refusal::Counts, 0));
+        not_searched(record, list);
     }
     not_converted(record);
     assert_eq!(after, record);
     assert_eq!(out, BUFFER);
+}
+
+/// The search of a list refuses the record by 3, with a copy of any length, and nothing is written.
+fn not_searched(record: &[u8], list: &[u8]) {
+    for room in [0, record.len(), 2 * record.len()] {
+        let mut copy = vec![0xEE; room];
+        for number in [0, u64::MAX] {
+            let answer = first_held(record, list, number, number, Right::Own, &mut copy);
+            assert_eq!(answer, Err(Refusal::Counts));
+        }
+        assert!(copy.iter().all(|byte| *byte == 0xEE));
+    }
 }
 
 /// Both conversions refuse the record by 3, with an output of any length, and nothing is written.

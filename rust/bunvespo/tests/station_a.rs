@@ -3,7 +3,7 @@
 
 use bunvespo::{
     Basic, Command, CommandRefused, Refusal, Right, RunRefused, Safety, buffer_size, command,
-    commands, encode, held, run, safety, to_version_1, to_version_2, valid,
+    commands, encode, first_held, held, run, safety, to_version_1, to_version_2, valid,
 };
 
 const R0: Right = Right::Plain(Basic::R0);
@@ -226,6 +226,56 @@ fn lists_run() {
             assert_eq!(answer, Err(RunRefused { refusal, accepted }));
         }
         assert_eq!(run(&mut copy, &[1, 0, 0, 0, 0]), Ok(0));
+    }
+}
+
+/// The number of commands after which a right over the log is first held, with a copy that is longer than the record, of which the rest
+/// stays.
+fn searched(record: &[u8], list: &[u8], s: u64, right: Right) -> Option<u64> {
+    let mut copy = [0xEE; 60];
+    let answer = first_held(record, list, s, 3, right, &mut copy).unwrap();
+    assert!(copy[record.len()..].iter().all(|&byte| byte == 0xEE));
+    answer
+}
+
+#[test]
+fn lists_searched() {
+    let destroy = Command::destroy_subject(1, 2);
+    let taken = [
+        Command::grant_starred(2, 0, 3, Basic::R1),
+        Command::delete_starred(2, 0, 3, Basic::R1),
+        Command::grant_starred(2, 0, 3, Basic::R1),
+        destroy,
+    ];
+    let again = encode(&taken).unwrap();
+    let ended = encode(&[destroy, destroy, Command::grant(1, 0, 3, Basic::R0)]).unwrap();
+    for a in ALL_A {
+        assert_eq!(searched(a, &again, 2, R0), Some(0)); // by own
+        assert_eq!(searched(a, &again, 0, Right::Plain(Basic::R1)), Some(1)); // by the star
+        assert_eq!(searched(a, &again, 1, R0), Some(4)); // 1 inherits the log
+        assert_eq!(searched(a, &again, 0, R0), None);
+        assert_eq!(searched(a, &ended, 1, R0), Some(1));
+        assert_eq!(searched(a, &ended, 0, R0), None); // the second is refused
+        assert_eq!(searched(a, &[1, 0, 0, 0, 0], 2, Right::Own), Some(0));
+        assert_eq!(searched(a, &[1, 0, 0, 0, 0], 1, Right::Own), None);
+    }
+}
+
+#[test]
+fn searches_turned_down() {
+    for a in ALL_A {
+        let (list, length) = ([1, 0, 0, 0, 0], a.len());
+        let refusal = |list: &[u8], s, room| {
+            let mut copy = vec![0xEE; room];
+            let answer = first_held(a, list, s, 3, R0, &mut copy);
+            assert!(answer.is_ok() || copy.iter().all(|&byte| byte == 0xEE));
+            answer
+        };
+        assert_eq!(refusal(&[], 3, 0), Err(Refusal::Bounds));
+        assert_eq!(refusal(&[], 1, length - 1), Err(Refusal::BufferShort));
+        assert_eq!(refusal(&list, 1, length - 1), Err(Refusal::BufferShort));
+        assert_eq!(refusal(&[], 1, length), Err(Refusal::ListForm));
+        assert_eq!(refusal(&list, 1, length), Ok(None));
     }
 }
 

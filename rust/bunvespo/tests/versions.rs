@@ -2,8 +2,8 @@
 
 use bunvespo::{
     Basic, Command, Header, MOST_RECORD_BYTES, MOST_SUBJECTS, Refusal, Right, Safety, buffer_size,
-    check, command, encode, held, new_record, raw, run, safety, to_version_1, to_version_2,
-    witness,
+    check, command, encode, first_held, held, new_record, raw, run, safety, to_version_1,
+    to_version_2, witness,
 };
 
 /// A conversion.
@@ -88,6 +88,9 @@ fn granted(record: &[u8], k: Basic) {
         assert_eq!(asked, is_held.map(Ok));
     }
     let list = witness(record, 6, 0, LOG, starred).unwrap().unwrap();
+    let (bytes, mut copy) = (encode(&list).unwrap(), record.to_vec());
+    let searched = first_held(record, &bytes, 0, LOG, starred, &mut copy);
+    assert_eq!(searched, Ok(Some(list.len() as u64)));
     let last = list.into_iter().fold(record.to_vec(), |r, c| after(&r, c));
     assert_eq!(held(&last, 0, LOG, starred), Ok(true));
 }
@@ -112,6 +115,8 @@ fn out_of_range(record: &[u8], k: Basic) {
     let mut out = [0xEE; buffer_size(MOST_SUBJECTS)];
     for right in forms(k) {
         assert_eq!(held(record, 0, LOG, right), Err(Refusal::Bounds));
+        let searched = first_held(record, &[], 0, LOG, right, &mut out);
+        assert_eq!(searched, Err(Refusal::Bounds));
         let asked = safety(record, 0, 0, LOG, right, &mut out);
         assert_eq!(asked, Err(Refusal::Bounds));
     }

@@ -175,12 +175,12 @@ pub fn safety(
     Ok(())
 }
 
-/// A list without its last command, where it has one.
-fn without_last(list: &[u8]) -> Option<Vec<u8>> {
-    let commands = list.len().checked_sub(5)?.checked_sub(6)? as u32;
-    let mut shorter = list[..list.len() - 6].to_vec();
-    shorter[1..5].copy_from_slice(&commands.to_be_bytes());
-    Some(shorter)
+/// A list cut to its first commands, of which it has so many.
+pub fn first_commands(list: &[u8], count: usize) -> Vec<u8> {
+    let length = 6 * count;
+    let mut shorter = list[..5 + length].to_vec();
+    shorter[1..5].copy_from_slice(&(length as u32).to_be_bytes());
+    shorter
 }
 
 fn count_safety(expected: Safety, commands: usize, counts: &mut Counts) {
@@ -231,9 +231,8 @@ fn safety_agrees(
         if run as u64 != commands {
             return Err(String::from("another number of commands than the list has"));
         }
-        if without_last(list)
-            .is_some_and(|list| leaks_by(record, trust, s, o, right, &list).is_ok())
-        {
+        let before_last = run.checked_sub(1).map(|count| first_commands(list, count));
+        if before_last.is_some_and(|list| leaks_by(record, trust, s, o, right, &list).is_ok()) {
             return Err(String::from("the right is held before the last command"));
         }
     }

@@ -6,6 +6,7 @@ use reference::{Answer, to_version_1, to_version_2};
 
 use crate::check::{Difference, compare, hex, outcome_text};
 use crate::count::{Call, Counts};
+use crate::length::{LENGTHS, Lengths};
 use crate::library::{self, Outcome};
 use crate::matrix::{
     VERSIONS, cell, existing_columns, existing_subjects, other_version, record_bytes, rights, set,
@@ -13,52 +14,11 @@ use crate::matrix::{
 };
 use crate::random::Random;
 
-/// How long the output is, beside the new record that is to stand in it.
-#[derive(Clone, Copy)]
-enum Length {
-    Zero,
-    OneLess,
-    Exact,
-    More,
-    Any,
-}
-
-const LENGTHS: [Length; 5] = [
-    Length::Zero,
-    Length::OneLess,
-    Length::Exact,
-    Length::More,
-    Length::Any,
-];
-
-impl Length {
-    fn name(self) -> &'static str {
-        match self {
-            Length::Zero => "no bytes",
-            Length::OneLess => "one byte less",
-            Length::Exact => "just its bytes",
-            Length::More => "more bytes",
-            Length::Any => "any number of bytes",
-        }
-    }
-
-    /// The bytes of the output for a new record of so many bytes.
-    fn beside(self, new: usize, random: &mut Random) -> usize {
-        match self {
-            Length::Zero => 0,
-            Length::OneLess => new - 1,
-            Length::Exact => new,
-            Length::More => new + 1 + random.below(300) as usize,
-            Length::Any => random.below(2 * new as u64) as usize,
-        }
-    }
-}
-
 /// What the conversions of records of one version gave, besides answers and refusals.
 #[derive(Default)]
 pub struct Conversions {
     /// Inputs by the wanted version and by how long the output is.
-    outputs: [[u64; LENGTHS.len()]; VERSIONS.len()],
+    outputs: [Lengths; VERSIONS.len()],
     /// Refusals by 18 where the output is long enough for the new record, and where 15 holds as well.
     high: [u64; 2],
     /// Records converted to the other version and back.
@@ -69,13 +29,8 @@ impl Conversions {
     /// What never occurred and should have, in words, for records of a version.
     pub fn missing(&self, version: u8) -> Vec<String> {
         let mut missing = Vec::new();
-        for (wanted, outputs) in VERSIONS.iter().zip(self.outputs) {
-            let never = LENGTHS.iter().zip(outputs).filter(|(_, count)| *count == 0);
-            missing.extend(
-                never.map(|(length, _)| {
-                    format!("to_version_{wanted}: an output of {}", length.name())
-                }),
-            );
+        for (wanted, outputs) in VERSIONS.iter().zip(&self.outputs) {
+            missing.extend(outputs.missing(&format!("to_version_{wanted}: an output")));
         }
         let [alone, with_15] = self.high;
         let counts = [
@@ -93,12 +48,12 @@ impl Conversions {
 
 impl fmt::Display for Conversions {
     fn fmt(&self, f: &mut fmt::Formatter<'_>) -> fmt::Result {
-        write!(f, "outputs beside the new record:")?;
-        for (at, length) in LENGTHS.iter().enumerate() {
-            let count: u64 = self.outputs.iter().map(|outputs| outputs[at]).sum();
-            write!(f, " {} {count};", length.name())?;
-        }
-        writeln!(f, " converted there and back {}", self.there_and_back)?;
+        writeln!(
+            f,
+            "outputs beside the new record:{} converted there and back {}",
+            Lengths::text(&self.outputs),
+            self.there_and_back
+        )?;
         let [alone, with_15] = self.high;
         writeln!(
             f,
@@ -152,9 +107,8 @@ pub fn ask_both(
     counts: &mut Counts,
 ) -> Result<(), Difference> {
     for (at, wanted) in VERSIONS.into_iter().enumerate() {
-        let kind = random.below(LENGTHS.len() as u64) as usize;
-        let length = LENGTHS[kind].beside(new_bytes(record, wanted), random);
-        counts.conversions.outputs[at][kind] += 1;
+        let outputs = &mut counts.conversions.outputs[at];
+        let length = outputs.drawn(new_bytes(record, wanted), &LENGTHS, random);
         ask(record, wanted, &random.bytes(length), null, counts)?;
     }
     Ok(())

@@ -3,6 +3,7 @@
 use std::fmt;
 
 use crate::convert::Conversions;
+use crate::count_first::Firsts;
 use crate::matrix::{FORMER_MOST_SUBJECTS, MOST_PLAIN, MOST_SUBJECTS, VERSIONS};
 
 /// The calls on a record.
@@ -13,16 +14,18 @@ pub enum Call {
     Command,
     Run,
     Safety,
+    FirstHeld,
     ToVersion1,
     ToVersion2,
 }
 
-const CALLS: [Call; 7] = [
+const CALLS: [Call; 8] = [
     Call::Valid,
     Call::Held,
     Call::Command,
     Call::Run,
     Call::Safety,
+    Call::FirstHeld,
     Call::ToVersion1,
     Call::ToVersion2,
 ];
@@ -35,6 +38,7 @@ impl Call {
             Call::Command => "command",
             Call::Run => "run",
             Call::Safety => "safety",
+            Call::FirstHeld => "first_held",
             Call::ToVersion1 => "to_version_1",
             Call::ToVersion2 => "to_version_2",
         }
@@ -51,6 +55,7 @@ impl Call {
             Call::Command => record.chain(of_command).collect(),
             Call::Run => record.chain([16]).chain(of_command).collect(),
             Call::Safety => record.chain([7, 15]).collect(),
+            Call::FirstHeld => record.chain([7, 15, 16]).collect(),
             Call::ToVersion1 if version == 2 => record.chain([18, 15]).collect(),
             Call::ToVersion1 | Call::ToVersion2 => record.chain([15]).collect(),
         }
@@ -88,6 +93,7 @@ pub struct Counts {
     /// Whole records above the limits, each asked of every call on a record: of n, of p, and of both.
     above: [u64; 3],
     pub conversions: Conversions,
+    pub firsts: Firsts,
 }
 
 impl Counts {
@@ -108,6 +114,7 @@ impl Counts {
             sizes: vec![false; (MOST_SUBJECTS * (MOST_PLAIN + 1)) as usize],
             above: [0; 3],
             conversions: Conversions::default(),
+            firsts: Firsts::default(),
         }
     }
 
@@ -142,17 +149,23 @@ impl Counts {
         self.inputs() - CALLS.map(|call| self.of(call, refusal)).iter().sum::<u64>()
     }
 
+    /// The refusals that a call never gave and should have, and an answer, in words.
+    fn missing_of(&self, call: Call) -> Vec<String> {
+        let refusals = call.refusals(self.version).into_iter();
+        let never = refusals.filter(|number| self.of(call, *number) == 0);
+        let mut missing: Vec<String> = never
+            .map(|number| format!("{}: refusal {number}", call.name()))
+            .collect();
+        if self.of(call, 0) == 0 {
+            missing.push(format!("{}: an answer", call.name()));
+        }
+        missing
+    }
+
     /// What never occurred and should have, in words.
     fn missing(&self) -> Vec<String> {
-        let mut missing = Vec::new();
-        for call in CALLS {
-            let refusals = call.refusals(self.version).into_iter();
-            let never = refusals.filter(|number| self.of(call, *number) == 0);
-            missing.extend(never.map(|number| format!("{}: refusal {number}", call.name())));
-            if self.of(call, 0) == 0 {
-                missing.push(format!("{}: an answer", call.name()));
-            }
-        }
+        let of_calls = CALLS.into_iter().flat_map(|call| self.missing_of(call));
+        let mut missing: Vec<String> = of_calls.collect();
         let codes = (1..=13).filter(|code| self.accepted[*code] == 0);
         missing.extend(codes.map(|code| format!("command: code {code} accepted")));
         let answers = [
@@ -176,11 +189,17 @@ impl Counts {
         let never = answers.iter().filter(|(_, count)| *count == 0);
         missing.extend(never.map(|(answer, _)| String::from(*answer)));
         missing.extend(self.conversions.missing(self.version));
+        missing.extend(self.firsts.missing());
         let sizes = self.sizes.iter().filter(|met| !**met).count();
         if sizes > 0 {
             missing.push(format!("a valid record of {sizes} sizes"));
         }
         missing
+    }
+
+    /// The number of inputs of a call.
+    fn inputs_of(&self, call: Call) -> u64 {
+        self.by_refusal[call as usize].iter().sum()
     }
 
     fn of(&self, call: Call, refusal: u64) -> u64 {
@@ -215,6 +234,7 @@ impl Counts {
                 self.safe,
                 listed(&self.leaks, 0)
             ),
+            Call::FirstHeld => format!("answered {}", self.of(call, 0)),
             Call::ToVersion1 | Call::ToVersion2 => format!("new records {}", self.of(call, 0)),
         }
     }
@@ -234,8 +254,7 @@ impl fmt::Display for Counts {
         writeln!(f, "records of version {}", self.version)?;
         for call in CALLS {
             let refusals = call.refusals(self.version);
-            let inputs: u64 = self.by_refusal[call as usize].iter().sum();
-            writeln!(f, "{}: {inputs} inputs", call.name())?;
+            writeln!(f, "{}: {} inputs", call.name(), self.inputs_of(call))?;
             writeln!(f, "  {}", self.answers(call))?;
             let word = if call == Call::Valid {
                 "no, by the refusal that others give"
@@ -248,7 +267,7 @@ impl fmt::Display for Counts {
                 .collect();
             writeln!(f, "  {word}:{text}")?;
         }
-        write!(f, "{}", self.conversions)?;
+        write!(f, "{}{}", self.firsts, self.conversions)?;
         let sizes = self.sizes.iter().filter(|met| **met).count();
         writeln!(f, "sizes of valid records: {sizes} of {}", self.sizes.len())?;
         let [of_n, of_p, of_both] = self.above;
@@ -281,6 +300,12 @@ impl Versions {
     /// The number of inputs.
     pub fn inputs(&self) -> u64 {
         self.0.iter().map(Counts::inputs).sum()
+    }
+
+    /// The number of inputs of all calls but `first_held`.
+    pub fn inputs_but_first_held(&self) -> u64 {
+        let of_it: u64 = self.0.iter().map(|c| c.inputs_of(Call::FirstHeld)).sum();
+        self.inputs() - of_it
     }
 
     /// How often a right was not held, and how often it was.

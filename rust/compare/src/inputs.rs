@@ -95,6 +95,18 @@ fn with_unused_zero([code, i, s, o, k]: [u64; 5]) -> [u64; 5] {
     [code, i, s, o, k]
 }
 
+/// One command on a station: whether it is accepted.
+pub fn step(station: &mut Station, fields: [u64; 5]) -> bool {
+    let decoded = decode_in(station.version, fields, station.n, station.p);
+    let accepted = decoded
+        .ok()
+        .filter(|command| allowed(&station.state, command).is_ok());
+    if let Some(command) = accepted {
+        change(&mut station.state, &command);
+    }
+    accepted.is_some()
+}
+
 /// As many commands for a station as asked: accepted ones, and of the refused ones met between them so many in a
 /// hundred. Where U is the only name no command is accepted, and all that are met are taken.
 fn commands_in_turn(
@@ -114,13 +126,7 @@ fn commands_in_turn(
             let field = random.below(5) as usize;
             fields[field] = random.below(256);
         }
-        let accepted = decode_in(station.version, fields, station.n, station.p)
-            .ok()
-            .filter(|command| allowed(&station.state, command).is_ok());
-        if let Some(command) = accepted {
-            change(&mut station.state, &command);
-        }
-        if accepted.is_some() || random.below(100) < refused_in_hundred {
+        if step(&mut station, fields) || random.below(100) < refused_in_hundred {
             commands.push(fields.map(|field| field as u8));
         }
     }
@@ -190,16 +196,29 @@ fn damage_list(list: &mut Vec<u8>, random: &mut Random) {
 
 /// s, o and a right: of a bit that is set, or any within their bounds; sometimes with one of them made extreme.
 pub fn held_question(station: &Station, random: &mut Random) -> [u64; 3] {
-    let version = station.version.byte();
-    let bounds = [station.n, station.n + station.p, rights(version)];
-    let mut numbers = bounds.map(|bound| random.below(bound));
+    let mut numbers = bounds(station).map(|bound| random.below(bound));
     numbers[2] = below_of_version(rights, station, random);
     if random.one_in(3) {
         numbers = set_bit(station, random);
     }
+    sometimes_extreme(station, numbers, random)
+}
+
+/// The first s, o and right that are out of range.
+fn bounds(station: &Station) -> [u64; 3] {
+    let version = station.version.byte();
+    [station.n, station.n + station.p, rights(version)]
+}
+
+/// s, o and a right, sometimes with one of them made extreme.
+pub fn sometimes_extreme(
+    station: &Station,
+    mut numbers: [u64; 3],
+    random: &mut Random,
+) -> [u64; 3] {
     if random.one_in(5) {
         let at = random.below(3) as usize;
-        numbers[at] = extreme(numbers[at], bounds[at], random);
+        numbers[at] = extreme(numbers[at], bounds(station)[at], random);
     }
     numbers
 }

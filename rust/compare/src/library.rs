@@ -103,6 +103,41 @@ pub fn safety(
     })
 }
 
+/// After how many commands of a list a right is first held. Record and list have to be unchanged; so has the copy on a refusal, and
+/// else from the record's length on: what stands before that is left free.
+pub fn first_held(
+    record: &[u8],
+    list: &[u8],
+    [s, o, right]: [u64; 3],
+    copy: &[u8],
+    null: bool,
+) -> Result<Answer, String> {
+    let mut lent = Guarded::holding(record);
+    let mut lent_list = Guarded::holding(list);
+    let mut lent_copy = Guarded::holding(copy);
+    // SAFETY: as in `valid`, for the three buffers, which do not overlap.
+    let got = unsafe {
+        raw::bunvespo_first_held(
+            lent.pointer(null),
+            record.len(),
+            lent_list.pointer(null),
+            list.len(),
+            s,
+            o,
+            right,
+            lent_copy.pointer(null),
+            copy.len(),
+        )
+    };
+    lent.unchanged(record, "record")?;
+    lent_list.unchanged(list, "list")?;
+    let free = if got.refusal == 0 { record.len() } else { 0 };
+    if lent_copy.content()?.get(free..) != copy.get(free..) {
+        return Err(format!("the copy was changed from byte {free} on"));
+    }
+    Ok(answer(got))
+}
+
 /// A conversion to a version; the output after it is what was written.
 pub fn convert(record: &[u8], wanted: u8, output: &[u8], null: bool) -> Result<Outcome, String> {
     let call = match wanted {

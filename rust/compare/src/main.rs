@@ -5,21 +5,24 @@
 //!
 //!     compare [--inputs N] [--seed S] [--program PATH]
 //!
-//! N is the number of inputs on records drawn at random. The inputs of cells with every right and those of windows are not
-//! among the N.
+//! N is the number of inputs on records drawn at random. The inputs of `first_held`, those of cells with every right and those
+//! of windows are not among the N.
 
 mod above;
 mod cells;
 mod check;
 mod convert;
 mod count;
+mod count_first;
 mod count_windows;
 mod damage;
 mod facts;
+mod first;
 mod forged;
 mod generate;
 mod guarded;
 mod inputs;
+mod length;
 mod library;
 mod matrix;
 mod program;
@@ -91,11 +94,11 @@ fn told(options: &Options, place: &str, number: u64, d: Difference) -> String {
     )
 }
 
-/// Rounds until there were as many inputs on records as asked for.
+/// Rounds until there were as many inputs on records as asked for. Those of `first_held` come on top.
 fn run_rounds(options: &Options, counts: &mut Versions) -> Result<(), String> {
     let mut searches = Searches::default();
     let mut number = 0;
-    while counts.inputs() < options.inputs {
+    while counts.inputs_but_first_held() < options.inputs {
         let mut random = Random::new(options.seed, number);
         rounds::round(number, &mut random, &mut searches, counts)
             .map_err(|difference| told(options, "round", number, difference))?;

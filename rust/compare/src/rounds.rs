@@ -1,5 +1,8 @@
-//! One round: a valid record of the next version and size, a small valid record and a damaged one, with inputs of all seven
-//! calls on records; in some rounds also a record above the limits, the longest lists and all questions of a small station.
+//! One round: a valid record of the next version and size, a small valid record and a damaged one, with inputs of all eight
+//! calls on records; in some rounds also a record above the limits, the longest lists, rights that come late and all questions
+//! of a small station.
+
+use std::ops::Range;
 
 use reference::{Station, read};
 
@@ -9,6 +12,7 @@ use crate::convert;
 use crate::count::{Counts, Versions};
 use crate::damage::damage;
 use crate::facts::Facts;
+use crate::first;
 use crate::generate::valid_record;
 use crate::inputs;
 use crate::matrix::{MOST_PLAIN, MOST_SUBJECTS, VERSIONS};
@@ -20,6 +24,13 @@ use crate::small::{self, Searches, not_valid};
 const ROUNDS_TO_ABOVE: u64 = 4;
 const ROUNDS_TO_LONGEST_LIST: u64 = 500;
 const ROUNDS_TO_SMALL_STATION: u64 = 250;
+
+/// How many rounds there are to one with a right that is held after hundreds of commands, and to one after thousands; and how
+/// many commands come before the right, so that with those of the right they still are one list.
+const ROUNDS_TO_HUNDREDS: u64 = 25;
+const ROUNDS_TO_THOUSANDS: u64 = 100;
+const HUNDREDS: Range<u64> = 100..999;
+const THOUSANDS: Range<u64> = 1000..9990;
 
 /// The version and the size of a round's record: in twice as many rounds as there are sizes, every size occurs in both
 /// versions.
@@ -60,6 +71,12 @@ pub fn round(
     if number.is_multiple_of(ROUNDS_TO_LONGEST_LIST) {
         longest_list(version, random, counts)?;
     }
+    if number.is_multiple_of(ROUNDS_TO_HUNDREDS) {
+        late_right(version, HUNDREDS, random, counts)?;
+    }
+    if number.is_multiple_of(ROUNDS_TO_THOUSANDS) {
+        late_right(version, THOUSANDS, random, counts)?;
+    }
     if number.is_multiple_of(ROUNDS_TO_SMALL_STATION) {
         small::all_questions(version, random, searches, counts)?;
     }
@@ -71,11 +88,16 @@ fn station_of(record: &[u8]) -> Result<Station, Difference> {
     read(record).map_err(|refusal| not_valid(record, refusal))
 }
 
-/// One input of each of the seven calls on a valid record, and more conversions of it.
+/// One input of each of the eight calls on a valid record, and more of some of them.
 fn ask_of_valid(record: &[u8], random: &mut Random, counts: &mut Counts) -> Result<(), Difference> {
     let station = station_of(record)?;
     counts.add_size(station.n, station.p);
     ask_each(record, &station, random, counts)?;
+    if random.one_in(2) {
+        let (few, more) = (random.below(4), random.below(60));
+        let right = (random.pick(&[few, few, more]), random.one_in(3));
+        first::ask_coming_and_going(record, &station, right, random, counts)?;
+    }
     convert::there_and_back(record, random, counts)?;
     if record[0] == 2 {
         convert::ask_with_high_right(record, random, counts)?;
@@ -83,7 +105,7 @@ fn ask_of_valid(record: &[u8], random: &mut Random, counts: &mut Counts) -> Resu
     Ok(())
 }
 
-/// One input of each of the seven calls on a record, drawn from its station.
+/// One input of each of the eight calls on a record, drawn from its station.
 fn ask_each(
     record: &[u8],
     station: &Station,
@@ -97,13 +119,14 @@ fn ask_each(
     check::command(record, fields, false, counts)?;
     let list = inputs::list(station, random);
     check::run(record, &list, random.one_in(2), counts)?;
+    first::ask(record, station, &list, random, counts)?;
     let question = inputs::safety_question(station, random);
     let length = inputs::buffer_length(station.n, random);
     check::safety(record, question, length, random.one_in(2), counts)?;
     convert::ask_both(record, random.one_in(2), random, counts)
 }
 
-/// One input of each of the seven calls on a whole record above the limits. All of them have to be refused for that,
+/// One input of each of the eight calls on a whole record above the limits. All of them have to be refused for that,
 /// whatever is asked.
 fn ask_above(version: u8, random: &mut Random, counts: &mut Counts) -> Result<(), Difference> {
     let (record, station) = record_above(version, random);
@@ -122,8 +145,8 @@ fn ask_above(version: u8, random: &mut Random, counts: &mut Counts) -> Result<()
     Ok(())
 }
 
-/// Inputs of the validity call, of the conversions and of two others on a record that was valid and is damaged. What is
-/// asked of it was drawn from the record before, or is wrong too.
+/// Inputs of the validity call, of the conversions, often of `first_held`, and of two others, on a record that was valid and
+/// is damaged. What is asked of it was drawn from the record before, or is wrong too.
 fn ask_of_damaged(
     mut record: Vec<u8>,
     random: &mut Random,
@@ -134,6 +157,10 @@ fn ask_of_damaged(
     let null = random.one_in(2);
     check::valid(&record, null, counts)?;
     convert::ask_both(&record, null, random, counts)?;
+    if random.one_in(2) {
+        let list = inputs::list(&station, random);
+        first::ask_of_damaged(&record, &station, &list, random, counts)?;
+    }
     for _ in 0..2 {
         match random.below(4) {
             0 => {
@@ -158,10 +185,30 @@ fn ask_of_damaged(
     Ok(())
 }
 
-/// A list of about the most commands, on a small record, where the second implementation is fast.
-fn longest_list(version: u8, random: &mut Random, counts: &mut Counts) -> Result<(), Difference> {
+/// A small valid record and its station.
+fn small_station(version: u8, random: &mut Random) -> Result<(Vec<u8>, Station), Difference> {
     let (n, p) = small_size(random);
     let record = valid_record(version, n, p, random);
-    let list = inputs::longest_list(&station_of(&record)?, random);
-    check::run(&record, &list, false, counts)
+    let station = station_of(&record)?;
+    Ok((record, station))
+}
+
+/// A list of about the most commands, on a small record, where the second implementation is fast.
+fn longest_list(version: u8, random: &mut Random, counts: &mut Counts) -> Result<(), Difference> {
+    let (record, station) = small_station(version, random)?;
+    let list = inputs::longest_list(&station, random);
+    check::run(&record, &list, false, counts)?;
+    first::ask(&record, &station, &list, random, counts)
+}
+
+/// A right that comes late, after so many commands that there are hundreds or thousands of them, on a small record.
+fn late_right(
+    version: u8,
+    before: Range<u64>,
+    random: &mut Random,
+    counts: &mut Counts,
+) -> Result<(), Difference> {
+    let (record, station) = small_station(version, random)?;
+    let before = before.start + random.below(before.end - before.start);
+    first::ask_coming_and_going(&record, &station, (before, false), random, counts)
 }
