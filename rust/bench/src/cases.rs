@@ -11,7 +11,8 @@ use crate::size::Size;
 use crate::stations::Shape;
 use crate::windows::{mixed_entries, window_of};
 
-/// Commands in a long list.
+/// Commands in a short list and in a long one.
+pub const SHORT: usize = 1000;
 pub const LONG: usize = 10_000;
 
 /// A call that only reads the record. All sides read the same bytes and have to give the same answer as expected.
@@ -82,17 +83,20 @@ fn run(record: Vec<u8>, commands: &[[u64; 5]], before: fn(&mut [u8], &[u8])) -> 
     })
 }
 
-/// A run of `count` grants by the owners of the logs in turn, each to another subject. The same run on the record after it is
-/// accepted too and changes nothing.
-pub fn run_of_grants(size: Size, count: usize) -> Case {
-    let record = Shape::Flat.record(size);
-    let commands: Vec<[u64; 5]> = (0..count)
+/// So many grants by the owners of the logs in turn, each to another subject, all of rights without the star.
+fn grants(size: Size, count: usize) -> Vec<[u64; 5]> {
+    (0..count)
         .map(|j| {
             let o = size.n + j % size.p;
             [4, o % size.n, 7 * j % size.n, o, j % size.basics()].map(|field| field as u64)
         })
-        .collect();
-    run(record, &commands, |_, _| ())
+        .collect()
+}
+
+/// A run of `count` grants. The same run on the record after it is accepted too and changes nothing.
+pub fn run_of_grants(size: Size, count: usize) -> Case {
+    let record = Shape::Flat.record(size);
+    run(record, &grants(size, count), |_, _| ())
 }
 
 /// A run in which the logs change hands in turn: each goes from its owner to the next subject, and in the next round back.
@@ -119,6 +123,46 @@ pub fn run_of_all_codes(size: Size, count: usize) -> Case {
     run(record, &commands, |copy, record| {
         copy.copy_from_slice(record)
     })
+}
+
+/// A list searched for the first command after which a right is held, with the value of the answer.
+fn search(record: Vec<u8>, commands: &[[u64; 5]], question: [u64; 3], value: u64) -> Case {
+    let (record, list) = (Rc::new(record), Rc::new(encode(commands)));
+    Case::new(|calls| {
+        let (record, list) = (record.clone(), list.clone());
+        let mut copy = vec![0; record.len()];
+        move || {
+            let copy = black_box(&mut copy[..]);
+            let answer = (calls.first_held)(black_box(&record), black_box(&list), question, copy);
+            assert!(answer == (0, value));
+        }
+    })
+}
+
+/// Subject 1 and the first log, which U owns: the first right with the star, that grants without it never give.
+fn starred_right(size: Size) -> [u64; 3] {
+    [1, size.n as u64, 3]
+}
+
+/// Grants searched for a right that none of them gives.
+pub fn never_by_grants(size: Size, count: usize) -> Case {
+    let record = Shape::Flat.record(size);
+    search(record, &grants(size, count), starred_right(size), 0)
+}
+
+/// Grants searched for the right that the last of them gives.
+pub fn by_last_of_grants(size: Size, count: usize) -> Case {
+    let record = Shape::Flat.record(size);
+    let (question, mut commands) = (starred_right(size), grants(size, count - 1));
+    commands.push([5, 0, question[0], question[1], 0]);
+    search(record, &commands, question, count as u64 + 1)
+}
+
+/// The thirteen codes in turn, all accepted, searched for control of a log, which nobody ever has.
+pub fn never_by_all_codes(size: Size, count: usize) -> Case {
+    let record = Shape::Chain.record(size);
+    let commands = accepted_commands(&mut Numbers(1), &record, count);
+    search(record, &commands, [1, size.n as u64, 1], 0)
 }
 
 /// Whether the subject that is asked about can come to hold the plain right 0 over the log that is asked about.

@@ -15,13 +15,13 @@ pub const RECORDS: u64 = 8000;
 /// The entries that are put into the seeded window.
 pub const ENTRIES: usize = 50_000;
 
-/// Compares all calls: the seven on every record, and those of the window after each entry.
+/// Compares all calls: the eight on every record, and those of the window after each entry.
 pub fn compare_all() {
     compare_records();
     compare_window();
 }
 
-/// Compares the seven calls on every record.
+/// Compares the eight calls on every record.
 fn compare_records() {
     for seed in 0..RECORDS {
         let mut numbers = Numbers(seed);
@@ -92,6 +92,48 @@ fn compare_record(numbers: &mut Numbers, seed: u64, record: &[u8], size: Size) {
     same(seed, "run", |calls| {
         changed(record, |copy| (calls.run)(copy, &list))
     });
+    compare_first_held(numbers, seed, record, size, &list);
+}
+
+/// The list searched for several rights, most of them such as its commands give, each with a copy that is as long as the record, longer, or
+/// too short. What stands in the record's length of it after an answer is left free; else no byte of it may change.
+fn compare_first_held(numbers: &mut Numbers, seed: u64, record: &[u8], size: Size, list: &[u8]) {
+    let length = record.len();
+    for _ in 0..4 {
+        let question = asked_of_list(numbers, size, list);
+        let room = match numbers.below(8) {
+            0 => numbers.below(length + 1),
+            1 => length + numbers.below(20),
+            _ => length,
+        };
+        same(seed, "first_held", |calls| {
+            let mut copy = vec![0xEE; room];
+            let answer = (calls.first_held)(record, list, question, &mut copy);
+            let free = if answer.0 == 0 { length } else { 0 };
+            let kept = copy[free..].iter().all(|&byte| byte == 0xEE);
+            assert!(kept, "first_held changed its copy at seed {seed}");
+            answer
+        });
+    }
+}
+
+/// A subject, a column and a right: of a command of the list that names all three, or any, sometimes beyond the record.
+fn asked_of_list(numbers: &mut Numbers, size: Size, list: &[u8]) -> [u64; 3] {
+    let commands = list.get(5..).unwrap_or_default().as_chunks::<6>().0;
+    let command = commands.get(numbers.below(commands.len().max(1)));
+    match command {
+        Some([_, code, _, s, o, k]) if !numbers.once_in(4) => {
+            let right = match code {
+                1 | 4 | 8 => 2 + 2 * u64::from(*k),
+                2 | 5 | 9 => 3 + 2 * u64::from(*k),
+                6 => 1,
+                _ => 0,
+            };
+            [u64::from(*s), u64::from(*o), right]
+        }
+        _ => [size.n + 1, size.columns() + 1, 2 * size.basics() + 3]
+            .map(|bound| numbers.below(bound) as u64),
+    }
 }
 
 /// Both conversions, each with an output that is as long as the new record, longer, or too short.

@@ -1,4 +1,4 @@
-//! The ten exports of the archive on slices. Each answer is the refusal and the value, as the Rust side gives them.
+//! The eleven exports of the archive on slices. Each answer is the refusal and the value, as the Rust side gives them.
 
 use bunvespo::raw;
 
@@ -34,6 +34,21 @@ pub fn safety(record: &[u8], trust: u64, s: u64, o: u64, right: u64, out: &mut [
     let (to, room) = (out.as_mut_ptr(), out.len());
     // SAFETY: as in `run`.
     pair(unsafe { raw::bunvespo_safety(at, length, trust, s, o, right, to, room) })
+}
+
+pub fn first_held(
+    record: &[u8],
+    list: &[u8],
+    [s, o, right]: [u64; 3],
+    copy: &mut [u8],
+) -> (u64, u64) {
+    let (at, length) = (record.as_ptr(), record.len());
+    let (list_at, list_length) = (list.as_ptr(), list.len());
+    let (to, room) = (copy.as_mut_ptr(), copy.len());
+    // SAFETY: the pointers and lengths are those of three slices, of which the last overlaps no other.
+    pair(unsafe {
+        raw::bunvespo_first_held(at, length, list_at, list_length, s, o, right, to, room)
+    })
 }
 
 pub fn to_version_1(record: &[u8], out: &mut [u8]) -> (u64, u64) {

@@ -26,12 +26,12 @@ mod sse2;
 mod stations;
 mod windows;
 
-use cases::LONG;
+use cases::{LONG, SHORT};
 use report::{by_shape, by_size, heading, on_window, window_heading};
 use size::{VERSIONS, largest};
 use stations::Shape;
 
-/// The seven calls on flat records of each version and size.
+/// The eight calls on flat records of each version and size.
 fn calls() {
     let flat = Shape::Flat;
     heading("Calls by size (flat records; code 3 over a subject on a chain), nanoseconds a call");
@@ -43,6 +43,9 @@ fn calls() {
     by_size("run, 10 grants", 1, |size| cases::run_of_grants(size, 10));
     by_size("safety, safe", 1, |size| cases::all_trusted(flat, size));
     by_size("safety, leaks", 1, |size| cases::root_untrusted(flat, size));
+    by_size("first held, 10", 1, |size| {
+        cases::by_last_of_grants(size, 10)
+    });
     by_size("to version 1", 1, cases::to_version_1);
     by_size("to version 2", 1, cases::to_version_2);
 }
@@ -59,6 +62,30 @@ fn lists() {
     by_size("13 codes", LONG, |size| cases::run_of_all_codes(size, LONG));
 }
 
+/// Lists searched for the first command after which a right is held, beside runs of the same lists, at each version and size.
+fn searches() {
+    for (count, text) in [(SHORT, "1,000"), (LONG, "10,000")] {
+        heading(&format!(
+            "Lists of {text} commands run, and searched for the first after which a right is held, nanoseconds a command"
+        ));
+        by_size("run, grants", count, |size| {
+            cases::run_of_grants(size, count)
+        });
+        by_size("never, grants", count, |size| {
+            cases::never_by_grants(size, count)
+        });
+        by_size("by last, grants", count, |size| {
+            cases::by_last_of_grants(size, count)
+        });
+        by_size("run, 13 codes", count, |size| {
+            cases::run_of_all_codes(size, count)
+        });
+        by_size("never, 13 codes", count, |size| {
+            cases::never_by_all_codes(size, count)
+        });
+    }
+}
+
 /// The three calls on a window.
 fn window() {
     window_heading();
@@ -70,13 +97,14 @@ fn window() {
 fn main() {
     compare::compare_all();
     println!(
-        "The library and both Rust sides answer alike on {} seeded records, seven calls each, and on a window with {} \
+        "The library and both Rust sides answer alike on {} seeded records, eight calls each, and on a window with {} \
          seeded entries.",
         compare::RECORDS,
         compare::ENTRIES
     );
     calls();
     lists();
+    searches();
     VERSIONS.into_iter().map(largest).for_each(by_shape);
     window();
 }

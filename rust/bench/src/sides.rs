@@ -8,10 +8,13 @@ type Answer = (u64, u64);
 /// The safety question: record, trust mask, subject, object, right and buffer.
 type Safety = fn(&[u8], u64, u64, u64, u64, &mut [u8]) -> Answer;
 
+/// The search of a list for a right: record, list, then subject, object and right, and the copy.
+type FirstHeld = fn(&[u8], &[u8], [u64; 3], &mut [u8]) -> Answer;
+
 /// The conversions: record and output.
 type Conversion = fn(&[u8], &mut [u8]) -> Answer;
 
-/// The ten calls of a side. They are pointers on every side, so that a call costs
+/// The eleven calls of a side. They are pointers on every side, so that a call costs
 /// the same on the way.
 #[derive(Clone, Copy)]
 pub struct Calls {
@@ -20,6 +23,7 @@ pub struct Calls {
     pub command: fn(&mut [u8], [u64; 5]) -> Answer,
     pub run: fn(&mut [u8], &[u8]) -> Answer,
     pub safety: Safety,
+    pub first_held: FirstHeld,
     pub to_version_1: Conversion,
     pub to_version_2: Conversion,
     pub window_empty: fn(&mut [u8]),
@@ -33,6 +37,7 @@ pub const LIBRARY: Calls = Calls {
     command: library::command,
     run: library::run,
     safety: library::safety,
+    first_held: library::first_held,
     to_version_1: library::to_version_1,
     to_version_2: library::to_version_2,
     window_empty: library::window_empty,
@@ -46,6 +51,7 @@ pub const PLAIN: Calls = Calls {
     command: plain::command,
     run: plain::run,
     safety: plain::safety,
+    first_held: plain::first_held,
     to_version_1: plain::to_version_1,
     to_version_2: plain::to_version_2,
     window_empty: plain::window_empty,
@@ -59,6 +65,7 @@ pub const SSE2: Calls = Calls {
     command: sse2::command,
     run: sse2::run,
     safety: sse2::safety,
+    first_held: sse2::first_held,
     to_version_1: sse2::to_version_1,
     to_version_2: sse2::to_version_2,
     window_empty: sse2::window_empty,

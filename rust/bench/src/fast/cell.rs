@@ -27,10 +27,16 @@ fn cell<const W: usize>(number: u32) -> [u8; W] {
         .expect("a cell has at most four bytes")
 }
 
+/// The number of a cell that has the bits of a mask, in which the lowest bit is own.
+#[inline(always)]
+pub fn bits<const W: usize>(mask: u32) -> u32 {
+    mask.swap_bytes() >> (32 - 8 * W)
+}
+
 /// The number of a cell that has one bit.
 #[inline(always)]
 pub fn bit<const W: usize>(bit: usize) -> u32 {
-    (1u32 << bit).swap_bytes() >> (32 - 8 * W)
+    bits::<W>(1 << bit)
 }
 
 /// Whether a cell has a bit.

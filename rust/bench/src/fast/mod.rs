@@ -1,4 +1,4 @@
-//! The ten calls in Rust written for speed, with no proof: what the library is timed against. A refusal is its number, 0 where
+//! The eleven calls in Rust written for speed, with no proof: what the library is timed against. A refusal is its number, 0 where
 //! the call is answered.
 //!
 //! This source is two modules, `plain::fast` and `sse2::fast`. Each takes its lanes, on which the scan works, from the module
@@ -8,6 +8,7 @@ mod absent;
 mod cell;
 mod change;
 mod convert;
+mod first;
 mod list;
 pub mod parts;
 mod plains;
@@ -23,6 +24,7 @@ mod window;
 mod witness;
 
 pub use convert::{to_version_1, to_version_2};
+pub use first::first_held;
 pub use safety::safety;
 pub use window::{window_count, window_empty, window_put};
 

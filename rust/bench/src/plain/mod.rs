@@ -1,4 +1,4 @@
-//! The ten calls in plain Rust: safe, with no intrinsics, in loops that LLVM turns into vector instructions.
+//! The eleven calls in plain Rust: safe, with no intrinsics, in loops that LLVM turns into vector instructions.
 
 #![forbid(unsafe_code)]
 
@@ -7,6 +7,6 @@ mod fast;
 mod lanes;
 
 pub use fast::{
-    command, held, run, safety, to_version_1, to_version_2, valid, window_count, window_empty,
-    window_put,
+    command, first_held, held, run, safety, to_version_1, to_version_2, valid, window_count,
+    window_empty, window_put,
 };
