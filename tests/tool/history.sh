@@ -16,6 +16,12 @@ run() {
 by_hand() {
     printf "\\x$2" | dd of="$1" bs=1 seek="$3" conv=notrunc 2>/dev/null
 }
+# The example of docs/HISTORY.md, beside the record with which it begins.
+bytes example.history $(sed -n '/^An example/,/^## /p' "$root/docs/HISTORY.md" | grep '^    ' | cut -c5-63 | grep -ow '[0-9a-f][0-9a-f]')
+"$program" new - 2 0 >example
+try adopt example
+hex example
+"$program" log example
 "$program" new ward 3 1
 try log ward
 names ward
