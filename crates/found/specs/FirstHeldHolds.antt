@@ -11,17 +11,13 @@ use lib.ListN.{length, take}
 use lib.Seq.{length-take-le}
 use borrow.Author.Tests.{eqb-true, eqb-false, ne-eqb, ltb-true, ltb-false}
 use Rattle.matrix.specs.declared.Fields.{Fields}
-use Rattle.matrix.specs.declared.Holding.{Holding}
 use Rattle.matrix.specs.declared.Holding.the-variants.{Yes, No}
 use Rattle.matrix.specs.declared.Outcome.{Outcome}
-use Rattle.matrix.specs.declared.Numbers.{Numbers}
 use Rattle.matrix.specs.declared.Name.{Name}
-use Rattle.matrix.specs.declared.Right.{Right}
 use Rattle.matrix.specs.declared.Shape.{Shape}
 use Rattle.matrix.specs.Names.{nameOf}
-use Rattle.matrix.specs.Numbers.{numbers}
 use Rattle.matrix.specs.Rights.{rightOf}
-use Rattle.matrix.specs.State.{State, held}
+use Rattle.matrix.specs.State.{held}
 use Rattle.matrix.specs.Tests.{Test, test, firstFailed}
 use Rattle.matrix.specs.Shape.{limits, shapeOf}
 use Rattle.matrix.specs.Reading.{Content, stateOf, content, bytesOf}

@@ -8,7 +8,7 @@ use mathlib.Core.List.{List, _++_}
 use lib.Dec.{eqb, leb, ltb}
 use lib.ListN.{length, drop, length-append, length-drop}
 use lib.Seq.{drop-at}
-use borrow.Author.Tests.{leb-true, leb-false, le-ltb, lt-ltb, ne-eqb, eq-eqb}
+use borrow.Author.Tests.{leb-true, leb-false, le-ltb, lt-ltb, ne-eqb}
 use Rattle.matrix.specs.Numbers.{numbers}
 use Rattle.matrix.specs.Tests.{firstFailed}
 use Rattle.matrix.specs.Shape.{limits, shapeOf}

@@ -11,13 +11,14 @@ ghost use Prim.Native.Nat.{_<_};
 ghost use lib.ListN.{length};
 ghost use Rattle.matrix.specs.Shape.{limits, bitsOf};
 ghost use Rattle.matrix.specs.CommandList.{wellFormed};
-ghost use Rattle.matrix.specs.FirstHeld.{firstOn, firstHeldRefusal, firstHeldResult, Lent};
+ghost use Rattle.matrix.specs.FirstHeld.{firstOn, firstHeldResult, Lent};
 ghost use Rattle.cells.specs.Station.{Cell};
 ghost use Rattle.states.specs.Needs.{Guessed};
 ghost use Rattle.trials.specs.Answers.{later};
 
 // The commands in turn on the record b, which keeps what they make of it, until the right is held or one is refused: the number of commands
-// before, and one, or 0 where the right is held after none.
+// before, and one, or 0 where the right is held after none. Each command is tested in full: the short ways are left to the list run, whose loop they
+// are compiled into as long as it alone calls them.
 fn first_on(
     b: &mut [u8],
     f: Shape,
@@ -38,7 +39,7 @@ fn first_on(
         let Read::Command(c, after) = reader::read_one(l, at) else {
             break;
         };
-        let answer = commands::command_in_list(b, f, owners, c);
+        let answer = commands::command_on(b, owners, c);
         let Answer::Accepted(_) = answer else {
             return 0;
         };

@@ -1,12 +1,13 @@
 -- `trials::first_on` meets its contract. The loop's invariant: what is left of the list comes to the same here as the whole list does at the start.
 use borrow.Author.Needs.{needs}
-use Prim.Native.Nat.{_+_, _-_, _≤_}
+use Prim.Native.Nat.{_-_, _≤_}
 use native.Mathlib.Omega.{arith}
 use lib.ListN.{length}
 use mathlib.Core.Path.{_≡_, refl, sym, _∙_}
 use Rattle.matrix.specs.Shape.{mostSubjects}
 use Rattle.matrix.specs.CommandList.{commandsIn}
 use Rattle.lists.specs.Formed.{formed}
+use Rattle.states.specs.Needs.{guessed-at}
 use Rattle.reader.specs.Left.{yields-command, yields-end}
 use Rattle.runs.specs.Reached.{Reached}
 use Rattle.runs.specs.Steps.{reached-none, reached-as}
@@ -46,10 +47,10 @@ enum-known-c c = search needs
 enum-told : tie.Need-enum-told Inv-loop μ-loop
 enum-told c = search needs
 
-command-in-list-requires : tie.Need-command-in-list-requires Inv-loop μ-loop
-command-in-list-requires c κs =
+command-on-requires : tie.Need-command-on-requires Inv-loop μ-loop
+command-on-requires c κs =
     let i = c .before .before .before .before .before .before .before .before .before .loop .inv in
-    record { station = i .0 .station; valid = i .0 .valid; size = i .1 }
+    guessed-at (record { station = i .0 .station; valid = i .0 .valid; size = i .1 }) refl
 
 enum-told-2 : tie.Need-enum-told-2 Inv-loop μ-loop
 enum-told-2 c = search needs
@@ -58,13 +59,13 @@ enum-told-3 : tie.Need-enum-told-3 Inv-loop μ-loop
 enum-told-3 c = search needs
 
 same-length-2 : tie.Need-same-length-2 Inv-loop μ-loop
-same-length-2 c = c .before .before .before .before .command-in-list .kept .0 ∙ c .before .before .before .before .before .before .before .before .before .before .before .before .before .before .loop .inv .0 .size
+same-length-2 c = c .before .before .before .before .command-on .kept .0 ∙ c .before .before .before .before .before .before .before .before .before .before .before .before .before .before .loop .inv .0 .size
 
 returns-2 : tie.Need-returns-2 Inv-loop μ-loop
 returns-2 c =
     let y = yields-command _ _ (sym (c .before .before .before .before .before .before .before .before .c .given .1) ∙ c .before .before .before .before .before .before .before .before .before .before .read-one .ensures) in
     let a = c .before .before .before .before .before .before .before .before .before .before .before .before .before .before .before .before .before .args in
-    found-refused (a .s) (a .o) (a .right) (c .before .before .before .before .before .before .before .before .before .before .before .before .before .before .loop .inv .0) (c .before .before .before .before .before .before .before .before .before .before .before .before .is-held .ensures) (c .before .before .before .before .before .before .before .before .before .before .before .if1 .left) (y .more) (y .fields) (c .before .before .before .before .command-in-list .ensures .0) (c .enum-told3 .given .1)
+    found-refused (a .s) (a .o) (a .right) (c .before .before .before .before .before .before .before .before .before .before .before .before .before .before .loop .inv .0) (c .before .before .before .before .before .before .before .before .before .before .before .before .is-held .ensures) (c .before .before .before .before .before .before .before .before .before .before .before .if1 .left) (y .more) (y .fields) (c .before .before .before .before .command-on .ensures .0) (c .enum-told3 .given .1)
 
 loop-less : tie.Need-loop-less Inv-loop μ-loop
 loop-less c =
@@ -75,8 +76,8 @@ loop-again : tie.Need-loop-again Inv-loop μ-loop
 loop-again c =
     let y = yields-command _ _ (sym (c .before .before .before .before .before .before .before .before .c .given .1) ∙ c .before .before .before .before .before .before .before .before .before .before .read-one .ensures) in
     let a = c .before .before .before .before .before .before .before .before .before .before .before .before .before .before .before .before .before .args in (
-      reached-as (y .moved) (found-later (a .s) (a .o) (a .right) (c .before .before .before .before .before .before .before .before .before .before .before .before .before .before .loop .inv .0) (c .before .before .before .before .before .before .before .before .before .before .before .before .is-held .ensures) (c .before .before .before .before .before .before .before .before .before .before .before .if1 .left) (y .more) (y .fields) (c .before .before .before .before .command-in-list .ensures .0) (c .enum-told2 .given .1)),
-      c .before .before .before .before .command-in-list .ensures .1,
+      reached-as (y .moved) (found-later (a .s) (a .o) (a .right) (c .before .before .before .before .before .before .before .before .before .before .before .before .before .before .loop .inv .0) (c .before .before .before .before .before .before .before .before .before .before .before .before .is-held .ensures) (c .before .before .before .before .before .before .before .before .before .before .before .if1 .left) (y .more) (y .fields) (c .before .before .before .before .command-on .ensures .0) (c .enum-told2 .given .1)),
+      c .before .before .before .before .command-on .ensures .1,
       omega (arith, y .more, y .moved),
     )
 
@@ -100,7 +101,7 @@ first-on-spec =
     read-one-requires
     enum-known-c
     enum-told
-    command-in-list-requires
+    command-on-requires
     enum-told-2
     enum-told-3
     same-length-2

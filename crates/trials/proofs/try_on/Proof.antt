@@ -1,7 +1,6 @@
 -- `trials::try_on` meets its contract: after copying the copy is the record.
 use borrow.Author.Needs.{needs}
 use mathlib.Core.Path.{_≡_, sym, _∙_, ap, subst}
-use mathlib.Core.List.{List}
 use Rattle.matrix.specs.FirstHeld.{firstOn}
 use Rattle.cells.specs.Station.{Cell}
 use Rattle.states.specs.Needs.{Guessed}
