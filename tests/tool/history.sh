@@ -182,6 +182,20 @@ for damage in 0 20 100 130 -1; do
     try why ward head-nurse bed-3 own
 done
 for kept in ward.history.damaged*; do echo "$kept: $(stat -c %s "$kept") bytes"; done
+# A history that is a link: what it leads to is written, and kept where it is damaged.
+put_back kept.history
+mkdir elsewhere
+mv ward.history elsewhere/ward
+ln -s elsewhere/ward ward.history
+run 'head-nurse grants r1 over bed-3 to technician'
+by_hand elsewhere/ward 00 0
+cp elsewhere/ward damaged
+try adopt ward
+try audit ward
+stat -c '%F' ward.history ward.history.damaged.6
+cmp ward.history.damaged.6 damaged
+ls -A elsewhere
+rm ward.history
 # Damage in the last entry alone, whose change came to nothing: the next run drops it.
 put_back kept.history
 run '14 0 0 0 0'

@@ -13,6 +13,20 @@ pub struct Form {
     with: Option<&'static str>,
 }
 
+impl Form {
+    /// What a command takes, where so many words are given that it does not take.
+    fn takes(&self, given: usize) -> String {
+        let (command, words) = (self.command, self.words.join(" "));
+        let with = self.with.map(|option| format!(" with {option}"));
+        let with = with.unwrap_or_default();
+        let given = match given {
+            1 => String::from("1 word is"),
+            count => format!("{count} words are"),
+        };
+        format!("{command} takes {words}{with}, and {given} given")
+    }
+}
+
 /// The commands. `--names FILE` is taken by each that reads a record and prints names.
 pub const FORMS: [Form; 15] = [
     form("new", &["FILE", "LOGINS", "LOGS"], &["--version"]),
@@ -186,15 +200,7 @@ impl Split {
         };
         let (command, words) = (form.command, words.collect::<Vec<_>>());
         if words.len() != form.words.len() {
-            let mut takes = form.words.join(" ");
-            if let Some(option) = form.with {
-                takes = format!("{takes} with {option}");
-            }
-            let given = match words.len() {
-                1 => String::from("1 word is"),
-                count => format!("{count} words are"),
-            };
-            return no_answer(format!("{command} takes {takes}, and {given} given"));
+            return no_answer(form.takes(words.len()));
         }
         let mut options = self.options.iter();
         if let Some((name, _)) = options.find(|(name, _)| !form.options.contains(name)) {

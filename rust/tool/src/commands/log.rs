@@ -107,15 +107,7 @@ fn lines(seen: &Seen, replay: &Replay, names: &Names, as_json: bool) -> Answered
             (true, _) if number == 0 => {}
             (false, what) if number == 0 => {
                 let (name, changes) = (&seen.history.name, counted(replay.changes, "change"));
-                let (since, sizes) = (time::told(time), sizes(record));
-                let adopted = match what {
-                    What::Adopted(_) => "was adopted after the history before was damaged, and ",
-                    _ => "",
-                };
-                let _ = writeln!(
-                    text,
-                    "{name}: {changes} since {since}, when the record {adopted}had {sizes}."
-                );
+                let _ = writeln!(text, "{name}: {changes} {}.", told.start(&what));
             }
             (false, what) => told.in_words(&mut text, &what),
             (true, what) => {
@@ -137,6 +129,16 @@ struct Told<'a> {
 }
 
 impl Told<'_> {
+    /// Since when there is a history, and with what it begins.
+    fn start(&self, what: &What) -> String {
+        let (since, sizes) = (time::told(self.time), sizes(self.record));
+        let adopted = match what {
+            What::Adopted(_) => "was adopted after the history before was damaged, and ",
+            _ => "",
+        };
+        format!("since {since}, when the record {adopted}had {sizes}")
+    }
+
     fn in_words(&self, text: &mut String, what: &What) {
         let (number, time) = (self.number, time::told(self.time));
         let _ = match what {

@@ -171,43 +171,41 @@ impl Why {
         let Asked { login, over, right } = self.asked;
         let by = held_by(record, login, column_of(over), right);
         let by = by.map_or(String::from("null"), |by: Right| json::right(by, names));
-        let origin = self.found.origin.filter(|_| self.is_held);
-        let (origin, change, command) = match origin {
+        let notes = self.found.notes.iter().map(|note| json::text(note));
+        let mut fields = vec![
+            ("login", json::name(Name::Login(login), names)),
+            ("over", json::name(over, names)),
+            ("right", json::right(right, names)),
+            ("held", self.is_held.to_string()),
+            ("by", by),
+        ];
+        fields.extend(self.origin_in_json());
+        fields.push(("notes", json::array(notes)));
+        format!("{}\n", json::object(&fields))
+    }
+
+    fn origin_in_json(&self) -> [(&'static str, String); 5] {
+        let Station { record, names, .. } = &self.station;
+        let (origin, at, command) = match self.found.origin.filter(|_| self.is_held) {
             None => ("none", None, None),
             Some(Origin::Start) => ("start", None, None),
             Some(Origin::Adopted { change, time }) => ("adopted", Some((change, time)), None),
             Some(Origin::Command { place, command }) => {
                 let words = sentence(command, record, names);
                 let words = words.unwrap_or_else(|| numbers(command));
-                let told = json::command(command, &words);
-                (
-                    "command",
-                    Some((place.change, place.time)),
-                    Some((place.number, told)),
-                )
+                let told = (place.number, json::command(command, &words));
+                ("command", Some((place.change, place.time)), Some(told))
             }
         };
-        let null = || String::from("null");
-        let (change, time) = change.map_or((null(), null()), |(change, time)| {
-            (change.to_string(), time.to_string())
-        });
-        let (number, command) = command.map_or((null(), null()), |(number, command)| {
-            (number.to_string(), command)
-        });
-        let notes = self.found.notes.iter().map(|note| json::text(note));
-        let answer = json::object(&[
-            ("login", json::name(Name::Login(login), names)),
-            ("over", json::name(over, names)),
-            ("right", json::right(right, names)),
-            ("held", self.is_held.to_string()),
-            ("by", by),
+        let or_null = |value: Option<String>| value.unwrap_or_else(|| String::from("null"));
+        let (change, time) = at.unzip();
+        let (number, command) = command.unzip();
+        [
             ("origin", json::text(origin)),
-            ("change", change),
-            ("time", time),
-            ("number", number),
-            ("command", command),
-            ("notes", json::array(notes)),
-        ]);
-        format!("{answer}\n")
+            ("change", or_null(change.map(|change| change.to_string()))),
+            ("time", or_null(time.map(|time| time.to_string()))),
+            ("number", or_null(number.map(|number| number.to_string()))),
+            ("command", or_null(command)),
+        ]
     }
 }

@@ -81,6 +81,7 @@ impl HistoryFile {
     /// Keeps a damaged history whole beside its place, under a second name that no other file has; that name. An adoption that was cut off
     /// may have given it one before.
     pub fn keep_damaged(&self) -> io::Result<String> {
+        let damaged = fs::canonicalize(&self.path)?;
         let mut number = 1;
         loop {
             let ending = match number {
@@ -88,17 +89,19 @@ impl HistoryFile {
                 _ => format!(".damaged.{number}"),
             };
             let path = PathBuf::from(with_ending(self.path.as_os_str(), &ending));
-            match fs::hard_link(&self.path, &path) {
+            match fs::hard_link(&damaged, &path) {
                 Ok(()) => stop_for_test("history kept"),
                 Err(error) if error.kind() == ErrorKind::AlreadyExists => {
-                    if !is_one_file(&self.path, &path) {
+                    if !is_one_file(&damaged, &path) {
                         number += 1;
                         continue;
                     }
                 }
                 // Where the file system has no second names it is copied.
                 Err(_) => {
-                    fs::copy(&self.path, &path).and_then(|_| File::open(&path)?.sync_all())?
+                    let mut copy = File::create_new(&path)?;
+                    io::copy(&mut File::open(&damaged)?, &mut copy)?;
+                    copy.sync_all()?;
                 }
             }
             sync_folder_of(&path);
