@@ -251,7 +251,8 @@ fn other_bytes() {
     for _ in 0..3_000 {
         let history = History::random(&mut numbers, 5);
         let mut bytes = history.bytes.clone();
-        match numbers.below(4) {
+        let kind = numbers.below(4);
+        match kind {
             0 => bytes.extend((0..=numbers.below(60)).map(|_| numbers.below(256) as u8)),
             1 => bytes.resize(bytes.len() + 1 + numbers.below(60) as usize, 0),
             2 => bytes.extend_from_within(numbers.pick(&history.ends)..),
@@ -266,5 +267,26 @@ fn other_bytes() {
         assert!(bytes[..replay.end as usize] == history.bytes[..history.ends[changes]]);
         let whole = bytes.len() as u64 == replay.end;
         assert_eq!(replay.rest == Rest::Nothing, whole);
+        // The head of an entry that is moved is wrong.
+        assert!(whole || kind < 2 || matches!(replay.rest, Rest::Damaged(_)));
     }
+}
+
+/// The end of one history after the beginning of another, of the same length, is told: a sum depends on all before it.
+#[test]
+fn spliced() {
+    let record = new_record(3, 1).expect("the sizes are in range");
+    let [one, other] = [1, 2].map(|login| {
+        let mut history = History::new(record.clone());
+        history.run(&[Command::create_subject(0, login)]);
+        history.run(&[Command::create_object(0, 3)]);
+        history.run(&[Command::destroy_object(0, 3)]);
+        history
+    });
+    assert_eq!(one.ends, other.ends);
+    let end = one.ends[1];
+    let bytes = [&one.bytes[..end], &other.bytes[end..]].concat();
+    let replay = replayed(&bytes, u64::MAX).expect("it has a start");
+    assert_eq!((replay.changes, replay.end), (1, end as u64));
+    assert!(matches!(replay.rest, Rest::Damaged(_)));
 }

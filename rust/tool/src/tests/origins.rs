@@ -105,6 +105,50 @@ fn as_by_one_command_at_a_time() {
     assert!(held > 3_000 && adopted > 200, "{held} {adopted}");
 }
 
+/// A right that is lost in each way in which it can be, and given again in the same change.
+#[test]
+fn lost_and_given_again() {
+    let record = new_record(3, 2).expect("the sizes are in range");
+    let grant = Command::new(4, 0, 1, 3, 0);
+    let first = [
+        Command::create_subject(0, 1),
+        Command::create_object(0, 3),
+        grant,
+    ];
+    let own = [
+        Command::transfer_own(0, 1, 3),
+        Command::transfer_own(1, 0, 3),
+    ];
+    let lost: [&[Command]; 5] = [
+        &[Command::new(8, 0, 1, 3, 0)],
+        &[Command::destroy_object(0, 3), Command::create_object(0, 3)],
+        &[
+            Command::destroy_subject(0, 1),
+            Command::create_subject(0, 1),
+        ],
+        &own,
+        &[Command::grant_control(0, 0, 1)],
+    ];
+    for lost in lost {
+        let mut history = History::new(record.clone());
+        history.run(&[&first, lost, &[grant]].concat());
+        let all = history.made.iter().all(|made| match made {
+            Made::Run(commands) => commands.len() == first.len() + lost.len() + 1,
+            Made::Adopted => false,
+        });
+        assert!(all, "each command is accepted");
+        let last = Record::open(history.last()).expect("it is valid");
+        for login in 0..3 {
+            for column in 0..last.columns() {
+                for right in last.rights() {
+                    let (over, right) = (last.name(column), *right);
+                    compare(&history, history.bytes.len(), Asked { login, over, right });
+                }
+            }
+        }
+    }
+}
+
 /// A right that is given and taken again and again, in changes of many commands.
 #[test]
 fn given_and_taken_often() {
