@@ -130,6 +130,13 @@ try why ward technician bed-3 r5
 cmp ward.history before || fail "the history is changed"
 try adopt ward
 try adopt ward
+# Put back as it was before the adoption, it is not taken for a change that was cut off.
+cp ward adopted
+cp kept ward
+run 'head-nurse grants r1 over bed-3 to technician'
+try audit ward
+cmp ward kept
+cp adopted ward
 try audit ward
 try audit ward --json
 try log ward --names /dev/null
@@ -138,15 +145,10 @@ try why ward technician bed-3 'r6*' --json
 try why ward technician bed-3 r5
 run 'head-nurse grants r1 over bed-3 to technician'
 try why ward technician bed-3 'r6*'
-# Put back as it was before the adoption, it is not taken for a change that was cut off.
 put_back() {
     cp kept ward
     cp "$1" ward.history
 }
-"$program" log ward --at 11 put-back >/dev/null
-cp ward.history adopted.history
-cp put-back ward
-run 'head-nurse grants r1 over bed-3 to technician'
 # Of another size and version, and not valid at all.
 put_back kept.history
 "$program" new - 2 3 --version 2 >ward
