@@ -81,9 +81,10 @@ impl Search {
         let (mut at, mut length) = (from, FIRST);
         while at < to {
             let end = to.min(at + length);
+            let was_held = self.since.is_some();
             let next = if !self.fits {
                 to
-            } else if self.since.is_some() {
+            } else if was_held {
                 length = FIRST;
                 self.next_that_takes(batch, at, to)
             } else {
@@ -91,7 +92,7 @@ impl Search {
                 self.first_after(batch, at, end, record)
             };
             batch.run(at, next, record)?;
-            if self.since.is_some() && !self.is_held(record) {
+            if was_held && !self.is_held(record) {
                 self.since = None;
             }
             at = next;
