@@ -3,8 +3,7 @@
 use crate::history::layout::listed_command;
 use crate::library::{Command, MOST_COMMANDS, run};
 
-/// The bytes of a list before its commands, and of each command.
-const LIST_HEAD: usize = 5;
+/// The bytes of each command of a list.
 const COMMAND: usize = 6;
 
 /// A change whose commands stand in the batch: its number and time, the place of its first command in the batch, and how many of its
@@ -25,17 +24,20 @@ pub struct Place {
     pub number: usize,
 }
 
-/// Commands that are to be run, as a list with room for its head before each command.
+/// Commands that are to be run, six bytes each.
 pub struct Batch {
     bytes: Vec<u8>,
     parts: Vec<Part>,
+    /// Room for a list of some of them.
+    list: Vec<u8>,
 }
 
 impl Batch {
     pub fn new() -> Batch {
         Batch {
-            bytes: vec![0; LIST_HEAD],
+            bytes: Vec::new(),
             parts: Vec::new(),
+            list: Vec::new(),
         }
     }
 
@@ -61,17 +63,19 @@ impl Batch {
     }
 
     pub fn clear(&mut self) {
-        self.bytes.truncate(LIST_HEAD);
+        self.bytes.clear();
         self.parts.clear();
     }
 
-    /// The commands of a range as a list. Its head is written over the command before, which is run already.
+    /// The commands of a range as a list.
     pub fn list(&mut self, from: usize, to: usize) -> &[u8] {
-        let list = &mut self.bytes[COMMAND * from..LIST_HEAD + COMMAND * to];
         let length = (COMMAND * (to - from)) as u32;
-        list[0] = 1;
-        list[1..LIST_HEAD].copy_from_slice(&length.to_be_bytes());
-        list
+        self.list.clear();
+        self.list.push(1);
+        self.list.extend(length.to_be_bytes());
+        let commands = &self.bytes[COMMAND * from..COMMAND * to];
+        self.list.extend_from_slice(commands);
+        &self.list
     }
 
     /// Runs the commands of a range; the change of the one that is refused, where one is.
@@ -87,10 +91,10 @@ impl Batch {
 
     /// The bytes of the commands of a range, six each.
     pub fn commands(&self, from: usize, to: usize) -> &[u8] {
-        &self.bytes[LIST_HEAD + COMMAND * from..LIST_HEAD + COMMAND * to]
+        &self.bytes[COMMAND * from..COMMAND * to]
     }
 
-    /// The command at a place, which is not run yet.
+    /// The command at a place.
     pub fn command(&self, at: usize) -> Command {
         listed_command(self.commands(at, at + 1))
     }

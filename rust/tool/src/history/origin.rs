@@ -32,12 +32,10 @@ pub struct Search {
     pub before: Option<Origin>,
     /// Whether the record has the names that are asked for, which only another record can change.
     fits: bool,
-    /// Room for a record, lent to the library.
+    /// Room for a record, lent to the library, and the record before the commands that are run.
     copy: Vec<u8>,
+    start: Vec<u8>,
 }
-
-/// How many commands are searched at first. It is doubled while the right is not found, so that a search costs no more than a few times what it finds.
-const FIRST: usize = 64;
 
 impl Search {
     pub fn new(asked: Asked) -> Search {
@@ -47,6 +45,7 @@ impl Search {
             before: None,
             fits: false,
             copy: Vec::new(),
+            start: Vec::new(),
         }
     }
 
@@ -70,7 +69,8 @@ impl Search {
         self.before = self.since;
     }
 
-    /// Runs the commands of a range; the change of the one that is refused, where one is.
+    /// Runs the commands of a range; the change of the one that is refused, where one is. Where the right is held at the end, it is since the
+    /// first command that gives it after the last one that takes it.
     pub fn run(
         &mut self,
         batch: &mut Batch,
@@ -78,61 +78,91 @@ impl Search {
         to: usize,
         record: &mut [u8],
     ) -> Result<(), u64> {
-        let (mut at, mut length) = (from, FIRST);
-        while at < to {
-            let end = to.min(at + length);
-            let was_held = self.since.is_some();
-            let next = if !self.fits {
-                to
-            } else if was_held {
-                length = FIRST;
-                self.next_that_takes(batch, at, to)
-            } else {
-                length *= 2;
-                self.first_after(batch, at, end, record)
-            };
-            batch.run(at, next, record)?;
-            if was_held && !self.is_held(record) {
-                self.since = None;
-            }
-            at = next;
+        self.start.clear();
+        self.start.extend_from_slice(record);
+        batch.run(from, to, record)?;
+        if !self.is_held(record) {
+            self.since = None;
+            return Ok(());
+        }
+        let lost = self.last_lost(batch, from, to)?;
+        if lost.is_some() || self.since.is_none() {
+            self.since = self.first_after(batch, from, lost.unwrap_or(from), to)?;
         }
         Ok(())
     }
 
-    /// The end of a range, or the place after the first command in it that gives the right, which is noted.
-    fn first_after(&mut self, batch: &mut Batch, at: usize, end: usize, record: &[u8]) -> usize {
-        let Asked { login, over, right } = self.asked;
-        let list = batch.list(at, end);
-        let first = first_held(record, list, login, column_of(over), right, &mut self.copy);
-        match first {
-            Ok(Some(commands)) if commands > 0 => {
-                let next = at + commands as usize;
-                self.since = Some(Origin::Command {
-                    place: batch.place(next - 1),
-                    command: batch.command(next - 1),
-                });
-                next
-            }
-            _ => end,
-        }
+    /// The record after the first commands of a range.
+    fn after(&self, batch: &mut Batch, from: usize, at: usize) -> Result<Vec<u8>, u64> {
+        let mut record = self.start.clone();
+        batch.run(from, at, &mut record)?;
+        Ok(record)
     }
 
-    /// The place after the next command that can take the right from its holder, or the end. No command changes a bit that it does not name:
-    /// so it names the holder's cell, or the column as one that is transferred, made or destroyed, or makes or destroys the holder.
-    fn next_that_takes(&self, batch: &Batch, at: usize, to: usize) -> usize {
+    /// The place after the last command of a range after which the right is not held. The commands that may take it are looked at from the
+    /// last one on, in parts that are each twice as long as the one before, so that no more of them are looked at than twice what is needed.
+    fn last_lost(&self, batch: &mut Batch, from: usize, to: usize) -> Result<Option<usize>, u64> {
+        let places = self.that_take(batch, from, to);
+        let (mut end, mut length) = (places.len(), 1);
+        while end > 0 {
+            let begin = end.saturating_sub(length);
+            let mut record = self.after(batch, from, places[begin])?;
+            let mut lost = None;
+            for part in begin..end {
+                if part > begin {
+                    batch.run(places[part - 1], places[part], &mut record)?;
+                }
+                if !self.is_held(&record) {
+                    lost = Some(places[part]);
+                }
+            }
+            if lost.is_some() {
+                return Ok(lost);
+            }
+            (end, length) = (begin, 2 * length);
+        }
+        Ok(None)
+    }
+
+    /// The first command from a place of a range on that gives the right, which is not held there.
+    fn first_after(
+        &mut self,
+        batch: &mut Batch,
+        from: usize,
+        at: usize,
+        to: usize,
+    ) -> Result<Option<Origin>, u64> {
+        let Asked { login, over, right } = self.asked;
+        let (record, column) = (self.after(batch, from, at)?, column_of(over));
+        let list = batch.list(at, to);
+        let first = first_held(&record, list, login, column, right, &mut self.copy);
+        let first = first.ok().flatten().filter(|commands| *commands > 0);
+        Ok(first.map(|commands| {
+            let last = at + commands as usize - 1;
+            Origin::Command {
+                place: batch.place(last),
+                command: batch.command(last),
+            }
+        }))
+    }
+
+    /// The places after the commands of a range that may take the right from its holder. Only these codes clear a bit, and no command changes one
+    /// that it does not name: so it names the holder's cell, or the column as one that is transferred or destroyed, or destroys the holder.
+    fn that_take(&self, batch: &Batch, from: usize, to: usize) -> Vec<usize> {
         let Asked { login, over, .. } = self.asked;
         let column = column_of(over);
         let takes = |bytes: &[u8]| {
             let c = listed_command(bytes);
             match c.code {
-                code::CREATE_SUBJECT | code::DESTROY_SUBJECT => c.s == column || c.s == login,
-                code::TRANSFER_OWN | code::CREATE_OBJECT | code::DESTROY_OBJECT => c.o == column,
-                _ => c.s == login && c.o == column,
+                code::DESTROY_SUBJECT => c.s == column || c.s == login,
+                code::TRANSFER_OWN | code::DESTROY_OBJECT => c.o == column,
+                code::DELETE | code::DELETE_STARRED => c.s == login && c.o == column,
+                _ => false,
             }
         };
-        let mut commands = batch.commands(at, to).chunks_exact(6);
-        commands.position(takes).map_or(to, |place| at + place + 1)
+        let commands = (from + 1..).zip(batch.commands(from, to).chunks_exact(6));
+        let taking = commands.filter(|(_, bytes)| takes(bytes));
+        taking.map(|(place, _)| place).collect()
     }
 
     fn is_held(&self, record: &[u8]) -> bool {
