@@ -7,16 +7,9 @@
 #include <string.h>
 
 #include "bunvespo.h"
+#include "station_a.h"
 
-/* Station A: U owns subject 1, subject 1 owns subject 2, and subject 2 owns log 3. */
-static const uint8_t narrow[31] = {
-    1, 0, 0, 0, 0x1A, 3, 1, /* version, L, n, p */
-    0, 2, 0, 1, 0, 0, 0, 0, /* row 0 */
-    0, 0, 0, 2, 0, 1, 0, 0, /* row 1 */
-    0, 0, 0, 0, 0, 2, 0, 1, /* row 2 */
-};
-
-/* The same in version 2. */
+/* Station A in version 2. */
 static const uint8_t wide[55] = {
     2, 0, 0, 0, 0x32, 3, 1,                         /* version, L, n, p */
     0, 0, 0, 2, 0, 0, 0, 1, 0, 0, 0, 0, 0, 0, 0, 0, /* row 0 */
@@ -65,10 +58,10 @@ static int is_written(conversion convert, const uint8_t *record, size_t length, 
 static void test_lengths(const uint8_t *record, size_t length)
 {
     for (size_t room = 0; room <= 64; room++) {
-        if (room < sizeof narrow)
+        if (room < sizeof station_a)
             expect("to version 1, short", is_refused(bunvespo_to_version_1, record, length, room, BUNVESPO_REFUSED_BUFFER_SHORT));
         else
-            expect("to version 1", is_written(bunvespo_to_version_1, record, length, room, narrow, sizeof narrow));
+            expect("to version 1", is_written(bunvespo_to_version_1, record, length, room, station_a, sizeof station_a));
         if (room < sizeof wide)
             expect("to version 2, short", is_refused(bunvespo_to_version_2, record, length, room, BUNVESPO_REFUSED_BUFFER_SHORT));
         else
@@ -87,8 +80,8 @@ static void test_high_right(int k, uint64_t code, uint64_t right)
     for (size_t room = 0; room <= 64; room++)
         expect("18", is_refused(bunvespo_to_version_1, record, sizeof record, room, BUNVESPO_REFUSED_HIGH_RIGHT));
     expect("a copy", is_written(bunvespo_to_version_2, record, sizeof record, sizeof record, record, sizeof record));
-    uint8_t first[sizeof narrow];
-    memcpy(first, narrow, sizeof first);
+    uint8_t first[sizeof station_a];
+    memcpy(first, station_a, sizeof first);
     expect("7 at version 1", bunvespo_command(first, sizeof first, code, 2, 0, 3, (uint64_t)k).refusal == BUNVESPO_REFUSED_BOUNDS);
     expect("7 at version 1, held", bunvespo_held(first, sizeof first, 0, 3, right).refusal == BUNVESPO_REFUSED_BOUNDS);
 }
@@ -126,13 +119,13 @@ static void test_refused(conversion convert)
 
 int main(void)
 {
-    test_lengths(narrow, sizeof narrow);
+    test_lengths(station_a, sizeof station_a);
     test_lengths(wide, sizeof wide);
     for (int k = 7; k <= 14; k++) {
         test_high_right(k, BUNVESPO_GRANT, BUNVESPO_PLAIN(k));
         test_high_right(k, BUNVESPO_GRANT_STARRED, BUNVESPO_STARRED(k));
     }
-    test_owner(narrow, sizeof narrow, 16);
+    test_owner(station_a, sizeof station_a, 16);
     test_owner(wide, sizeof wide, 32);
     test_refused(bunvespo_to_version_1);
     test_refused(bunvespo_to_version_2);

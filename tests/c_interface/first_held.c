@@ -6,14 +6,7 @@
 #include <string.h>
 
 #include "bunvespo.h"
-
-/* Station A: U owns subject 1, subject 1 owns subject 2, and subject 2 owns log 3. */
-static const uint8_t narrow[31] = {
-    1, 0, 0, 0, 0x1A, 3, 1, /* version, L, n, p */
-    0, 2, 0, 1, 0, 0, 0, 0, /* row 0 */
-    0, 0, 0, 2, 0, 1, 0, 0, /* row 1 */
-    0, 0, 0, 0, 0, 2, 0, 1, /* row 2 */
-};
+#include "station_a.h"
 
 /* Subject 2 gives subject 1 r0 over the log and U r1*, takes r0 again, and gives it once more. All are accepted. */
 static const uint8_t accepted[29] = {
@@ -136,12 +129,12 @@ static void test_record(const uint8_t *record, size_t length)
 int main(void)
 {
     uint8_t wide[55];
-    failures += bunvespo_to_version_2(narrow, sizeof narrow, wide, sizeof wide).refusal != BUNVESPO_ANSWERED;
-    test_answers(narrow, sizeof narrow);
+    failures += bunvespo_to_version_2(station_a, sizeof station_a, wide, sizeof wide).refusal != BUNVESPO_ANSWERED;
+    test_answers(station_a, sizeof station_a);
     test_answers(wide, sizeof wide);
-    test_order(narrow, sizeof narrow, 16);
+    test_order(station_a, sizeof station_a, 16);
     test_order(wide, sizeof wide, 32);
-    test_record(narrow, sizeof narrow);
+    test_record(station_a, sizeof station_a);
     test_record(wide, sizeof wide);
     return failures != 0;
 }

@@ -6,10 +6,7 @@
 #include <string.h>
 
 #include "bunvespo.h"
-
-static const uint8_t station_a[31] = {
-    1, 0, 0, 0, 0x1A, 3, 1, 0, 2, 0, 1, 0, 0, 0, 0, 0, 0, 0, 2, 0, 1, 0, 0, 0, 0, 0, 0, 0, 2, 0, 1,
-};
+#include "station_a.h"
 
 static int failures = 0;
 

@@ -21,8 +21,9 @@ pub record NotAbove (most : Limits) (b : List ℕ) : Type 0 where
   pub plain : shapeOf b .p ≤ most .plain
 
 -- Every call on a record is the same under two limits: its answer, also in numbers, and the bytes after it. The safety question's answer is any
--- that the definition allows, so that what is allowed, with the buffer after it, is the same; what is left of a lent copy has no limits (`Lent`). A C call's numbers and the program's answer are made
--- of these answers alone (`AnswersNumbers`, `AnswersInput`). A window's calls have no limits in their definitions.
+-- that the definition allows, so that what is allowed, with the buffer after it, is the same. A C call's numbers and the program's answer are made
+-- of these answers alone (`AnswersNumbers`, `AnswersInput`). What is left of a lent copy (`Lent`), and a window's calls, have no limits in their
+-- definitions.
 pub record SameCalls (most other : Limits) (b : List ℕ) : Type 0 where
   pub valid : validAnswer most b ≡ validAnswer other b
   pub held : (s o right : ℕ) → heldAnswer most b s o right ≡ heldAnswer other b s o right

@@ -35,7 +35,7 @@ next-command l j m h =
     ap (λ (k : ℕ). commandsFrom l j k) e ∙ ap (λ (i : ℕ). fieldsAt l (commandPlace j) ∷ commandsFrom l i (m - (j + 1))) f
 
 module _ (f : Shape) (S : State) (c : Fields) (cs : List Fields) (j : ℕ) where
-  run-accepts : refusalOn f S c ≡ 0 → runFrom j f S (c ∷ cs) ≡ runFrom (j + 1) f (nextOn f S c) cs
+  pub run-accepts : refusalOn f S c ≡ 0 → runFrom j f S (c ∷ cs) ≡ runFrom (j + 1) f (nextOn f S c) cs
   unfolding runFrom
   run-accepts h = rw h refl
 
@@ -108,10 +108,6 @@ pub reached-as : {A : Type 0} {end : ℕ → State → List Fields → A} {b₀ 
 reached-as e h = rw e h
 
 -- ---- a run
-
--- an accepted command of a run
-pub ran-more : (b₀ : List ℕ) (S : State) (c : Fields) (j : ℕ) (cs : List Fields) → refusalOn (shapeOf b₀) S c ≡ 0 → ranFrom b₀ j S (c ∷ cs) ≡ ranFrom b₀ (j + 1) (nextOn (shapeOf b₀) S c) cs
-ran-more b₀ S c j cs z = run-accepts (shapeOf b₀) S c cs j z
 
 module _ {b₀ b b′ l : List ℕ} {f : Shape} {m j : ℕ} {c : Fields} {r : Answer} (h : Reached (ranFrom b₀) b₀ b l f m j) (more : j < m) (read : c ≡ fieldsAt l (commandPlace j)) (w : Answered b b′ c r) where
   pub ran-refused : {x k number : ℕ} → r ≡ Refused k x → number ≡ commandNumbers r .refusal → RunOn b₀ b′ l (record { accepted = j; refusal = number })

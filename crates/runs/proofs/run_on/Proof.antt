@@ -8,7 +8,7 @@ use Rattle.matrix.specs.Shape.{mostSubjects}
 use Rattle.matrix.specs.CommandList.{commandsIn}
 use Rattle.reader.specs.Left.{yields-command, yields-end}
 use Rattle.runs.specs.Reached.{Reached, ranFrom}
-use Rattle.runs.specs.Steps.{reached-none, reached-more, reached-as, ran-more, ran-refused, ran-all, counted-as}
+use Rattle.runs.specs.Steps.{reached-none, reached-more, reached-as, run-accepts, ran-refused, ran-all, counted-as}
 use Rattle.runs.proofs.run_on.Statement.{statement}
 use Rattle.runs.proofs.run_on.Tie as tie
 
@@ -66,7 +66,7 @@ loop-less c =
 loop-again : tie.Need-loop-again Inv-loop μ-loop
 loop-again c =
     let y = yields-command _ _ (sym (c .before .before .before .before .before .before .before .before .c .given .1) ∙ c .before .before .before .before .before .before .before .before .before .before .read-one .ensures) in
-    (ap (λ (k : ℕ). k + 1) (c .before .before .before .before .before .before .before .before .before .before .before .loop .inv .0) ∙ sym (y .moved), reached-as (y .moved) (reached-more (c .before .before .before .before .before .before .before .before .before .before .before .loop .inv .1) (y .more) (y .fields) (c .before .before .before .before .command-in-list .ensures .0) (ran-more _ _ _ _) (c .enum-told2 .given .1)), c .before .before .before .before .command-in-list .ensures .1)
+    (ap (λ (k : ℕ). k + 1) (c .before .before .before .before .before .before .before .before .before .before .before .loop .inv .0) ∙ sym (y .moved), reached-as (y .moved) (reached-more (c .before .before .before .before .before .before .before .before .before .before .before .loop .inv .1) (y .more) (y .fields) (c .before .before .before .before .command-in-list .ensures .0) (λ cs z. run-accepts _ _ _ cs _ z) (c .enum-told2 .given .1)), c .before .before .before .before .command-in-list .ensures .1)
 
 same-length-2 : tie.Need-same-length-2 Inv-loop μ-loop
 same-length-2 c = c .before .before .before .loop .inv .1 .size

@@ -41,7 +41,7 @@ impl Seen {
             let Some(file) = history.open(false)? else {
                 let name = &history.name;
                 return no_answer(format!(
-                    "{} has no history: there is no file {name}, which the next run begins",
+                    "{} has no history: there is no file {name}; a run on the record begins one",
                     called(path)
                 ));
             };
