@@ -1,4 +1,2 @@
 pub mod Station
 pub mod Places
-pub mod Rows
-pub mod Blocks

@@ -1,9 +1,9 @@
 -- Where the cells of a record stand, in numbers: what the code computes is what the definitions say. That a cell has two bytes or four is known
 -- here, where they are read and stored.
 use Prim.Native.Nat.{ℕ, suc, _+_, _-_, _*_, _/_, _%_, _^_, _≤_, _<_}
-use native.Mathlib.Nat.{zero-add, le-trans, mul-le-mul, mul-le-mul-right}
+use native.Mathlib.Nat.{le-trans, mul-le-mul, mul-le-mul-right}
 use native.Mathlib.Omega.{arith}
-use mathlib.Core.Path.{_≡_, sym, _∙_, ap, ap₂, subst}
+use mathlib.Core.Path.{_≡_, sym, _∙_, ap, subst}
 use mathlib.Core.Logic.{⊎-elim}
 use mathlib.Core.Bool.{Bool}
 use mathlib.Core.List.{List}
@@ -35,13 +35,6 @@ low-byte : (j high low : ℕ) → j < 8 → bit j (high * 256 + low) ≡ bit j l
 low-byte j high low h =
     let e : suc (7 - j) + j ≡ 8 = omega arith in
     subst (λ (m : ℕ). bit j (high * 2 ^ m + low) ≡ bit j low) e (bit-low j (7 - j) high low)
-
--- a column's cells stand a row apart: the place `at` that is come to from the first row's, row by row
-pub low-apart : (f : Shape) (r i c : ℕ) → lowPlace f r c + i * rowBytes f ≡ lowPlace f (r + i) c
-low-apart f r i c = omega arith
-
-pub low-reached : {at from stride : ℕ} (f : Shape) (r c : ℕ) → from ≡ lowPlace f 0 c → stride ≡ rowBytes f → at ≡ from + r * stride → at ≡ lowPlace f r c
-low-reached f r c e g h = h ∙ ap₂ (λ (x y : ℕ). x + r * y) e g ∙ low-apart f 0 r c ∙ ap (λ (i : ℕ). lowPlace f i c) (zero-add r)
 
 -- a cell that has not two bytes has four
 pub not-two : {b : List ℕ} {f : Shape} → Station b f → (f .width ≡ 2 → ⊥) → f .width ≡ 4

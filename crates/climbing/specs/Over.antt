@@ -19,7 +19,7 @@ use Rattle.matrix.specs.Reading.{stateOf}
 use Rattle.laws.specs.Tests.{way, fails}
 use Rattle.laws.specs.Bounded.{none-any, least-hit, least-none, least-passes}
 use Rattle.cells.specs.Station.{Station}
-use Rattle.cells.specs.Blocks.{blockHas, blocks-clear}
+use Rattle.row_search.specs.Blocks.{blockHas, blocks-clear}
 use Rattle.states.specs.Needs.{NameIn, Guessed}
 use Rattle.states.specs.Reads.{top-is, read-bit, owner-guessed}
 use Rattle.chain.specs.Rising.{riseIn}

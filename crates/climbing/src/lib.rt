@@ -139,7 +139,7 @@ fn way_over_plain(
     ensures { λ r. ⌜ Climbs (now (b .entry)) (f .n) (trustedBy trust) (Name.Plain o) (now (path .exit)) r ⌝ }
 {
     let n = f.n;
-    let first = 4 * cells::first_block(b, f, o, 0);
+    let first = 4 * row_search::first_block(b, f, o, 0);
     let mut closed: u64 = 0;
     for w in first..n {
         let r = owner_rise(b, f, trust, Name::Plain(o), w, owners, &mut closed, path);

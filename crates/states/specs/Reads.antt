@@ -31,7 +31,7 @@ use Rattle.codec.specs.ShapeRight.{ShapeRight, width-some, bits-most}
 use Rattle.codec.specs.Update.{has-state, bitAt-named, bit-named}
 use Rattle.owners.specs.Framed.{valid-framed, owner-same}
 use Rattle.cells.specs.Station.{Station, right-shape}
-use Rattle.cells.specs.Rows.{rowHas}
+use Rattle.row_search.specs.Rows.{rowHas}
 use Rattle.states.specs.Needs.{RightIn, NameIn, Guessed}
 
 -- the code of a right of a shape is one of a cell's bits, and so a small number

@@ -96,7 +96,7 @@ pub fn name_exists(b: &[u8], f: Shape, x: Name) -> bool
 {
     match x {
         Name::Subject(s) => subject_exists(b, f, s),
-        Name::Plain(o) => cells::some_row(b, f, o, 0, f.n),
+        Name::Plain(o) => row_search::some_row(b, f, o, 0, f.n),
     }
 }
 
@@ -125,7 +125,7 @@ pub fn controlled(b: &[u8], f: Shape, o: usize) -> bool
     requires { ⌜ Station (now b) f × (o < f .n) ⌝ }
     ensures { λ t. ⌜ t ≡ otherController (stateOf (now (b .entry))) (Name.Subject o) ⌝ }
 {
-    cells::some_row(b, f, o, 1, o)
+    row_search::some_row(b, f, o, 1, o)
 }
 
 // The owner of subject v in a valid record, or n if it has none. The byte of v in the table `owners` is only a guess: it counts where that
@@ -141,7 +141,7 @@ pub fn owner_of(b: &[u8], f: Shape, owners: &[u8; MOST_SUBJECTS], v: usize) -> u
             return w;
         }
     }
-    cells::first_row(b, f, v, 0)
+    row_search::first_row(b, f, v, 0)
 }
 
 // The owner walk from subject s for subject o in a valid record, with guesses of who owns each subject.

@@ -11,7 +11,7 @@ use Rattle.matrix.specs.Bounded.{any}
 use Rattle.matrix.specs.Shape.{mostSubjects}
 use Rattle.matrix.specs.Reading.{stateOf}
 use Rattle.laws.specs.Bounded.{any-miss}
-use Rattle.cells.specs.Blocks.{blockHas}
+use Rattle.row_search.specs.Blocks.{blockHas}
 use Rattle.states.specs.Reads.{named-plain}
 use Rattle.question.specs.Trust.{trustedBy}
 use Rattle.ways.specs.Ways.{riser}

@@ -1,9 +1,9 @@
--- `cells::unless_skipped` meets its contract.
+-- `row_search::unless_skipped` meets its contract.
 use mathlib.Core.Path.{sym, ap}
 use mathlib.Core.Bool.{Bool, cond}
 use borrow.Author.Tests.{eq-eqb, ne-eqb}
-use Rattle.cells.proofs.unless_skipped.Statement.{statement}
-use Rattle.cells.proofs.unless_skipped.Tie as tie
+use Rattle.row_search.proofs.unless_skipped.Statement.{statement}
+use Rattle.row_search.proofs.unless_skipped.Tie as tie
 
 returns : tie.Need-returns
 returns c = sym (ap (λ (t : Bool). cond t 0 (c .before .args .v)) (eq-eqb _ _ (c .if1 .taken)))

@@ -1,4 +1,4 @@
--- `cells::first_row` meets its contract. The loop's invariant: no row below r passes the test, and `at` is r rows after the first row's place.
+-- `row_search::first_row` meets its contract. The loop's invariant: no row below r passes the test, and `at` is r rows after the first row's place.
 use borrow.Author.Needs.{needs}
 use Prim.Native.Nat.{ℕ, _+_, _-_, _*_, _≤_}
 use native.Mathlib.Numerals.{add-one}
@@ -8,11 +8,11 @@ use mathlib.Core.Path.{_≡_, refl, sym, _∙_, subst}
 use mathlib.Core.Bool.{false}
 use Rattle.matrix.specs.Bounded.{any}
 use Rattle.laws.specs.Bounded.{any-miss, least-hit, least-none}
 use Rattle.cells.specs.Station.{right-shape}
-use Rattle.cells.specs.Places.{lowPlace, low-reached}
-use Rattle.cells.specs.Rows.{rowHas, row-tested, row-within}
-use Rattle.cells.proofs.first_row.Statement.{statement}
-use Rattle.cells.proofs.first_row.Tie as tie
+use Rattle.cells.specs.Places.{lowPlace}
+use Rattle.row_search.specs.Rows.{low-reached, rowHas, row-tested, row-within}
+use Rattle.row_search.proofs.first_row.Statement.{statement}
+use Rattle.row_search.proofs.first_row.Tie as tie
 
 abbrev Inv-loop : tie.InvT-loop
 Inv-loop b c j n stride at₀ r₀ at r = (r ≤ n) × (at ≡ at₀ + r * stride) × (any r (rowHas b c j n) ≡ false)

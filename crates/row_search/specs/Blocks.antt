@@ -12,8 +12,9 @@ use Rattle.matrix.specs.Bytes.{bit}
 use Rattle.matrix.specs.Reading.{cellAt}
 use Rattle.laws.specs.BitOps.{bit-or}
 use Rattle.laws.specs.Bounded.{any-none, any-same}
 use Rattle.cells.specs.Station.{Station}
-use Rattle.cells.specs.Places.{rowBytes, lowPlace, low-apart, low-bit}
+use Rattle.cells.specs.Places.{rowBytes, lowPlace, low-bit}
+use Rattle.row_search.specs.Rows.{low-apart}
 
 -- one of the four rows of block q has bit j in column c
 unfoldable pub blockHas : List ℕ → ℕ → ℕ → ℕ → Bool

@@ -1,13 +1,13 @@
--- `cells::one_of_four` meets its contract: the four bytes are joined, and a bit of what is joined is that of one of them.
+-- `row_search::one_of_four` meets its contract: the four bytes are joined, and a bit of what is joined is that of one of them.
 use borrow.Author.Needs.{needs}
 use Prim.Native.Nat.{ℕ, _+_, _*_, _^_, _<_}
 use native.Mathlib.Omega.{arith}
 use mathlib.Core.Path.{_∙_}
 use lib.Bits.{or-lt}
 use lib.ListN.{getD}
-use Rattle.cells.specs.Blocks.{one-joined}
-use Rattle.cells.proofs.one_of_four.Statement.{statement}
-use Rattle.cells.proofs.one_of_four.Tie as tie
+use Rattle.row_search.specs.Blocks.{one-joined}
+use Rattle.row_search.proofs.one_of_four.Statement.{statement}
+use Rattle.row_search.proofs.one_of_four.Tie as tie
 
 shared-slice-read-all : tie.Need-shared-slice-read-all
 shared-slice-read-all c = search needs

@@ -1,5 +1,6 @@
--- The test that the search over the rows of a column makes.
-use Prim.Native.Nat.{ℕ, _+_, _-_, _≤_, _<_}
+-- The places in a column and the test that the search over its rows makes.
+use Prim.Native.Nat.{ℕ, _+_, _-_, _*_, _≤_, _<_}
+use native.Mathlib.Nat.{zero-add}
 use native.Mathlib.Numerals.{add-one}
 use native.Mathlib.Omega.{arith}
 use mathlib.Core.Path.{_≡_, refl, sym, _∙_, ap, ap₂}
@@ -19,8 +20,15 @@ use Rattle.laws.specs.BitOps.{bit-or}
 use Rattle.laws.specs.Tests.{way}
 use Rattle.codec.specs.Bits.{bit-zero}
 use Rattle.codec.specs.ShapeRight.{ShapeRight, mostBytes, width-some}
 use Rattle.cells.specs.Station.{Station, right-shape}
 use Rattle.cells.specs.Places.{rowBytes, lowPlace, row-small, place-small, place-below, low-bit}
+
+-- a column's cells stand a row apart: the place `at` that is come to from the first row's, row by row
+pub low-apart : (f : Shape) (r i c : ℕ) → lowPlace f r c + i * rowBytes f ≡ lowPlace f (r + i) c
+low-apart f r i c = omega arith
+
+pub low-reached : {at from stride : ℕ} (f : Shape) (r c : ℕ) → from ≡ lowPlace f 0 c → stride ≡ rowBytes f → at ≡ from + r * stride → at ≡ lowPlace f r c
+low-reached f r c e g h = h ∙ ap₂ (λ (x y : ℕ). x + r * y) e g ∙ low-apart f 0 r c ∙ ap (λ (i : ℕ). lowPlace f i c) (zero-add r)
 
 -- row r is not `skip`, and has bit j in column c
 unfoldable pub rowHas : List ℕ → ℕ → ℕ → ℕ → ℕ → Bool

@@ -1,4 +1,4 @@
--- `cells::some_row` meets its contract. The loop's invariant: bit j is seen where a row below r passes the test, and `low` is r rows after the
+-- `row_search::some_row` meets its contract. The loop's invariant: bit j is seen where a row below r passes the test, and `low` is r rows after the
 -- first row's place.
 use borrow.Author.Needs.{needs}
 use Prim.Native.Nat.{ℕ, _+_, _-_, _*_, _≤_}
@@ -8,11 +8,11 @@ use mathlib.Core.Path.{_≡_, _∙_, ap}
 use Rattle.matrix.specs.Bounded.{any}
 use Rattle.matrix.specs.Bytes.{bit}
 use Rattle.codec.specs.Bits.{bit-zero}
 use Rattle.cells.specs.Station.{right-shape}
-use Rattle.cells.specs.Places.{lowPlace, low-reached}
-use Rattle.cells.specs.Rows.{rowHas, row-joined, row-within}
-use Rattle.cells.proofs.some_row.Statement.{statement}
-use Rattle.cells.proofs.some_row.Tie as tie
+use Rattle.cells.specs.Places.{lowPlace}
+use Rattle.row_search.specs.Rows.{low-reached, rowHas, row-joined, row-within}
+use Rattle.row_search.proofs.some_row.Statement.{statement}
+use Rattle.row_search.proofs.some_row.Tie as tie
 
 abbrev Inv-loop : tie.InvT-loop
 Inv-loop b c j skip n stride low₀ seen₀ r₀ low seen r = (r ≤ n) × (low ≡ low₀ + r * stride) × (bit j seen ≡ any r (rowHas b c j skip))

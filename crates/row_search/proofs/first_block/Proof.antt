@@ -1,4 +1,4 @@
--- `cells::first_block` meets its contract. The loop's invariant: no block below q has the bit, and `low` is 4 q rows after the first row's place.
+-- `row_search::first_block` meets its contract. The loop's invariant: no block below q has the bit, and `low` is 4 q rows after the first row's place.
 use borrow.Author.Needs.{needs}
 use Prim.Native.Nat.{ℕ, _+_, _-_, _*_, _/_, _≤_, _<_}
 use native.Mathlib.Numerals.{add-one}
@@ -10,12 +10,12 @@ use lib.ListN.{getD}
 use Rattle.matrix.specs.Bounded.{any}
 use Rattle.matrix.specs.Bytes.{bit}
 use Rattle.laws.specs.Bounded.{any-miss, least-hit, least-none}
 use Rattle.cells.specs.Station.{right-shape}
-use Rattle.cells.specs.Places.{lowPlace, low-apart, low-reached, row-small}
-use Rattle.cells.specs.Rows.{row-within}
-use Rattle.cells.specs.Blocks.{blockHas, block-tested}
-use Rattle.cells.proofs.first_block.Statement.{statement}
-use Rattle.cells.proofs.first_block.Tie as tie
+use Rattle.cells.specs.Places.{lowPlace, row-small}
+use Rattle.row_search.specs.Rows.{low-apart, low-reached, row-within}
+use Rattle.row_search.specs.Blocks.{blockHas, block-tested}
+use Rattle.row_search.proofs.first_block.Statement.{statement}
+use Rattle.row_search.proofs.first_block.Tie as tie
 
 abbrev Inv-loop : tie.InvT-loop
 Inv-loop b c j stride blocks low₀ q₀ low q = (q ≤ blocks) × (low ≡ low₀ + 4 * q * stride) × (any q (blockHas b c j) ≡ false)

@@ -1,9 +1,9 @@
--- `cells::low_place` meets its contract.
+-- `row_search::low_place` meets its contract.
 use borrow.Author.Needs.{needs}
 use native.Mathlib.Omega.{arith}
 use Rattle.cells.specs.Places.{place-small}
-use Rattle.cells.proofs.low_place.Statement.{statement}
-use Rattle.cells.proofs.low_place.Tie as tie
+use Rattle.row_search.proofs.low_place.Statement.{statement}
+use Rattle.row_search.proofs.low_place.Tie as tie
 
 place-requires : tie.Need-place-requires
 place-requires c κs = search needs
