@@ -1,39 +1,23 @@
--- What the searches for a way up answer.
-use Prim.Native.Nat.{ℕ, _<_}
+-- What the searches for a way over a name answer.
+use Prim.Native.Nat.{ℕ}
 use mathlib.Core.Path.{_≡_}
 use mathlib.Core.Bool.{Bool, true, false}
 use mathlib.Core.List.{List, []}
-use lib.ListN.{length, getD}
+use lib.ListN.{length}
 use Rattle.matrix.specs.declared.Name.{Name}
 use Rattle.matrix.specs.Shape.{mostSubjects}
 use Rattle.matrix.specs.Reading.{stateOf}
-use Rattle.route.specs.Rise.{Risen, meets-at, none}
 use Rattle.chain.specs.Rising.{riseIn}
 use Rattle.ways.specs.Ways.{Way, from-above, no-way, riser, risenOver, wayOver}
 use Rattle.ways.specs.Path.{listed}
-use Rattle.climbing.specs.declared.Climbed.{Climbed}
-use Rattle.climbing.specs.declared.Climbed.the-variants.{At, None}
+use Rattle.rising.specs.declared.Climbed.{Climbed}
+use Rattle.rising.specs.declared.Climbed.the-variants.{At, None}
+use Rattle.rising.specs.Rises.{risenTo, Found}
 
--- an answer of m subjects passed, which are the first m of a path: as a way up, and as a way
-abbrev pub risenTo : List ℕ → Climbed → Risen
-risenTo path (At v m) = meets-at v (listed path m)
-risenTo path None = none
-
+-- an answer of m subjects passed, which are the first m of a path, as a way
 abbrev pub climbedTo : List ℕ → Climbed → Way
 climbedTo path (At v m) = from-above v (listed path m)
 climbedTo path None = no-way
-
--- what is met is a subject of the record, and so are those passed, which are fewer than the record's subjects
-pub record Found (n : ℕ) (path : List ℕ) (r : Climbed) : Type 0 where
-  pub subject : (v m : ℕ) → r ≡ At v m → v < n
-  pub passed : (v m : ℕ) → r ≡ At v m → m < n
-  pub entries : (v m : ℕ) → r ≡ At v m → (j : ℕ) → j < m → getD path j 0 < n
-
--- the answer to the way up from subject w
-pub record Rises (b : List ℕ) (n : ℕ) (trusted : ℕ → Bool) (w : ℕ) (path : List ℕ) (r : Climbed) : Type 0 where
-  pub risen : riseIn (stateOf b) trusted (stateOf b .top) w [] ≡ risenTo path r
-  pub size : length path ≡ mostSubjects
-  pub found : Found n path r
 
 -- the answer to the way up from subject w, where that owns x
 pub record OwnerRises (b : List ℕ) (n : ℕ) (trusted : ℕ → Bool) (x : Name) (w : ℕ) (path : List ℕ) (r : Climbed) : Type 0 where

@@ -18,10 +18,11 @@ use Rattle.laws.specs.Tests.{way}
 use Rattle.route.specs.Parts.{untilOwner}
 use Rattle.ways.specs.Ways.{from-above, wayUp}
 use Rattle.ways.specs.Path.{listed}
-use Rattle.climbing.specs.declared.Climbed.{Climbed}
-use Rattle.climbing.specs.declared.Climbed.the-variants.{At, None}
-use Rattle.climbing.specs.Climbs.{risenTo, climbedTo, Found, Climbs, Leads}
-use Rattle.climbing.specs.Rising.{found-by, found-none}
+use Rattle.rising.specs.declared.Climbed.{Climbed}
+use Rattle.rising.specs.declared.Climbed.the-variants.{At, None}
+use Rattle.rising.specs.Rises.{risenTo, Found}
+use Rattle.rising.specs.Rising.{found-by, found-none}
+use Rattle.climbing.specs.Climbs.{climbedTo, Climbs, Leads}
 
 -- the first m of a path are subjects of the record
 pub record Passes (path : List ℕ) (n m : ℕ) : Type 0 where

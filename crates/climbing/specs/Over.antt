@@ -22,13 +22,14 @@ use Rattle.cells.specs.Station.{Station}
 use Rattle.row_search.specs.Blocks.{blockHas, blocks-clear}
 use Rattle.states.specs.Needs.{NameIn, Guessed}
 use Rattle.states.specs.Reads.{top-is, read-bit, owner-guessed}
+use Rattle.masks.specs.Lowest.{least-before, least-most}
 use Rattle.chain.specs.Rising.{riseIn}
 use Rattle.ways.specs.Ways.{riser, wayUp, risenOver}
-use Rattle.climbing.specs.declared.Climbed.{Climbed}
-use Rattle.climbing.specs.declared.Climbed.the-variants.{At, None}
-use Rattle.climbing.specs.Climbs.{risenTo, climbedTo, Rises, OwnerRises, Climbs, Leads}
-use Rattle.climbing.specs.Rising.{found-none}
-use Rattle.climbing.specs.Lowest.{least-before, least-most}
+use Rattle.rising.specs.declared.Climbed.{Climbed}
+use Rattle.rising.specs.declared.Climbed.the-variants.{At, None}
+use Rattle.rising.specs.Rises.{risenTo, Rises}
+use Rattle.rising.specs.Rising.{found-none}
+use Rattle.climbing.specs.Climbs.{climbedTo, OwnerRises, Climbs, Leads}
 
 -- ---- one owner
 

@@ -1,6 +1,7 @@
 pub mod Marks
 pub mod Digits
 pub mod Searches
+pub mod Lowest
 pub mod Counts
 pub mod Existing
 pub mod Untrusted

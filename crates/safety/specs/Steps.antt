@@ -19,8 +19,8 @@ use Rattle.question.specs.declared.Safety.the-variants.{Leaks}
 use Rattle.safe.specs.Possible.{possible}
 use Rattle.ways.specs.Ways.{Way, held-now, by-star, by-creation, from-above, no-way, starHolder, untrustedIn, wayOver, wayMade, wayOf}
 use Rattle.writing.specs.Put.{putAll, putHead, putList}
-use Rattle.climbing.specs.declared.Climbed.{Climbed}
-use Rattle.climbing.specs.declared.Climbed.the-variants.{At}
+use Rattle.rising.specs.declared.Climbed.{Climbed}
+use Rattle.rising.specs.declared.Climbed.the-variants.{At}
 use Rattle.climbing.specs.Climbs.{Leads, climbedTo}
 use Rattle.ways.specs.Path.{listed}
 use Rattle.told.specs.Told.{Told}

@@ -1,6 +1,5 @@
 // The safety question: the way by which a right can come to be held is searched, and its list is written.
 
-use climbing::Climbed;
 use matrix::LIST_HEAD;
 use matrix::MOST_SUBJECTS;
 use matrix::Name;
@@ -8,6 +7,7 @@ use matrix::RECORD_BYTES;
 use matrix::Right;
 use matrix::Shape;
 use question::Safety;
+use rising::Climbed;
 ghost use mathlib.Core.Path.{_≡_};
 ghost use mathlib.Core.Bool.{true, false, not, _&&_, _||_};
 ghost use Prim.Native.Nat.{_≤_, _<_};
@@ -107,7 +107,7 @@ fn from_above(
         return leaks(out, j);
     }
     let absent = gone(b, f, s, path, m);
-    let again = climbing::again_needed(b, f, owners, s, x, y);
+    let again = targets::again_needed(b, f, owners, s, x, y);
     let k = telling::put_finish(out, j, v, s, x, y, absent, again);
     leaks(out, k)
 }
@@ -162,10 +162,10 @@ fn decide(
     ensures { λ r. ⌜ Told (stateOf (now (b .entry))) s x y (wayOf (stateOf (now (b .entry))) (trustedBy trust) s x y) (now (out .entry)) (now (out .exit)) r ⌝ }
 {
     let n = f.n;
-    if !climbing::is_possible(s, x, y) {
+    if !targets::is_possible(s, x, y) {
         return Safety::Safe;
     }
-    let i = climbing::star_holder(b, f, trust, y, x);
+    let i = targets::star_holder(b, f, trust, y, x);
     if i < n {
         return by_star(b, f, i, s, x, y, out);
     }

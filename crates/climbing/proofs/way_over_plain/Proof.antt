@@ -15,8 +15,8 @@ use Rattle.row_search.specs.Blocks.{blockHas}
 use Rattle.states.specs.Reads.{named-plain}
 use Rattle.question.specs.Trust.{trustedBy}
 use Rattle.ways.specs.Ways.{riser}
-use Rattle.climbing.specs.Shut.{ShutAll, shut-none}
-use Rattle.climbing.specs.Lowest.{least-most, none-lower}
+use Rattle.rising.specs.Shut.{ShutAll, shut-none}
+use Rattle.masks.specs.Lowest.{least-most, none-lower}
 use Rattle.climbing.specs.Over.{climbs-met, climbs-none, unowned}
 use Rattle.climbing.proofs.way_over_plain.Statement.{statement}
 use Rattle.climbing.proofs.way_over_plain.Tie as tie

@@ -1,7 +1,7 @@
 -- `climbing::way_over_subject` meets its contract: nobody but its owner owns v.
 use borrow.Author.Needs.{needs}
 use Rattle.question.specs.Trust.{trustedBy}
-use Rattle.climbing.specs.Shut.{shut-none}
+use Rattle.rising.specs.Shut.{shut-none}
 use Rattle.climbing.specs.Over.{subject-lost, subject-rises}
 use Rattle.climbing.proofs.way_over_subject.Statement.{statement}
 use Rattle.climbing.proofs.way_over_subject.Tie as tie

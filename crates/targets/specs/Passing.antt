@@ -11,7 +11,7 @@ use Rattle.matrix.specs.Bytes.{bit}
 use Rattle.laws.specs.Tests.{way, clash, or-cases, or-none-left, or-none-right}
 use Rattle.laws.specs.Bounded.{any-none, none-any, least-hit, least-none, least-passes}
 use Rattle.masks.specs.Marks.{maskBits, Added}
-use Rattle.climbing.specs.Lowest.{least-before, none-lower}
+use Rattle.masks.specs.Lowest.{least-before, none-lower}
 
 -- nobody outside the set is trusted, and no member of it is an untrusted subject with the star
 pub record Passed (trusted star : ℕ → Bool) (set : ℕ) : Type 0 where

@@ -1,8 +1,8 @@
--- `climbing::is_possible` meets its contract: each arm is a case of the definition.
-use Rattle.climbing.specs.Targets.{own-other, own-itself, control-other, control-root}
+-- `targets::is_possible` meets its contract: each arm is a case of the definition.
+use Rattle.targets.specs.Targets.{own-other, own-itself, control-other, control-root}
 use borrow.Author.Needs.{needs}
-use Rattle.climbing.proofs.is_possible.Statement.{statement}
-use Rattle.climbing.proofs.is_possible.Tie as tie
+use Rattle.targets.proofs.is_possible.Statement.{statement}
+use Rattle.targets.proofs.is_possible.Tie as tie
 
 enum-known-x : tie.Need-enum-known-x
 enum-known-x c = search needs

@@ -1,12 +1,12 @@
--- `climbing::next_up` meets its contract: each way out is a case of a step up.
+-- `rising::next_up` meets its contract: each way out is a case of a step up.
 use borrow.Author.Needs.{needs}
 use native.Mathlib.Omega.{arith}
 use mathlib.Core.Path.{sym, _∙_}
 use Rattle.cells.specs.Station.{right-shape}
 use Rattle.states.specs.Reads.{top-is}
-use Rattle.climbing.specs.Shut.{next-root, next-closed, next-owner}
-use Rattle.climbing.proofs.next_up.Statement.{statement}
-use Rattle.climbing.proofs.next_up.Tie as tie
+use Rattle.rising.specs.Shut.{next-root, next-closed, next-owner}
+use Rattle.rising.proofs.next_up.Statement.{statement}
+use Rattle.rising.proofs.next_up.Tie as tie
 
 returns : tie.Need-returns
 returns c = next-root _ _ _ (omega (arith, top-is _ _ (c .before .before .pre .0 .station))) (c .if1 .taken)

@@ -1,13 +1,13 @@
--- `climbing::star_holder` meets its contract: each arm is a case of the definition.
+-- `targets::star_holder` meets its contract: each arm is a case of the definition.
 use mathlib.Core.Path.{refl, sym, _∙_}
 use Rattle.matrix.specs.declared.Right.the-variants.{Own, Control}
 use Rattle.matrix.specs.Reading.{stateOf}
 use Rattle.states.specs.Reads.{basic-in}
 use Rattle.question.specs.Trust.{trustedBy}
-use Rattle.climbing.specs.Targets.{no-star, star-is}
+use Rattle.targets.specs.Targets.{no-star, star-is}
 use borrow.Author.Needs.{needs}
-use Rattle.climbing.proofs.star_holder.Statement.{statement}
-use Rattle.climbing.proofs.star_holder.Tie as tie
+use Rattle.targets.proofs.star_holder.Statement.{statement}
+use Rattle.targets.proofs.star_holder.Tie as tie
 
 enum-told : tie.Need-enum-told
 enum-told c = search needs

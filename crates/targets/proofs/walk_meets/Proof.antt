@@ -1,9 +1,9 @@
--- `climbing::walk_meets` meets its contract: each arm is a case of the definition.
+-- `targets::walk_meets` meets its contract: each arm is a case of the definition.
 use mathlib.Core.Path.{sym, _∙_, ap}
 use Rattle.matrix.specs.Owners.{meets}
 use borrow.Author.Needs.{needs}
-use Rattle.climbing.proofs.walk_meets.Statement.{statement}
-use Rattle.climbing.proofs.walk_meets.Tie as tie
+use Rattle.targets.proofs.walk_meets.Statement.{statement}
+use Rattle.targets.proofs.walk_meets.Tie as tie
 
 owner-walk-requires : tie.Need-owner-walk-requires
 owner-walk-requires c κs = search needs

@@ -1,4 +1,4 @@
--- `climbing::rise_from` meets its contract. The loop's invariant: what is left of the way up is the whole way up, and those seen are shut if
+-- `rising::rise_from` meets its contract. The loop's invariant: what is left of the way up is the whole way up, and those seen are shut if
 -- the subject come to is.
 use Prim.Native.Nat.{_+_, _<_}
 use native.Mathlib.Omega.{arith}
@@ -8,10 +8,10 @@ use Rattle.matrix.specs.Reading.{stateOf}
 use Rattle.cells.specs.Station.{right-shape}
 use Rattle.states.specs.Reads.{top-is}
 use Rattle.question.specs.Trust.{trustedBy}
-use Rattle.climbing.specs.Shut.{ShutAll, Seen, seen-none, seen-up}
-use Rattle.climbing.specs.Rising.{Rising, rising-none, rises-out, rises-met, rises-shut, rising-up}
-use Rattle.climbing.proofs.rise_from.Statement.{statement}
-use Rattle.climbing.proofs.rise_from.Tie as tie
+use Rattle.rising.specs.Shut.{ShutAll, Seen, seen-none, seen-up}
+use Rattle.rising.specs.Rising.{Rising, rising-none, rises-out, rises-met, rises-shut, rising-up}
+use Rattle.rising.proofs.rise_from.Statement.{statement}
+use Rattle.rising.proofs.rise_from.Tie as tie
 
 abbrev Inv-up : tie.InvT-up
 Inv-up b f trust w owners closed₀ path₀ n at₀ m₀ left₀ seen₀ closed path at m left seen =

@@ -1,4 +1,4 @@
--- `climbing::star_row` meets its contract. The loop's invariant: v is the lowest subject not passed, and no subject passed is an untrusted
+-- `targets::star_row` meets its contract. The loop's invariant: v is the lowest subject not passed, and no subject passed is an untrusted
 -- one with the star.
 use borrow.Author.Needs.{needs}
 use Prim.Native.Nat.{_-_}
@@ -12,9 +12,9 @@ use Rattle.matrix.specs.Reading.{stateOf}
 use Rattle.cells.specs.Station.{right-shape}
 use Rattle.masks.specs.Marks.{maskBits}
 use Rattle.question.specs.Trust.{trustedBy}
-use Rattle.climbing.specs.Passing.{Passed, passed-trusted, star-none, star-found, passed-more, passed-higher}
-use Rattle.climbing.proofs.star_row.Statement.{statement}
-use Rattle.climbing.proofs.star_row.Tie as tie
+use Rattle.targets.specs.Passing.{Passed, passed-trusted, star-none, star-found, passed-more, passed-higher}
+use Rattle.targets.proofs.star_row.Statement.{statement}
+use Rattle.targets.proofs.star_row.Tie as tie
 
 abbrev Inv-loop : tie.InvT-loop
 Inv-loop b f trust k x n passed₀ v₀ passed v =

@@ -1,11 +1,11 @@
--- `climbing::again_needed` meets its contract: each arm is a case of the definition.
+-- `targets::again_needed` meets its contract: each arm is a case of the definition.
 use mathlib.Core.Path.{sym, _∙_}
 use Rattle.matrix.specs.Reading.{stateOf}
 use Rattle.states.specs.Reads.{named-subject}
-use Rattle.climbing.specs.Targets.{again-is, plain-stays}
+use Rattle.targets.specs.Targets.{again-is, plain-stays}
 use borrow.Author.Needs.{needs}
-use Rattle.climbing.proofs.again_needed.Statement.{statement}
-use Rattle.climbing.proofs.again_needed.Tie as tie
+use Rattle.targets.proofs.again_needed.Statement.{statement}
+use Rattle.targets.proofs.again_needed.Tie as tie
 
 enum-known-x : tie.Need-enum-known-x
 enum-known-x c = search needs

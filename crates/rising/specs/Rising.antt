@@ -20,10 +20,10 @@ use Rattle.states.specs.Reads.{top-is}
 use Rattle.route.specs.Rise.{rise}
 use Rattle.chain.specs.Rising.{riseIn, rise-here, rise-up}
 use Rattle.ways.specs.Path.{listed}
-use Rattle.climbing.specs.declared.Climbed.{Climbed}
-use Rattle.climbing.specs.declared.Climbed.the-variants.{At, None}
-use Rattle.climbing.specs.Climbs.{risenTo, Found, Rises}
-use Rattle.climbing.specs.Shut.{Shut, Next}
+use Rattle.rising.specs.declared.Climbed.{Climbed}
+use Rattle.rising.specs.declared.Climbed.the-variants.{At, None}
+use Rattle.rising.specs.Rises.{risenTo, Found, Rises}
+use Rattle.rising.specs.Shut.{Shut, Next}
 
 -- ---- the path
 
