@@ -165,7 +165,7 @@ pub fn command_in_list(
     if short_ways::by_right(b, f, c) {
         return Answer::Accepted(0);
     }
-    if short_ways::over_object(b, f, c) {
+    if object_ways::over_object(b, f, c) {
         return Answer::Accepted(0);
     }
     if !subject_ways::over_subject(b, f, c) {

@@ -4,4 +4,4 @@ pub mod Ready
 pub mod Outcomes
 pub mod Accepting
 pub mod Allowed
-pub mod Objects
+pub mod WithoutBasic

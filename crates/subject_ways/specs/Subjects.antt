@@ -23,7 +23,7 @@ use Rattle.bits.specs.Became.{Became}
 use Rattle.short_ways.specs.Answered.{Answered}
 use Rattle.short_ways.specs.Ready.{row-i, row-s, name-o, doing}
 use Rattle.short_ways.specs.Accepting.{answered-accepted}
-use Rattle.short_ways.specs.Objects.{WithoutBasic}
+use Rattle.short_ways.specs.WithoutBasic.{WithoutBasic}
 
 module _ {b : List ℕ} {f : Shape} (c : Fields) (h : WithoutBasic b f c) where
   abbrev S : State

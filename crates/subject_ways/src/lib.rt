@@ -16,7 +16,7 @@ ghost use Rattle.cells.specs.Station.{Station};
 ghost use Rattle.short_ways.specs.Answered.{Answered};
 ghost use Rattle.short_ways.specs.Ready.{doing};
 ghost use Rattle.short_ways.specs.Allowed.{Where};
-ghost use Rattle.short_ways.specs.Objects.{WithoutBasic};
+ghost use Rattle.short_ways.specs.WithoutBasic.{WithoutBasic};
 
 // The command of the fields that does `act`.
 fn command_of(f: Shape, c: Fields, act: Act) -> Command

@@ -3,7 +3,7 @@ use mathlib.Core.Path.{sym, _∙_}
 use borrow.Author.Tests.{not-false}
 use Rattle.cells.specs.Station.{right-shape}
 use Rattle.short_ways.specs.Allowed.{left-alone, where-then}
-use Rattle.short_ways.specs.Objects.{WithoutBasic}
+use Rattle.short_ways.specs.WithoutBasic.{WithoutBasic}
 use borrow.Author.Needs.{needs}
 use Rattle.subject_ways.proofs.over_subject.Statement.{statement}
 use Rattle.subject_ways.proofs.over_subject.Tie as tie

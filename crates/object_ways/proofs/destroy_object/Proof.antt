@@ -1,15 +1,15 @@
--- `short_ways::destroy_object` meets its contract.
+-- `object_ways::destroy_object` meets its contract.
 use borrow.Author.Tests.{not-false}
 use Rattle.matrix.specs.declared.Name.{Name}
 use Rattle.matrix.specs.declared.Kind.the-variants.{PlainName}
 use Rattle.matrix.specs.Tests.{kindFits}
 use Rattle.matrix.specs.Reading.{stateOf}
 use Rattle.short_ways.specs.Ready.{row-i, column-o}
 use Rattle.short_ways.specs.Allowed.{left-alone, made, at-name}
-use Rattle.short_ways.specs.Objects.{own-in, answered-destroy}
+use Rattle.object_ways.specs.Objects.{own-in, answered-destroy}
 use borrow.Author.Needs.{needs}
-use Rattle.short_ways.proofs.destroy_object.Statement.{statement}
-use Rattle.short_ways.proofs.destroy_object.Tie as tie
+use Rattle.object_ways.proofs.destroy_object.Statement.{statement}
+use Rattle.object_ways.proofs.destroy_object.Tie as tie
 
 name-of-requires : tie.Need-name-of-requires
 name-of-requires c κs = search needs

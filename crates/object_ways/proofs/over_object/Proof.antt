@@ -1,12 +1,12 @@
--- `short_ways::over_object` meets its contract.
+-- `object_ways::over_object` meets its contract.
 use Rattle.short_ways.specs.Allowed.{left-alone}
 use mathlib.Core.Path.{sym, _∙_}
 use borrow.Author.Tests.{not-false}
 use Rattle.cells.specs.Station.{right-shape}
-use Rattle.short_ways.specs.Objects.{WithoutBasic}
+use Rattle.short_ways.specs.WithoutBasic.{WithoutBasic}
 use borrow.Author.Needs.{needs}
-use Rattle.short_ways.proofs.over_object.Statement.{statement}
-use Rattle.short_ways.proofs.over_object.Tie as tie
+use Rattle.object_ways.proofs.over_object.Statement.{statement}
+use Rattle.object_ways.proofs.over_object.Tie as tie
 
 returns : tie.Need-returns
 returns c = left-alone

@@ -1,4 +1,4 @@
--- `short_ways::create_object` meets its contract.
+-- `object_ways::create_object` meets its contract.
 use mathlib.Core.Path.{sym, _∙_, ap}
 use mathlib.Core.Bool.{true}
 use borrow.Author.Tests.{not-false}
@@ -9,12 +9,12 @@ use Rattle.matrix.specs.State.{existsName, put}
 use Rattle.matrix.specs.Tests.{kindFits}
 use Rattle.matrix.specs.Reading.{stateOf}
 use Rattle.bits.specs.Steps.{became-as}
 use Rattle.short_ways.specs.Ready.{row-i, name-is}
 use Rattle.short_ways.specs.Allowed.{left-alone, made, at-name}
-use Rattle.short_ways.specs.Objects.{own-in, answered-create}
+use Rattle.object_ways.specs.Objects.{own-in, answered-create}
 use borrow.Author.Needs.{needs}
-use Rattle.short_ways.proofs.create_object.Statement.{statement}
-use Rattle.short_ways.proofs.create_object.Tie as tie
+use Rattle.object_ways.proofs.create_object.Statement.{statement}
+use Rattle.object_ways.proofs.create_object.Tie as tie
 
 name-of-requires : tie.Need-name-of-requires
 name-of-requires c κs = search needs

@@ -16,24 +16,15 @@ use Rattle.matrix.specs.State.{State, exists, existsName, put, clear}
 use Rattle.matrix.specs.Tests.{kindFits}
 use Rattle.matrix.specs.Changes.{inColumn}
 use Rattle.matrix.specs.Reading.{stateOf}
-use Rattle.matrix.specs.Calls.{namesFit}
-use Rattle.matrix.specs.Valid.{Valid}
 use Rattle.laws.specs.Tests.{and-both}
-use Rattle.cells.specs.Station.{Station}
 use Rattle.states.specs.Needs.{BitIn}
 use Rattle.codec.specs.Columns.{put-set}
 use Rattle.bits.specs.Became.{Became}
 use Rattle.bits.specs.Steps.{became-as, became-then}
 use Rattle.short_ways.specs.Answered.{Answered}
 use Rattle.short_ways.specs.Ready.{name-is}
 use Rattle.short_ways.specs.Accepting.{answered-accepted}
-
--- a command on names of a valid record that names no basic right
-pub record WithoutBasic (b : List ℕ) (f : Shape) (c : Fields) : Type 0 where
-  pub station : Station b f
-  pub valid : Valid (stateOf b)
-  pub names : namesFit f c ≡ true
-  pub none : c .k ≡ 0
+use Rattle.short_ways.specs.WithoutBasic.{WithoutBasic}
 
 -- own of its o is a bit of the record
 pub own-in : {b : List ℕ} {f : Shape} {w : ℕ} {x : Name} (c : Fields) → WithoutBasic b f c → w < f .n → x ≡ nameOf (f .n) (c .o) → BitIn b f Own w x

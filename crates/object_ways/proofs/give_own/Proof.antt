@@ -1,4 +1,4 @@
--- `short_ways::give_own` meets its contract.
+-- `object_ways::give_own` meets its contract.
 use mathlib.Core.Path.{sym, _∙_}
 use borrow.Author.Tests.{not-false}
 use Rattle.matrix.specs.declared.Name.{Name}
@@ -6,12 +6,12 @@ use Rattle.matrix.specs.declared.Kind.the-variants.{PlainName}
 use Rattle.matrix.specs.Tests.{kindFits}
 use Rattle.matrix.specs.Reading.{stateOf}
 use Rattle.bits.specs.Steps.{bit-after}
 use Rattle.short_ways.specs.Ready.{row-i, row-s, name-is}
 use Rattle.short_ways.specs.Allowed.{left-alone, made, at-name}
-use Rattle.short_ways.specs.Objects.{own-in, own-given, answered-given}
+use Rattle.object_ways.specs.Objects.{own-in, own-given, answered-given}
 use borrow.Author.Needs.{needs}
-use Rattle.short_ways.proofs.give_own.Statement.{statement}
-use Rattle.short_ways.proofs.give_own.Tie as tie
+use Rattle.object_ways.proofs.give_own.Statement.{statement}
+use Rattle.object_ways.proofs.give_own.Tie as tie
 
 name-of-requires : tie.Need-name-of-requires
 name-of-requires c κs = search needs
