@@ -21,8 +21,9 @@ use Rattle.codec.specs.RoundTrip.{read-write}
 use Rattle.codec.specs.InVersion.{own-version}
 use Rattle.codec.specs.OtherShape.{cell-fits, cells-write}
 use Rattle.cells.specs.Station.{Station, right-shape}
-use Rattle.converting.specs.Needs.{Wanted, Fits, Copied, same-n, same-p, same-columns, within-wanted}
-use Rattle.converting.specs.Places.{cellsOf, placeOf, row-of, column-of, number-of, cell-numbered, store-numbered}
+use Rattle.cell_words.specs.Wanted.{Wanted, same-n, same-p, same-columns, within-wanted}
+use Rattle.cell_words.specs.Places.{cellsOf, placeOf, row-of, column-of, number-of, cell-numbered, store-numbered}
+use Rattle.converting.specs.Needs.{Fits, Copied}
 
 pub copied-none : {out : List ℕ} {g : Shape} (b : List ℕ) → Station out g → Copied b g out 0
 copied-none b s = record { station = s; cells = λ r c l h. absurd (not-suc-le-zero h) }

@@ -1,20 +1,17 @@
-// A record in another version: whether it has room for what is set, and writing it there.
+// A record in another version: by which test it is refused, and writing it there.
 
 use matrix::Numbers;
 use matrix::Shape;
 ghost use mathlib.Core.Path.{_≡_};
 ghost use mathlib.Core.Bool.{true};
-ghost use Prim.Native.Nat.{ℕ, _+_, _≤_};
 ghost use lib.ListN.{length};
-ghost use Rattle.matrix.specs.Bytes.{numberAt, setNumber};
-ghost use Rattle.matrix.specs.Shape.{limits, knownVersion, basicsOf, sizeOf};
+ghost use Rattle.matrix.specs.Shape.{limits, knownVersion, sizeOf};
 ghost use Rattle.matrix.specs.Reading.{content, stateOf, bytesOf};
 ghost use Rattle.matrix.specs.Record.{recordRefusal};
-ghost use Rattle.matrix.specs.Converting.{basicFrom, convertResult, convertOutput};
-ghost use Rattle.codec.specs.ShapeRight.{ShapeRight, TwoOrFour};
+ghost use Rattle.matrix.specs.Converting.{convertResult, convertOutput};
+ghost use Rattle.codec.specs.ShapeRight.{ShapeRight};
 ghost use Rattle.cells.specs.Station.{Station};
-ghost use Rattle.converting.specs.Needs.{Wanted, Fits};
-ghost use Rattle.converting.specs.Words.{Turned};
+ghost use Rattle.converting.specs.Needs.{Fits};
 ghost use Rattle.converting.specs.Answers.{later};
 
 // The bytes before those that L counts: the version and L itself.
@@ -26,54 +23,6 @@ fn size_of(f: Shape) -> usize
     ensures { λ x. ⌜ x ≡ sizeOf f ⌝ }
 {
     f.first + f.width * (f.n * cells::columns_of(f))
-}
-
-// The cell of `width` bytes from `at` on, as a word whose first byte is the lowest, so that the compiler may read all at once. A cell of two bytes
-// is the upper half of its word.
-fn word(b: &[u8], at: usize, width: usize) -> u32
-    requires { ⌜ TwoOrFour width × (at + width ≤ length (now b)) ⌝ }
-    ensures { λ r. ⌜ Turned r (numberAt (now (b .entry)) at width) ⌝ }
-{
-    let two = b[at] as u32 + b[at + 1] as u32 * 256;
-    if width == 2 {
-        return two * 65536;
-    }
-    two + b[at + 2] as u32 * 65536 + b[at + 3] as u32 * 16777216
-}
-
-// The cell of `width` bytes from `at` on becomes that of the word v: where it has two bytes, the word's upper half.
-fn put_word(out: &mut [u8], at: usize, width: usize, v: u32)
-    requires { ⌜ TwoOrFour width × (at + width ≤ length (now out)) ⌝ }
-    ensures { λ _. ⌜ ((m : ℕ) → Turned v m → now (out .exit) ≡ setNumber (now (out .entry)) at width m) ⌝ }
-{
-    if width == 2 {
-        out[at] = (v / 65536 % 256) as u8;
-        out[at + 1] = (v / 16777216 % 256) as u8;
-        return;
-    }
-    out[at] = (v % 256) as u8;
-    out[at + 1] = (v / 256 % 256) as u8;
-    out[at + 2] = (v / 65536 % 256) as u8;
-    out[at + 3] = (v / 16777216 % 256) as u8;
-}
-
-// Whether a basic right is set that shape g has no room for. A cell of four bytes has it in its first two, the lower half of its word: the words of
-// all cells are joined, without a branch, and looked at in the end.
-fn too_wide(b: &[u8], f: Shape, g: Shape) -> bool
-    requires { ⌜ Wanted (now b) f g ⌝ }
-    ensures { λ t. ⌜ t ≡ basicFrom (basicsOf g) f (stateOf (now (b .entry))) ⌝ }
-{
-    if f.width <= g.width {
-        return false;
-    }
-    let cells = f.n * cells::columns_of(f);
-    let mut at = f.first;
-    let mut seen: u32 = 0;
-    for k in 0..cells {
-        seen = seen | word(b, at, f.width);
-        at += f.width;
-    }
-    seen % 65536 != 0
 }
 
 // The header of a record of shape g: version, L, n and p.
@@ -101,7 +50,7 @@ fn write(b: &[u8], f: Shape, out: &mut [u8], g: Shape)
     let mut from = f.first;
     let mut to = g.first;
     for k in 0..cells {
-        put_word(out, to, g.width, word(b, from, f.width));
+        cell_words::put_word(out, to, g.width, cell_words::word(b, from, f.width));
         from += f.width;
         to += g.width;
     }
@@ -140,7 +89,7 @@ pub fn convert(b: &[u8], f: Shape, version: usize, out: &mut [u8]) -> Numbers
 {
     let g = opening::shape_in(version, f.n, f.p);
     let size = size_of(g);
-    let refusal = refusal_of(too_wide(b, f, g), out.len() < size);
+    let refusal = refusal_of(cell_words::too_wide(b, f, g), out.len() < size);
     if refusal != 0 {
         return Numbers { refusal, value: 0 };
     }

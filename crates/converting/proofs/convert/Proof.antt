@@ -12,7 +12,7 @@ use Rattle.matrix.specs.Numbers.{numbers}
 use Rattle.matrix.specs.Shape.{basicsOf, sizeOf}
 use Rattle.matrix.specs.Reading.{stateOf}
 use Rattle.matrix.specs.Converting.{basicFrom}
-use Rattle.converting.specs.Needs.{Wanted, wanted-in, wanted-right}
+use Rattle.cell_words.specs.Wanted.{Wanted, wanted-in, wanted-right}
 use Rattle.converting.specs.Answers.{later, later-none, refused, answered}
 use Rattle.converting.proofs.convert.Statement.{statement}
 use Rattle.converting.proofs.convert.Tie as tie

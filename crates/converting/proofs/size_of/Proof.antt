@@ -4,7 +4,7 @@ use Prim.Native.Nat.{ℕ, _+_, _*_, _≤_}
 use native.Mathlib.Omega.{arith}
 use mathlib.Core.Path.{sym, ap, subst}
 use Rattle.codec.specs.ShapeRight.{mostBytes, size-most}
-use Rattle.converting.specs.Places.{cells-most}
+use Rattle.cell_words.specs.Places.{cells-most}
 use Rattle.converting.proofs.size_of.Statement.{statement}
 use Rattle.converting.proofs.size_of.Tie as tie
 

@@ -7,8 +7,9 @@ use lib.ListN.{length}
 use Rattle.matrix.specs.Bytes.{numberAt}
 use Rattle.codec.specs.ShapeRight.{mostBytes, two-or-four}
 use Rattle.cells.specs.Station.{right-shape}
-use Rattle.converting.specs.Needs.{Copied, wanted-right}
-use Rattle.converting.specs.Places.{cellsOf, placeOf, cells-most, next-place, cell-inside}
+use Rattle.cell_words.specs.Wanted.{wanted-right}
+use Rattle.cell_words.specs.Places.{cellsOf, placeOf, cells-most, next-place, cell-inside}
+use Rattle.converting.specs.Needs.{Copied}
 use Rattle.converting.specs.Copying.{copied-none, copied-next, copied-all, copied-length, same-cells}
 use Rattle.converting.proofs.write.Statement.{statement}
 use Rattle.converting.proofs.write.Tie as tie

@@ -1,13 +1,13 @@
--- `converting::put_word` meets its contract: two bytes of the word are stored, or all four.
+-- `cell_words::put_word` meets its contract: two bytes of the word are stored, or all four.
 use borrow.Author.Needs.{needs}
 use Prim.Native.Nat.{ℕ, _+_, _≤_}
 use native.Mathlib.Omega.{arith}
 use mathlib.Core.Path.{_≡_, sym, _∙_, ap}
 use lib.ListN.{length, length-set}
 use Rattle.matrix.specs.Bytes.{setNumber}
-use Rattle.converting.specs.Words.{not-two, two-turned, four-turned}
-use Rattle.converting.proofs.put_word.Statement.{statement}
-use Rattle.converting.proofs.put_word.Tie as tie
+use Rattle.cell_words.specs.Words.{not-two, two-turned, four-turned}
+use Rattle.cell_words.proofs.put_word.Statement.{statement}
+use Rattle.cell_words.proofs.put_word.Tie as tie
 
 -- four bytes are there where the width is not two
 four : (c : tie.Else1) → c .before .args .width ≡ 4

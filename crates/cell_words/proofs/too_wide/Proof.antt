@@ -1,4 +1,4 @@
--- `converting::too_wide` meets its contract. The loop's invariant: the lower half of what is seen is clear where every cell passed so far is a
+-- `cell_words::too_wide` meets its contract. The loop's invariant: the lower half of what is seen is clear where every cell passed so far is a
 -- number of two bytes.
 use borrow.Author.Needs.{needs}
 use Prim.Native.Nat.{ℕ, _+_, _-_, _*_, _%_, _≤_, _<_}
@@ -10,10 +10,10 @@ use lib.ListN.{length}
 use Rattle.matrix.specs.Bounded.{all}
 use Rattle.codec.specs.ShapeRight.{mostBytes, two-or-four}
 use Rattle.cells.specs.Station.{right-shape}
-use Rattle.converting.specs.Places.{placeOf, cells-most, next-place, cell-inside}
-use Rattle.converting.specs.Upper.{smallAt, small-next, none-wider, upper-answer}
-use Rattle.converting.proofs.too_wide.Statement.{statement}
-use Rattle.converting.proofs.too_wide.Tie as tie
+use Rattle.cell_words.specs.Places.{placeOf, cells-most, next-place, cell-inside}
+use Rattle.cell_words.specs.Upper.{smallAt, small-next, none-wider, upper-answer}
+use Rattle.cell_words.proofs.too_wide.Statement.{statement}
+use Rattle.cell_words.proofs.too_wide.Tie as tie
 
 abbrev Inv-loop : tie.InvT-loop
 Inv-loop b f cells at₀ seen₀ k₀ at seen k = (k ≤ cells) × (at ≡ placeOf f k) × (eqb (seen % 65536) 0 ≡ all k (smallAt b f))

@@ -31,9 +31,9 @@ use Rattle.codec.specs.Codes.{codeOf-room}
 use Rattle.codec.specs.Update.{bit-read}
 use Rattle.codec.specs.OtherShape.{cell-fits}
 use Rattle.cells.specs.Station.{right-shape}
-use Rattle.converting.specs.Needs.{Wanted, wanted-right, within-wanted}
-use Rattle.converting.specs.Places.{cellsOf, placeOf, row-of, column-of, number-of, cell-numbered}
-use Rattle.converting.specs.Words.{Turned, lower-clear, upper-clear}
+use Rattle.cell_words.specs.Wanted.{Wanted, wanted-right, within-wanted}
+use Rattle.cell_words.specs.Places.{cellsOf, placeOf, row-of, column-of, number-of, cell-numbered}
+use Rattle.cell_words.specs.Words.{Turned, lower-clear, upper-clear}
 
 -- the cell numbered k is a number of two bytes
 abbrev pub smallAt : List ℕ → Shape → ℕ → Bool

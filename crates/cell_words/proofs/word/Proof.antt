@@ -1,4 +1,4 @@
--- `converting::word` meets its contract: two bytes or four make a number of 32 bits.
+-- `cell_words::word` meets its contract: two bytes or four make a number of 32 bits.
 use borrow.Author.Needs.{needs}
 use Prim.Native.Nat.{ℕ, _+_, _*_, _≤_, _<_}
 use native.Mathlib.Omega.{arith}
@@ -6,9 +6,9 @@ use mathlib.Core.Path.{_≡_, sym, subst}
 use lib.ListN.{length, getD}
 use Rattle.matrix.specs.Bytes.{numberAt}
 use Rattle.matrix.specs.Shaped.{Octets}
-use Rattle.converting.specs.Words.{Turned, two-least, not-two, turned-two, turned-four}
-use Rattle.converting.proofs.word.Statement.{statement}
-use Rattle.converting.proofs.word.Tie as tie
+use Rattle.cell_words.specs.Words.{Turned, two-least, not-two, turned-two, turned-four}
+use Rattle.cell_words.proofs.word.Statement.{statement}
+use Rattle.cell_words.proofs.word.Tie as tie
 
 -- the slice has bytes, of which two are there, and four where the width is not two
 octets : (c : tie.After-shared-slice-known) → Octets (c .before .args .b .now)

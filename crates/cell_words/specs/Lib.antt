@@ -1,0 +1,4 @@
+pub mod Wanted
+pub mod Words
+pub mod Places
+pub mod Upper
