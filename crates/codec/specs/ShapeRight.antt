@@ -21,6 +21,10 @@ TwoOrFour w = (w ≡ 2) ⊎ (w ≡ 4)
 pub widths : (v : ℕ) → TwoOrFour (widthOf v)
 widths v = ⊎-elim (λ (e : eqb v 1 ≡ true). inl (rw e refl)) (λ (e : eqb v 1 ≡ false). inr (rw e refl)) (way (eqb v 1))
 
+-- in every version that is read, a cell has twice as many bytes as the version's number
+pub width-double : (v : ℕ) → knownVersion v ≡ true → 2 * v ≡ widthOf v
+width-double v h = ⊎-elim (λ (e : v ≡ 1). rw e refl) (λ (e : v ≡ 2). rw e refl) (versions v h)
+
 -- bounds that hold in every version: the bytes and bits of a cell, the place of the first cell, and so the bytes of a record
 abbrev pub mostWidth : ℕ
 mostWidth = 4

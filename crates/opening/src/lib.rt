@@ -5,7 +5,8 @@ use matrix::Shape;
 ghost use mathlib.Core.Path.{_≡_};
 ghost use Prim.Native.Nat.{_≤_, _<_};
 ghost use lib.ListN.{length, getD};
-ghost use Rattle.matrix.specs.Shape.{headerBytes, widthOf, firstOf, shapeIn, shapeOf};
+ghost use Rattle.matrix.specs.Shape.{limits, headerBytes, widthOf, firstOf, shapeIn, shapeOf};
+ghost use Rattle.matrix.specs.Record.{recordRefusal};
 
 // The byte at a place, as a number.
 pub fn byte(b: &[u8], j: usize) -> usize
@@ -48,4 +49,20 @@ pub fn shape(b: &[u8]) -> Shape
     ensures { λ f. ⌜ f ≡ shapeOf (now (b .entry)) ⌝ }
 {
     shape_in(byte(b, 0), byte(b, 5), byte(b, 6))
+}
+
+// The shape of a record that is not turned down. The bytes of a cell are twice the version's number, as a product: from a choice of one of two
+// numbers the compiler would make a shift.
+pub fn valid_shape(b: &[u8]) -> Shape
+    requires { ⌜ recordRefusal limits (now b) ≡ 0 ⌝ }
+    ensures { λ f. ⌜ f ≡ shapeOf (now (b .entry)) ⌝ }
+{
+    let version = byte(b, 0);
+    Shape {
+        version,
+        n: byte(b, 5),
+        p: byte(b, 6),
+        width: 2 * version,
+        first: first_of(version),
+    }
 }

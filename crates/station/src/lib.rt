@@ -79,7 +79,7 @@ pub fn run(b: &mut [u8], l: &[u8]) -> Outcome
             refusal: 16,
         };
     }
-    let f = opening::shape(b);
+    let f = opening::valid_shape(b);
     runs::run_on(b, f, &mut owners, l)
 }
 

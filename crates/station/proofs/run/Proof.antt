@@ -8,7 +8,7 @@ use mathlib.Core.Bool.{true}
 use borrow.Author.Tests.{not-true, not-false}
 use Rattle.owners.specs.Read.{valid-record}
 use Rattle.cells.specs.Station.{Station}
-use Rattle.opening.specs.Opened.{station-of, long-enough}
+use Rattle.opening.specs.Opened.{station-of}
 use Rattle.laws.specs.Numbers.{run-numbers}
 use Rattle.station.specs.Done.{run-turned-down, run-kept, list-turned-down, list-kept, run-outcome, run-done}
 use borrow.Author.Needs.{needs}
@@ -32,8 +32,8 @@ octets c = record { octet = λ j. c .before .before .before .before .before .sli
 formed : (c : tie.Else2) → wellFormed (c .before .before .before .before .before .before .before .before .args .l .now) ≡ true
 formed c = sym (c .before .well-formed .ensures) ∙ not-false _ (c .if2 .left)
 
-opened : (c : tie.After-shape) → Station (c .before .before .before .before .before .before .before .before .before .before .args .b .now) (c .shape .result)
-opened c = station-of (octets (c .before .before .before .before)) (right (c .before .before .before .before)) (c .shape .ensures)
+opened : (c : tie.After-valid-shape) → Station (c .before .before .before .before .before .before .before .before .before .before .args .b .now) (c .valid-shape .result)
+opened c = station-of (octets (c .before .before .before .before)) (right (c .before .before .before .before)) (c .valid-shape .ensures)
 
 returns : tie.Need-returns
 returns c =
@@ -52,8 +52,8 @@ returns-2 c =
     let e = list-turned-down _ _ (right (c .before .before)) f in
     (e, (list-kept _ _ (right (c .before .before)) f, run-numbers _ _ e))
 
-shape-requires : tie.Need-shape-requires
-shape-requires c κs = long-enough _ (right (c .before .before .before))
+valid-shape-requires : tie.Need-valid-shape-requires
+valid-shape-requires c κs = right (c .before .before .before)
 
 run-on-requires : tie.Need-run-on-requires
 run-on-requires c κs =
@@ -80,7 +80,7 @@ run-spec =
     well-formed-requires
     same-length-2
     returns-2
-    shape-requires
+    valid-shape-requires
     run-on-requires
     same-length-3
     returns-3)
