@@ -1,5 +1,5 @@
 -- The state of a record's bytes, read from the cells.
-use Prim.Native.Nat.{ℕ, suc, _-_, _/_, _%_, _<_}
+use Prim.Native.Nat.{ℕ, suc, _+_, _-_, _*_, _/_, _%_, _<_}
 use native.Mathlib.Omega.{arith}
 use mathlib.Core.Path.{_≡_, sym, _∙_, ap, subst}
 use mathlib.Core.Bool.{Bool, true, false, cond, not, _&&_, and-comm}
@@ -44,9 +44,19 @@ module _ (f : Shape) (g : ShapeRight f) where
   pub code-small : (y : Right) → RightIn f y → codeOf y < wordBits
   code-small y h = omega (arith, code-in y h, bits-most f g)
 
+-- the star of a form as a number, 1 where it has one
+abbrev pub starOf : Form → ℕ
+starOf Form.Plain = 0
+starOf Form.Starred = 1
+
+-- the code of a basic right is a sum
+code-sum : (k : ℕ) (f : Form) → 2 + 2 * k + starOf f ≡ codeOf (Basic k f)
+code-sum k Form.Plain = omega arith
+code-sum k Form.Starred = omega arith
+
 -- a basic right, taken apart
-pub basic-code : {y : Right} {k : ℕ} {f : Form} (g : Form) → y ≡ Basic k f → f ≡ g → codeOf (Basic k g) ≡ codeOf y
-basic-code {k = k} g e h = sym (ap codeOf e ∙ ap (λ (f : Form). codeOf (Basic k f)) h)
+pub basic-code : {y : Right} {k : ℕ} {f : Form} → y ≡ Basic k f → 2 + 2 * k + starOf f ≡ codeOf y
+basic-code {k = k} {f} e = code-sum k f ∙ sym (ap codeOf e)
 
 pub basic-in : {y : Right} {k : ℕ} {e : Form} (f : Shape) → y ≡ Basic k e → RightIn f y → k < basicsOf f
 basic-in f e h = subst (RightIn f) e h

@@ -18,6 +18,7 @@ ghost use Rattle.matrix.specs.Reading.{stateOf};
 ghost use Rattle.codec.specs.Bits.{wordBits};
 ghost use Rattle.cells.specs.Station.{Station};
 ghost use Rattle.states.specs.Needs.{NameIn, BitIn, Guessed};
+ghost use Rattle.states.specs.Reads.{starOf};
 
 // The column of a name.
 pub fn column_of(x: Name) -> usize
@@ -39,6 +40,16 @@ pub fn name_of(n: usize, o: usize) -> Name
     Name::Plain(o)
 }
 
+// The star of a form as a number, 1 where it has one: so the code of a basic right is one sum for both forms.
+fn star_of(f: Form) -> usize
+    ensures { λ d. ⌜ d ≡ starOf f ⌝ }
+{
+    match f {
+        Form::Plain => 0,
+        Form::Starred => 1,
+    }
+}
+
 // The code of a right: its bit in a cell.
 pub fn code_of(y: Right) -> usize
     requires { ⌜ codeOf y < wordBits ⌝ }
@@ -47,10 +58,7 @@ pub fn code_of(y: Right) -> usize
     match y {
         Right::Own => 0,
         Right::Control => 1,
-        Right::Basic(k, f) => match f {
-            Form::Plain => 2 + 2 * k,
-            Form::Starred => 3 + 2 * k,
-        },
+        Right::Basic(k, f) => 2 + 2 * k + star_of(f),
     }
 }
 
