@@ -56,14 +56,40 @@ pub fn clear_column(b: &mut [u8], f: Shape, c: usize)
     }
 }
 
-// Every cell of row r is cleared.
-pub fn clear_row(b: &mut [u8], f: Shape, r: usize)
+// The shape f, made anew with its width from a caller who knows it as a number.
+fn in_width(f: Shape, width: usize) -> Shape
+    requires { ⌜ width ≡ f .width ⌝ }
+    ensures { λ g. ⌜ g ≡ f ⌝ }
+{
+    Shape {
+        version: f.version,
+        n: f.n,
+        p: f.p,
+        width,
+        first: f.first,
+    }
+}
+
+// Every cell of row r is cleared, in a shape of any width.
+fn clear_cells(b: &mut [u8], f: Shape, r: usize)
     requires { ⌜ Station (now b) f × (r < f .n) ⌝ }
     ensures { λ _. ⌜ Became (now (b .entry)) (now (b .exit)) (clear (inRow r) (stateOf (now (b .entry)))) ⌝ }
 {
     let all = cells::columns_of(f);
     for c in 0..all {
         cells::store(b, f, r, c, 0);
+    }
+}
+
+// Every cell of row r is cleared. Each width has a call of its own, so that the compiler knows it.
+pub fn clear_row(b: &mut [u8], f: Shape, r: usize)
+    requires { ⌜ Station (now b) f × (r < f .n) ⌝ }
+    ensures { λ _. ⌜ Became (now (b .entry)) (now (b .exit)) (clear (inRow r) (stateOf (now (b .entry)))) ⌝ }
+{
+    if f.width == 2 {
+        clear_cells(b, in_width(f, 2), r)
+    } else {
+        clear_cells(b, in_width(f, 4), r)
     }
 }
 
