@@ -11,10 +11,6 @@ use Rattle.lanes.specs.Lists.{set-more}
 use Rattle.lanes.specs.Lanes.{merged}
 use Rattle.lanes.specs.Zeros.{merged-more}
 
--- the lanes that are merged at once where a row has as many
-abbrev pub wide : ℕ
-wide = 48
-
 -- A list while row r joins it lane by lane. Its first k places count: those below m hold what r + 1 rows leave, those from m on what r rows leave. The lane of row v for
 -- place j is w v j.
 pub record Joined (room k : ℕ) (w : ℕ → ℕ → ℕ) (r m : ℕ) (l : List ℕ) : Type 0 where

@@ -14,25 +14,58 @@ use Rattle.laws.specs.Tests.{way, same-test, and-left, and-right, and-both}
 use Rattle.laws.specs.Bounded.{all-each, each-all}
 use Rattle.lanes.specs.declared.Matrix.{Matrix}
 use Rattle.lanes.specs.Lists.{Part}
-use Rattle.lanes.specs.Lanes.{merged, seenAt, Seen}
+use Rattle.lanes.specs.Lanes.{merged, seenAt, Seen, Laid}
 use Rattle.lanes.specs.Zeros.{or-zero, merged-none, merged-more, merged-zero}
-use Rattle.merging.specs.Rows.{wide}
-use Rattle.columns.specs.Cells.{OneOrTwo, lanesOf, lastLane, either-way, last-inside, last-added, bits-moved}
+use Rattle.columns.specs.Cells.{OneOrTwo, mostColumns, lanesOf, lastLane, either-way, last-inside, last-added, bits-moved}
 use Rattle.plains.specs.Checks.{plainTest, plainWrong, wrongOf, plain-right}
 
--- the lanes that are merged at once where fewer than `wide` are left
+-- the numbers of lanes that are merged at once
 abbrev pub atOnce : ℕ
 atOnce = 8
 
+abbrev pub some : ℕ
+some = 32
+
+abbrev pub many : ℕ
+many = 48
+
+abbrev pub most : ℕ
+most = 96
+
 abbrev pub SomeLanes : ℕ → Type 0
-SomeLanes lanes = (lanes ≡ atOnce) ⊎ (lanes ≡ wide)
+SomeLanes lanes = (lanes ≡ atOnce) ⊎ (lanes ≡ some) ⊎ (lanes ≡ many) ⊎ (lanes ≡ most)
+
+-- what holds of each number of lanes holds of one of them
+pub by-lanes : {lanes : ℕ} (T : ℕ → Type 0) → SomeLanes lanes → T atOnce → T some → T many → T most → T lanes
+by-lanes T l x y z w =
+    ⊎-elim (λ e. subst T (sym e) x) (⊎-elim (λ e. subst T (sym e) y) (⊎-elim (λ e. subst T (sym e) z) (λ e. subst T (sym e) w))) l
+
+-- the number that is left
+pub last-lanes : {lanes : ℕ} → SomeLanes lanes → (lanes ≡ most → ⊥) → (lanes ≡ many → ⊥) → (lanes ≡ some → ⊥) → lanes ≡ atOnce
+last-lanes l x y z = ⊎-elim (λ e. e) (⊎-elim (λ e. absurd (z e)) (⊎-elim (λ e. absurd (y e)) (λ e. absurd (x e)))) l
 
 -- so many lanes are whole cells, and some
 pub whole-cells : {q lanes : ℕ} → OneOrTwo q → SomeLanes lanes → (lanesOf q (lanes / q) ≡ lanes) × (1 ≤ lanes / q)
 unfolding lanesOf
 whole-cells {lanes = lanes} h l =
-    either-way h (λ u. (u * (lanes / u) ≡ lanes) × (1 ≤ lanes / u)) (⊎-elim (λ e. (omega arith, omega arith)) (λ e. (omega arith, omega arith)) l)
-    (⊎-elim (λ e. (omega arith, omega arith)) (λ e. (omega arith, omega arith)) l)
+    let e : (lanes % 2 ≡ 0) × (2 ≤ lanes) = by-lanes (λ k. (k % 2 ≡ 0) × (2 ≤ k)) l (refl, omega arith) (refl, omega arith) (refl, omega arith) (refl, omega arith) in
+    either-way h (λ u. (u * (lanes / u) ≡ lanes) × (1 ≤ lanes / u)) (omega arith, omega (arith, e .1)) (omega (arith, e .0), omega (arith, e .1))
+
+pub lanes-few : {lanes : ℕ} → SomeLanes lanes → lanes ≤ mostColumns
+lanes-few l = by-lanes (λ k. k ≤ mostColumns) l (omega arith) (omega arith) (omega arith) (omega arith)
+
+-- A part of a row: the columns from column a on, as many as have so many lanes, of which the first `from` are left out.
+pub record PartIn (b : List ℕ) (m : Matrix) (q lanes a from : ℕ) : Type 0 where
+  pub laid : Laid b m
+  pub number : OneOrTwo q
+  pub first : a < mostColumns
+  pub few : lanes ≤ mostColumns
+  pub inside : lanesOf q a + lanes ≤ m .lanes
+  pub left : from ≤ lanes / q
+
+-- the same part by the number of lanes that it has
+pub part-of : {b : List ℕ} {m : Matrix} {q lanes a from : ℕ} (k : ℕ) → lanes ≡ k → PartIn b m q lanes a from → PartIn b m q k a from
+part-of {b} {m} {q} {lanes} {a} {from} k e = subst (λ (i : ℕ). PartIn b m q i a from) e
 
 pub lanes-single : (k : ℕ) → lanesOf 1 k ≡ k
 unfolding lanesOf
@@ -70,6 +103,11 @@ wrong-more wrong from c v l e =
     let d : from + (c - from) ≡ c = omega arith in
     let n : c - from + 1 ≡ c + 1 - from = omega arith in
     ap (λ (i : ℕ). bitOr v (wrong i)) (sym d) ∙ merged-more (c - from) (λ i. wrong (from + i)) v e ∙ ap (λ (i : ℕ). merged i (λ i. wrong (from + i))) n
+
+-- what is wrong with a part, by the number of lanes that it has
+pub of-lanes : (b : List ℕ) (m : Matrix) (q a from v : ℕ) {lanes : ℕ} (k : ℕ) → lanes ≡ k → v ≡ wrongOf (λ i. plainWrong q (seenAt b m) (a + i)) from (k / q)
+    → v ≡ wrongOf (λ i. plainWrong q (seenAt b m) (a + i)) from (lanes / q)
+of-lanes b m q a from v k e h = h ∙ ap (λ (j : ℕ). wrongOf (λ i. plainWrong q (seenAt b m) (a + i)) from (j / q)) (sym e)
 
 -- what is wrong with the cells of a list that has what is seen in the lanes from column a on
 pub part-wrong : {q : ℕ} → OneOrTwo q → (b : List ℕ) (m : Matrix) (seen : List ℕ) (a from k lanes room : ℕ) → Seen b m (lanesOf q a) lanes room seen → lanesOf q k ≤ lanes

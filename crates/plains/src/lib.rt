@@ -1,21 +1,25 @@
 // The plain columns of a record, whose cells are lanes, q each. They are merged and tested part by part, so that no list of a whole row is needed.
 ghost use mathlib.Core.Path.{_≡_};
 ghost use Prim.Native.Nat.{_+_, _/_, _≤_, _<_};
-ghost use lib.ListN.{length, getD};
+ghost use lib.ListN.{length, replicate, getD};
 ghost use Rattle.matrix.specs.Bounded.{all};
 ghost use Rattle.matrix.specs.Shape.{columns};
 ghost use Rattle.lanes.specs.Lanes.{seenAt, Laid};
-ghost use Rattle.merging.specs.Rows.{wide};
 ghost use Rattle.columns.specs.Cells.{OneOrTwo, mostColumns, lanesOf, lastLane};
 ghost use Rattle.plains.specs.Checks.{plainTest, plainWrong, wrongOf};
-ghost use Rattle.plains.specs.Parts.{atOnce, SomeLanes};
+ghost use Rattle.plains.specs.Parts.{atOnce, SomeLanes, PartIn};
 use lanes::Matrix;
 use lanes::UPPER;
 use matrix::Shape;
-use merging::WIDE;
 
-// The lanes that are merged at once where fewer than WIDE are left.
+// The numbers of lanes that are merged at once.
 const AT_ONCE: usize = 8;
+
+const SOME: usize = 32;
+
+const MANY: usize = 48;
+
+const MOST: usize = 96;
 
 // What is wrong with cell c of a list of what is seen in lanes: nothing where it is owned and nobody controls it, else its bits.
 fn plain_wrong(seen: &[u16], q: usize, c: usize) -> u16
@@ -62,51 +66,75 @@ fn list_wrong(seen: &[u16], q: usize, from: usize, lanes: usize) -> u16
     }
 }
 
-// What is wrong with the columns from column a on, as many as have so many lanes, without the first `from`.
-fn part_wrong(b: &[u8], m: Matrix, q: usize, a: usize, from: usize) -> u16
-    requires { ⌜ Laid (now b) m × OneOrTwo q × (a < mostColumns) × (lanesOf q a + atOnce ≤ m.lanes) × (from ≤ atOnce / q) ⌝ }
-    ensures { λ r. ⌜ r ≡ wrongOf (λ i. plainWrong q (seenAt (now (b .entry)) m) (a + i)) from (atOnce / q) ⌝ }
-{
-    let mut seen = [0u16; AT_ONCE];
-    merging::merge(&mut seen, b, m, columns::lanes_of(q, a), AT_ONCE);
-    list_wrong(&seen, q, from, AT_ONCE)
-}
-
-// What is wrong with all columns of a row of fewer lanes, without the first `from`.
-fn few_wrong(b: &[u8], m: Matrix, q: usize, from: usize) -> u16
-    requires { ⌜ Laid (now b) m × OneOrTwo q × (m.lanes ≤ atOnce) × (from ≤ m.lanes / q) ⌝ }
-    ensures { λ r. ⌜ r ≡ wrongOf (λ i. plainWrong q (seenAt (now (b .entry)) m) (0 + i)) from (m.lanes / q) ⌝ }
-{
-    let mut seen = [0u16; AT_ONCE];
-    merging::merge(&mut seen, b, m, 0, m.lanes);
-    list_wrong(&seen, q, from, m.lanes)
-}
-
-// What is wrong with the columns from column a on, as many as have WIDE lanes, without the first `from`.
-fn wide_wrong(b: &[u8], m: Matrix, q: usize, a: usize, from: usize) -> u16
-    requires { ⌜ Laid (now b) m × OneOrTwo q × (a < mostColumns) × (lanesOf q a + wide ≤ m.lanes) × (from ≤ wide / q) ⌝ }
-    ensures { λ r. ⌜ r ≡ wrongOf (λ i. plainWrong q (seenAt (now (b .entry)) m) (a + i)) from (wide / q) ⌝ }
-{
-    let mut seen = [0u16; WIDE];
-    merging::merge_wide(&mut seen, b, m, columns::lanes_of(q, a));
-    list_wrong(&seen, q, from, WIDE)
-}
-
-// The same with one of the two numbers of lanes.
-fn either_wrong(b: &[u8], m: Matrix, q: usize, lanes: usize, a: usize, from: usize) -> u16
-    requires { ⌜ Laid (now b) m × OneOrTwo q × (a < mostColumns) × (lanesOf q a + lanes ≤ m.lanes) × SomeLanes lanes × (from ≤ lanes / q) ⌝ }
+// What is wrong with the columns from column a on, as many as have so many lanes, without the first `from`. What is seen in the lanes is left in
+// a list of zeros.
+fn part_wrong(
+    seen: &mut [u16],
+    b: &[u8],
+    m: Matrix,
+    q: usize,
+    lanes: usize,
+    a: usize,
+    from: usize,
+) -> u16
+    requires { ⌜ PartIn (now b) m q lanes a from × (lanes ≤ length (now seen)) × (now seen ≡ replicate (length (now seen)) 0) ⌝ }
     ensures { λ r. ⌜ r ≡ wrongOf (λ i. plainWrong q (seenAt (now (b .entry)) m) (a + i)) from (lanes / q) ⌝ }
 {
-    if lanes == WIDE {
-        return wide_wrong(b, m, q, a, from);
-    }
-    part_wrong(b, m, q, a, from)
+    merging::merge(seen, b, m, columns::lanes_of(q, a), lanes);
+    list_wrong(seen, q, from, lanes)
 }
 
-// The plain columns, part by part of so many lanes, which are `step` columns. A last part that would go beyond the row begins earlier, and what it
-// repeats is left out.
-fn parts_right(b: &[u8], f: Shape, m: Matrix, q: usize, lanes: usize, step: usize) -> bool
-    requires { ⌜ Laid (now b) m × OneOrTwo q × (columns f ≤ mostColumns) × (m.lanes ≡ lanesOf q (columns f)) × SomeLanes lanes × (step ≡ lanes / q) × (step ≤ f.p) ⌝ }
+// The same for each number of lanes. It has a call and a list of its own, so that the compiler knows it and holds the list in registers.
+fn known_wrong(b: &[u8], m: Matrix, q: usize, lanes: usize, a: usize, from: usize) -> u16
+    requires { ⌜ PartIn (now b) m q lanes a from × SomeLanes lanes ⌝ }
+    ensures { λ r. ⌜ r ≡ wrongOf (λ i. plainWrong q (seenAt (now (b .entry)) m) (a + i)) from (lanes / q) ⌝ }
+{
+    if lanes == MOST {
+        let mut seen = [0u16; MOST];
+        return part_wrong(&mut seen, b, m, q, MOST, a, from);
+    }
+    if lanes == MANY {
+        let mut seen = [0u16; MANY];
+        return part_wrong(&mut seen, b, m, q, MANY, a, from);
+    }
+    if lanes == SOME {
+        let mut seen = [0u16; SOME];
+        return part_wrong(&mut seen, b, m, q, SOME, a, from);
+    }
+    let mut seen = [0u16; AT_ONCE];
+    part_wrong(&mut seen, b, m, q, AT_ONCE, a, from)
+}
+
+// How many lanes the next part has, of a row of so many, where `left` are left: no part is larger than the row, and the last one repeats few.
+fn lanes_for(left: usize, lanes: usize) -> usize
+    requires { ⌜ atOnce ≤ lanes ⌝ }
+    ensures some { λ r. ⌜ SomeLanes r ⌝ }
+    ensures inside { λ r. ⌜ r ≤ lanes ⌝ }
+{
+    if left <= AT_ONCE {
+        return AT_ONCE;
+    }
+    if lanes < SOME {
+        return AT_ONCE;
+    }
+    if left <= SOME {
+        return SOME;
+    }
+    if lanes < MANY {
+        return SOME;
+    }
+    if left < MOST {
+        return MANY;
+    }
+    if lanes < MOST {
+        return MANY;
+    }
+    MOST
+}
+
+// The plain columns, part by part. A last part that would go beyond the row begins earlier, and what it repeats is left out.
+fn parts_right(b: &[u8], f: Shape, m: Matrix, q: usize) -> bool
+    requires { ⌜ Laid (now b) m × OneOrTwo q × (columns f ≤ mostColumns) × (m.lanes ≡ lanesOf q (columns f)) × (atOnce ≤ m.lanes) ⌝ }
     ensures { λ r. ⌜ r ≡ all f.p (λ i. plainTest q (seenAt (now (b .entry)) m) (f.n + i)) ⌝ }
 {
     let n = f.n;
@@ -114,31 +142,37 @@ fn parts_right(b: &[u8], f: Shape, m: Matrix, q: usize, lanes: usize, step: usiz
     let mut wrong: u16 = 0;
     let mut c = n;
     while c < all {
+        let lanes = lanes_for(columns::lanes_of(q, all - c), m.lanes);
+        let step = cells_in(q, lanes);
         let a = lanes::part(c, step, all);
-        wrong = wrong | either_wrong(b, m, q, lanes, a, c - a);
+        wrong = wrong | known_wrong(b, m, q, lanes, a, c - a);
         c += step;
     }
     wrong == 0
 }
 
-// The plain columns, which come after those of the subjects. Where they are fewer than a part, it begins among the subjects, and where a row is,
-// all of it is merged.
+// The plain columns where they are no more than one part. It ends with the row, and what it has of the subjects' columns is left out.
+pub fn one_part(b: &[u8], f: Shape, m: Matrix, q: usize) -> bool
+    requires { ⌜ Laid (now b) m × OneOrTwo q × (columns f ≤ mostColumns) × (m.lanes ≡ lanesOf q (columns f)) × (atOnce ≤ m.lanes) × (lanesOf q (f.p) ≤ atOnce) ⌝ }
+    ensures { λ r. ⌜ r ≡ all f.p (λ i. plainTest q (seenAt (now (b .entry)) m) (f.n + i)) ⌝ }
+{
+    let n = f.n;
+    let a = n + f.p - cells_in(q, AT_ONCE);
+    let mut seen = [0u16; AT_ONCE];
+    part_wrong(&mut seen, b, m, q, AT_ONCE, a, n - a) == 0
+}
+
+// The plain columns, which come after those of the subjects. Where a row has fewer lanes than a part, all of it is merged.
 pub fn plains(b: &[u8], f: Shape, m: Matrix, q: usize) -> bool
     requires { ⌜ Laid (now b) m × OneOrTwo q × (columns f ≤ mostColumns) × (m.lanes ≡ lanesOf q (columns f)) ⌝ }
     ensures { λ r. ⌜ r ≡ all f.p (λ i. plainTest q (seenAt (now (b .entry)) m) (f.n + i)) ⌝ }
 {
-    let n = f.n;
     if m.lanes < AT_ONCE {
-        return few_wrong(b, m, q, n) == 0;
+        let mut seen = [0u16; AT_ONCE];
+        return part_wrong(&mut seen, b, m, q, m.lanes, 0, f.n) == 0;
     }
-    let step = cells_in(q, AT_ONCE);
-    if f.p < step {
-        let a = n + f.p - step;
-        return part_wrong(b, m, q, a, n - a) == 0;
+    if columns::lanes_of(q, f.p) <= AT_ONCE {
+        return one_part(b, f, m, q);
     }
-    let more = cells_in(q, WIDE);
-    if f.p < more {
-        return parts_right(b, f, m, q, AT_ONCE, step);
-    }
-    parts_right(b, f, m, q, WIDE, more)
+    parts_right(b, f, m, q)
 }
