@@ -59,7 +59,7 @@ fn exists(b: &[u8], q: usize, s: usize, at: usize) -> bool
 }
 
 // Every subject exists. The byte of its own cell that has control is at `at`, and that of the next one a row and a cell further.
-fn all_present(b: &[u8], m: Matrix, q: usize) -> bool
+pub fn all_present(b: &[u8], m: Matrix, q: usize) -> bool
     requires { ⌜ Celled q (now b) m ⌝ }
     ensures { λ r. ⌜ r ≡ all m.rows (present q (now (b .entry)) m) ⌝ }
 {
@@ -88,14 +88,14 @@ fn zero_from(b: &[u8], at: usize, bytes: usize) -> bool
 
 // U has no owner, and nobody else controls it: of a tally of 2, which is the number of owners and twice that of those that control, an odd
 // number control.
-fn root_counts(tally: u8, odd: u8) -> bool
+pub fn root_counts(tally: u8, odd: u8) -> bool
     ensures { λ r. ⌜ r ≡ rootCounts tally odd ⌝ }
 {
     if tally == 2 { controls(odd) } else { false }
 }
 
 // Any other subject has one owner, and at most one besides itself controls it: 3 where an odd number control it, and 5 where an even number do.
-fn other_counts(tally: u8, odd: u8) -> bool
+pub fn other_counts(tally: u8, odd: u8) -> bool
     ensures { λ r. ⌜ r ≡ otherCounts tally odd ⌝ }
 {
     if controls(odd) {

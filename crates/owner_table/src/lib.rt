@@ -12,7 +12,7 @@ use matrix::MOST_SUBJECTS;
 
 // U's entry is U, and that of any other subject has a lower number than the subject. Those after U are all looked at, so that the compiler
 // may take many at once.
-fn descends(t: &[u8; MOST_SUBJECTS], n: usize) -> bool
+pub fn descends(t: &[u8; MOST_SUBJECTS], n: usize) -> bool
     requires { ⌜ (1 ≤ n) × (n ≤ mostSubjects) × (length (now t) ≡ mostSubjects) ⌝ }
     ensures { λ r. ⌜ r ≡ all n (lowerTest (now (t .entry))) ⌝ }
 {

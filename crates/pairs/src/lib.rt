@@ -50,7 +50,7 @@ fn put(list: &mut [u8], c: usize, counts: &[u16; AT_ONCE], unit: u16)
 }
 
 // The same, where a half counts the rows from one row on: that row into the list.
-fn put_places(list: &mut [u8], c: usize, counts: &[u16; AT_ONCE], unit: u16, rows: usize)
+pub fn put_places(list: &mut [u8], c: usize, counts: &[u16; AT_ONCE], unit: u16, rows: usize)
     requires { ⌜ (0 < unit) × (c + atOnce ≤ length (now list)) × (rows < 256) × ((j : ℕ) → j < atOnce → taken (now counts) unit j ≤ rows) ⌝ }
     ensures { λ _. ⌜ Filled c atOnce (λ x. placeOf rows (taken (now (counts .entry)) unit (x - c))) (now (list .entry)) (now (list .exit)) ⌝ }
 {

@@ -3,7 +3,7 @@ ghost use mathlib.Core.Path.{_≡_};
 ghost use Prim.Native.Nat.{_+_, _*_, _≤_, _<_};
 ghost use lib.ListN.{length};
 ghost use Rattle.lanes.specs.Lanes.{placeOf, Laid};
-ghost use Rattle.tallies.specs.Blocks.{atOnce, Sized, Room, Joined, lowBits, lanesFrom, ownUpper, Filling};
+ghost use Rattle.tallies.specs.Blocks.{atOnce, Several, Sized, Room, Joined, lowBits, lanesFrom, ownUpper, Filling};
 use lanes::Matrix;
 use lanes::UPPER;
 
@@ -30,6 +30,26 @@ fn row(
     }
 }
 
+// So many lanes from lane c on, counted over all rows in three lists of zeros.
+pub fn rows_of(
+    low: &mut [u16; AT_ONCE],
+    odd: &mut [u16; AT_ONCE],
+    since: &mut [u16; AT_ONCE],
+    b: &[u8],
+    m: Matrix,
+    c: usize,
+)
+    requires { ⌜ Laid (now b) m × (3 * m.rows < 256) × (c + atOnce ≤ m.lanes) × Several (now b) m c 0 (now low) (now odd) (now since) ⌝ }
+    ensures { λ _. ⌜ Several (now (b .entry)) m c (m.rows) (now (low .exit)) (now (odd .exit)) (now (since .exit)) ⌝ }
+{
+    let rows = m.rows;
+    let mut at = m.first + 2 * c;
+    for r in 0..rows {
+        row(low, odd, since, b, at);
+        at += 2 * m.lanes;
+    }
+}
+
 // The one row that has the bit, where a of the rows are that row and those after it; 0 where a is 0.
 pub fn place(rows: usize, a: u8) -> u8
     requires { ⌜ (rows < 256) × (a ≤ rows) ⌝ }
@@ -43,15 +63,10 @@ pub fn several(tally: &mut [u8], odd: &mut [u8], marks: &mut [u8], b: &[u8], m: 
     requires { ⌜ Laid (now b) m × (3 * m.rows < 256) × (c + atOnce ≤ m.lanes) × (c + atOnce ≤ length (now tally)) × Sized (length (now tally)) (now tally) (now odd) (now marks) ⌝ }
     ensures { λ _. ⌜ Filling (now (b .entry)) m c atOnce (now (tally .entry)) (now (odd .entry)) (now (marks .entry)) (now (tally .exit)) (now (odd .exit)) (now (marks .exit)) ⌝ }
 {
-    let rows = m.rows;
     let mut low = [0u16; AT_ONCE];
     let mut parity = [0u16; AT_ONCE];
     let mut since = [0u16; AT_ONCE];
-    let mut at = m.first + 2 * c;
-    for r in 0..rows {
-        row(&mut low, &mut parity, &mut since, b, at);
-        at += 2 * m.lanes;
-    }
+    rows_of(&mut low, &mut parity, &mut since, b, m, c);
     for j in 0..AT_ONCE {
         tally[c + j] = (low[j] / UPPER) as u8;
         odd[c + j] = (parity[j] / UPPER % 4) as u8;

@@ -6,3 +6,4 @@ pub mod Valid
 pub mod Passed
 pub mod Header
 pub mod Whole
+pub mod Few

@@ -44,15 +44,18 @@ part-wrong-requires c κs =
     let f = s .args .f in
     let h = s .pre .1 in
     let step = e .cells-in .result in
-    let whole : f .n + f .p - step + step ≡ f .n + f .p = omega (arith, step-fits e) in
-    (record {
-      laid = s .pre .0;
-      number = h;
-      first = omega (arith, step-is e .1, step-fits e, s .pre .2);
-      few = omega arith;
-      inside = omega (arith, lanes-added h (f .n + f .p - step) step, ap (lanesOf (s .args .q)) whole, step-is e .0, s .pre .3);
-      left = omega (arith, step-fits e, e .cells-in .ensures);
-    }, omega arith, refl)
+    let whole : f .n + f .p - step + step ≡ f .n + f .p = omega (arith, step-fits e) in (
+      record {
+        laid = s .pre .0;
+        number = h;
+        first = omega (arith, step-is e .1, step-fits e, s .pre .2);
+        few = omega arith;
+        inside = omega (arith, lanes-added h (f .n + f .p - step) step, ap (lanesOf (s .args .q)) whole, step-is e .0, s .pre .3);
+        left = omega (arith, step-fits e, e .cells-in .ensures);
+      },
+      omega arith,
+      refl,
+    )
 
 returns : tie.Need-returns
 returns c =

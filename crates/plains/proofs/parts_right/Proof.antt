@@ -62,15 +62,17 @@ known-wrong-requires c κs =
     let s = c .before .before .before .before .before .before .before .before in
     let e = c .before in
     let p = c .part .ensures in
-    let h = s .pre .1 in
-    (record {
-      laid = s .pre .0;
-      number = h;
-      first = omega (arith, p .within, step-is e .1, s .pre .2);
-      few = lanes-few (e .before .lanes-for .ensures .0);
-      inside = omega (arith, lanes-added h (c .part .result) (e .cells-in .result), lanes-more h _ _ (p .within), step-is e .0, s .pre .3);
-      left = omega (arith, e .cells-in .ensures, past p (c .before .before .before .before .loop-test .taken) (step-is e .1));
-    }, e .before .lanes-for .ensures .0)
+    let h = s .pre .1 in (
+      record {
+        laid = s .pre .0;
+        number = h;
+        first = omega (arith, p .within, step-is e .1, s .pre .2);
+        few = lanes-few (e .before .lanes-for .ensures .0);
+        inside = omega (arith, lanes-added h (c .part .result) (e .cells-in .result), lanes-more h _ _ (p .within), step-is e .0, s .pre .3);
+        left = omega (arith, e .cells-in .ensures, past p (c .before .before .before .before .loop-test .taken) (step-is e .1));
+      },
+      e .before .lanes-for .ensures .0,
+    )
 
 add-c : tie.Need-add-c Inv-loop μ-loop
 add-c c =

@@ -18,15 +18,18 @@ slice-aggregate-part-wrong c = search needs
 part-wrong-requires : tie.Need-part-wrong-requires
 part-wrong-requires c κs =
     let s = c .before .before .before .before in
-    let few = c .before .if1 .taken in
-    (record {
-      laid = s .pre .0;
-      number = s .pre .1;
-      first = omega arith;
-      few = omega (arith, few);
-      inside = omega (arith, lanes-none (s .pre .1));
-      left = omega (arith, cells-whole s);
-    }, omega (arith, few), refl)
+    let few = c .before .if1 .taken in (
+      record {
+        laid = s .pre .0;
+        number = s .pre .1;
+        first = omega arith;
+        few = omega (arith, few);
+        inside = omega (arith, lanes-none (s .pre .1));
+        left = omega (arith, cells-whole s);
+      },
+      omega (arith, few),
+      refl,
+    )
 
 returns : tie.Need-returns
 returns c =

@@ -85,7 +85,7 @@ returns-4 c =
 valid-requires : tie.Need-valid-requires
 valid-requires c κs =
     let e4 = c .before in
-    (station-read _ _ (octets (made4 e4)) (headed-here (e4 .before .before)) (sized-here e4), start (made4 e4) .pre)
+    (station-read _ _ (octets (made4 e4)) (headed-here (e4 .before .before)) (sized-here e4), unread _ (start (made4 e4) .pre))
 
 returns-5 : tie.Need-returns-5
 returns-5 c =
