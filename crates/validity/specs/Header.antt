@@ -20,12 +20,6 @@ use Rattle.lanes.specs.Lanes.{rowPlace}
 use Rattle.columns.specs.Cells.{cellLanes, lanesOf, matrixOf, rows-size, lanes-more, lanes-of-width}
 use Rattle.columns.specs.Checks.{Celled}
 
--- bytes with a header, with f the shape that they say, which passes the tests 2 and 3
-pub record Headed (b : List ℕ) (f : Shape) : Type 0 where
-  pub long : headerBytes ≤ length b
-  pub shape : f ≡ shapeOf b
-  pub right : ShapeRight f
-
 -- the lanes of the cells of a record's bytes
 pub lanes-celled : (b : List ℕ) (f : Shape) (m : Matrix) → Station b f → m ≡ matrixOf f → Celled (cellLanes f) b m
 lanes-celled b f m s e =
@@ -41,18 +35,6 @@ lanes-celled b f m s e =
       subjects = omega (arith, h .high);
       inside = rw width (lanes-more cells (m .rows) (columns f) (omega arith));
     }
-
--- the number of cells fits
-pub cells-most : (f : Shape) → ShapeRight f → f .n * columns f ≤ mostSubjects * (mostSubjects + mostPlain)
-cells-most f g = mul-le-mul (g .high) across
-  where
-    across : columns f ≤ mostSubjects + mostPlain
-    across = omega (arith, g .high, g .plain)
-
--- the four bytes of L
-pub count-bytes : (b : List ℕ) → numberAt b 1 4 ≡ ((getD b 1 0 * 256 + getD b 2 0) * 256 + getD b 3 0) * 256 + getD b 4 0
-unfolding numberAt
-count-bytes b = omega arith
 
 -- ---- the refusals, one by one
 

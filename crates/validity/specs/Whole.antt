@@ -30,7 +30,7 @@ use Rattle.owner_table.specs.Table.{reach, ownerIn, Inside}
 use Rattle.validity.specs.Fast.{testsPass}
 use Rattle.validity.specs.Valid.{valid-tests}
 use Rattle.validity.specs.Passed.{ownerAt, all-passed, owners-inside}
-use Rattle.validity.specs.Header.{Headed}
+use Rattle.header.specs.Headed.{Headed}
 
 -- a table of zeros, as it is before the rows are read
 pub unread : (owners : List ℕ) → owners ≡ replicate mostSubjects 0 → length owners ≡ mostSubjects
@@ -144,15 +144,3 @@ station-read b f o h s =
       size = eqb-true (length b) _ (and-right counted _ s);
     } in
     record { shaped = shaped; octets = o; shape = h .shape }
-
--- L is right, and the true length is left; L is wrong
-module _ (b : List ℕ) (f : Shape) (l : ℕ) (h : Headed b f) (e : l ≡ numberAt b 1 4) where
-  pub count-right : l ≡ countOf f → eqb (length b) (sizeOf f) ≡ sized b
-  count-right q =
-      let c : eqb (numberAt b 1 4) (countOf (shapeOf b)) ≡ true = eq-eqb _ _ (sym e ∙ q ∙ ap (λ (x : Shape). countOf x) (h .shape)) in
-      ap (λ (x : Shape). eqb (length b) (sizeOf x)) (h .shape) ∙ rw c refl
-
-  pub count-wrong : (l ≡ countOf f → ⊥) → false ≡ sized b
-  count-wrong ne =
-      let c : eqb (numberAt b 1 4) (countOf (shapeOf b)) ≡ false = ne-eqb _ _ (λ q. ne (e ∙ q ∙ ap (λ (x : Shape). countOf x) (sym (h .shape)))) in
-      rw c refl

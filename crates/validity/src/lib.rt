@@ -9,7 +9,6 @@ ghost use Rattle.matrix.specs.Reading.{stateOf};
 ghost use Rattle.matrix.specs.Record.{validMatrix, recordRefusal};
 ghost use Rattle.cells.specs.Station.{Station};
 ghost use Rattle.codec.specs.ShapeRight.{ShapeRight};
-ghost use Rattle.validity.specs.Header.{Headed};
 ghost use Rattle.validity.specs.Few.{FewColumns};
 use columns::COUNTED;
 use lanes::Matrix;
@@ -127,48 +126,6 @@ fn valid(b: &[u8], f: Shape, owners: &mut [u8; MOST_SUBJECTS]) -> bool
     tested(b, f, owners)
 }
 
-// The version is one that is read.
-fn known_version(version: usize) -> bool
-    ensures { λ r. ⌜ r ≡ knownVersion version ⌝ }
-{
-    if version == 1 { true } else { version == 2 }
-}
-
-// n and p are within the limits.
-fn in_range(f: Shape) -> bool
-    ensures { λ r. ⌜ r ≡ inRange limits f ⌝ }
-{
-    let n = f.n;
-    if n < 1 {
-        return false;
-    }
-    if n > MOST_SUBJECTS {
-        return false;
-    }
-    f.p <= MOST_PLAIN
-}
-
-// The four bytes of L.
-fn count(b: &[u8]) -> usize
-    requires { ⌜ headerBytes ≤ length (now b) ⌝ }
-    ensures { λ r. ⌜ r ≡ numberAt (now (b .entry)) 1 4 ⌝ }
-{
-    ((b[1] as usize * 256 + b[2] as usize) * 256 + b[3] as usize) * 256 + b[4] as usize
-}
-
-// L, which counts the bytes from byte 5 on, and the true length are those of the shape.
-fn right_size(b: &[u8], f: Shape) -> bool
-    requires { ⌜ Headed (now b) f ⌝ }
-    ensures { λ r. ⌜ r ≡ sized (now (b .entry)) ⌝ }
-{
-    let size = f.first + f.width * (f.n * (f.n + f.p));
-    if count(b) == size - 5 {
-        b.len() == size
-    } else {
-        false
-    }
-}
-
 // The refusal, 1 to 5, of a record, or 0 if it is valid. The table `owners`, of zeros at first, is left with a guess of who owns each
 // subject, for callers that follow owners: they test each guess, so nothing is promised of it.
 pub fn refusal_with(b: &[u8], owners: &mut [u8; MOST_SUBJECTS]) -> usize
@@ -180,13 +137,13 @@ pub fn refusal_with(b: &[u8], owners: &mut [u8; MOST_SUBJECTS]) -> usize
         return 1;
     }
     let f = opening::shape(b);
-    if !known_version(f.version) {
+    if !header::known_version(f.version) {
         return 2;
     }
-    if !in_range(f) {
+    if !header::in_range(f) {
         return 3;
     }
-    if !right_size(b, f) {
+    if !header::right_size(b, f) {
         return 4;
     }
     if valid(b, f, owners) { 0 } else { 5 }

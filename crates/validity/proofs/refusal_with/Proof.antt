@@ -7,7 +7,8 @@ use mathlib.Core.List.{List}
 use Rattle.matrix.specs.declared.Shape.{Shape}
 use Rattle.matrix.specs.Shape.{limits, shapeOf, knownVersion, inRange, sized}
 use Rattle.matrix.specs.Shaped.{Octets}
-use Rattle.validity.specs.Header.{Headed, refused-1, refused-2, refused-3, refused-4, refused-5, refused-none}
+use Rattle.header.specs.Headed.{Headed}
+use Rattle.validity.specs.Header.{refused-1, refused-2, refused-3, refused-4, refused-5, refused-none}
 use Rattle.validity.specs.Whole.{unread, version-read, range-read, headed, station-read}
 use borrow.Author.Needs.{needs}
 use Rattle.validity.proofs.refusal_with.Statement.{statement}

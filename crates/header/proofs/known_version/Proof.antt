@@ -1,8 +1,8 @@
--- `validity::known_version` meets its contract.
+-- `header::known_version` meets its contract.
 use mathlib.Core.Path.{refl}
 use borrow.Author.Tests.{eq-eqb, ne-eqb}
-use Rattle.validity.proofs.known_version.Statement.{statement}
-use Rattle.validity.proofs.known_version.Tie as tie
+use Rattle.header.proofs.known_version.Statement.{statement}
+use Rattle.header.proofs.known_version.Tie as tie
 
 returns : tie.Need-returns
 returns c = rw (eq-eqb (c .before .args .version) 1 (c .if1 .taken)) refl

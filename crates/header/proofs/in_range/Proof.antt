@@ -1,11 +1,11 @@
--- `validity::in_range` meets its contract. The three tests, one after the other, each against its limit.
+-- `header::in_range` meets its contract. The three tests, one after the other, each against its limit.
 use Prim.Native.Nat.{ℕ, _≤_, _<_}
 use native.Mathlib.Omega.{arith}
 use borrow.Author.Tests.{leb-true, le-leb, lt-leb}
 use Rattle.matrix.specs.Shape.{mostSubjects, mostPlain}
 use Rattle.laws.specs.Tests.{same-test}
-use Rattle.validity.proofs.in_range.Statement.{statement}
-use Rattle.validity.proofs.in_range.Tie as tie
+use Rattle.header.proofs.in_range.Statement.{statement}
+use Rattle.header.proofs.in_range.Tie as tie
 
 returns : tie.Need-returns
 returns c = simp (lt-leb 1 _ (c .if1 .taken))

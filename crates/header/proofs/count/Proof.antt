@@ -1,10 +1,10 @@
--- `validity::count` meets its contract. The sum of four bytes fits, each being below 256.
-use Rattle.validity.specs.Header.{count-bytes}
+-- `header::count` meets its contract. The sum of four bytes fits, each being below 256.
+use Rattle.header.specs.Headed.{count-bytes}
 use mathlib.Core.Path.{sym}
 use native.Mathlib.Omega.{arith}
 use borrow.Author.Needs.{needs}
-use Rattle.validity.proofs.count.Statement.{statement}
-use Rattle.validity.proofs.count.Tie as tie
+use Rattle.header.proofs.count.Statement.{statement}
+use Rattle.header.proofs.count.Tie as tie
 
 shared-slice-read-result : tie.Need-shared-slice-read-result
 shared-slice-read-result c = search needs

@@ -1,11 +1,10 @@
--- `validity::right_size` meets its contract. L first, then the true length.
-use Rattle.validity.specs.Whole.{count-right, count-wrong}
-use Rattle.validity.specs.Header.{cells-most}
+-- `header::right_size` meets its contract. L first, then the true length.
+use Rattle.header.specs.Headed.{cells-most, count-right, count-wrong}
 use Rattle.codec.specs.ShapeRight.{size-most}
 use native.Mathlib.Omega.{arith}
 use borrow.Author.Needs.{needs}
-use Rattle.validity.proofs.right_size.Statement.{statement}
-use Rattle.validity.proofs.right_size.Tie as tie
+use Rattle.header.proofs.right_size.Statement.{statement}
+use Rattle.header.proofs.right_size.Tie as tie
 
 add-size : tie.Need-add-size
 add-size c = search needs
