@@ -1,11 +1,10 @@
 -- The counts of a subject, from the numbers in which several lanes are counted at once.
 use Prim.Native.Nat.{ℕ, _+_, _*_, _/_, _%_, _≤_, _<_}
 use native.Mathlib.Omega.{arith}
-use mathlib.Core.Path.{_≡_, sym, _∙_, ap}
+use mathlib.Core.Path.{_≡_, _∙_, ap}
 use mathlib.Core.Bool.{Bool}
 use mathlib.Core.List.{List}
 use lib.ListN.{getD}
-use Rattle.matrix.specs.Bytes.{bit}
 use Rattle.lanes.specs.declared.Matrix.{Matrix}
 use Rattle.lanes.specs.Lanes.{lows, paired, since, upperAt, bitIn}
 use Rattle.columns.specs.Checks.{counts}

@@ -2,19 +2,19 @@
 use Prim.Native.Nat.{ℕ, zero, suc, _+_, _-_, _*_, _/_, _%_, _≤_, _<_}
 use native.Mathlib.Omega.{arith}
 use mathlib.Core.Path.{_≡_, refl, sym, _∙_, ap, ap₂, subst}
-use mathlib.Core.Bool.{Bool, true, false}
+use mathlib.Core.Bool.{true}
 use mathlib.Core.List.{List}
 use lib.ListN.{length, getD, set, replicate, length-replicate}
 use Rattle.matrix.specs.Bounded.{all}
 use Rattle.matrix.specs.declared.Shape.{Shape}
-use Rattle.matrix.specs.Shape.{columns, mostSubjects, shapeOf}
+use Rattle.matrix.specs.Shape.{mostSubjects, shapeOf}
 use Rattle.matrix.specs.Reading.{stateOf}
 use Rattle.matrix.specs.Record.{validMatrix}
 use Rattle.laws.specs.Bounded.{all-same}
-use Rattle.cells.specs.Station.{Station, right-shape}
+use Rattle.cells.specs.Station.{Station}
 use Rattle.lanes.specs.declared.Matrix.{Matrix}
 use Rattle.lanes.specs.Lists.{Holds, Stored, stored-none, stored-step, Filled}
-use Rattle.lanes.specs.Lanes.{lows, paired, markOf, placeOf, upperAt, bitIn, seenAt, Counted}
+use Rattle.lanes.specs.Lanes.{lows, paired, markOf, placeOf, upperAt, bitIn, seenAt}
 use Rattle.tallies.specs.Blocks.{atOnce, Several}
 use Rattle.pairs.specs.Pairs.{taken}
 use Rattle.columns.specs.Cells.{mostCounted, lanesOf, lastLane, matrixOf}

@@ -1,19 +1,17 @@
--- The tests 1 to 4 of a record's bytes, and the refusals one by one.
-use Prim.Native.Nat.{ℕ, _+_, _*_, _≤_, _<_}
-use native.Mathlib.Nat.{mul-le-mul}
+-- The lanes of a record's bytes, and the refusals one by one.
+use Prim.Native.Nat.{ℕ, _≤_, _<_}
 use native.Mathlib.Omega.{arith}
 use mathlib.Core.Path.{_≡_, refl, sym, _∙_, ap}
 use mathlib.Core.Bool.{true, false}
 use mathlib.Core.List.{List}
-use lib.ListN.{length, getD}
+use lib.ListN.{length}
 use borrow.Author.Tests.{le-leb, lt-leb}
-use Rattle.matrix.specs.Bytes.{numberAt}
 use Rattle.matrix.specs.declared.Shape.{Shape}
-use Rattle.matrix.specs.Shape.{limits, headerBytes, mostSubjects, mostPlain, shapeOf, knownVersion, columns, inRange, sized}
+use Rattle.matrix.specs.Shape.{limits, headerBytes, shapeOf, knownVersion, columns, inRange, sized}
 use Rattle.matrix.specs.Reading.{stateOf}
 use Rattle.matrix.specs.Tests.{firstFailed}
 use Rattle.matrix.specs.Record.{validMatrix, recordRefusal}
-use Rattle.codec.specs.ShapeRight.{ShapeRight, two-or-four}
+use Rattle.codec.specs.ShapeRight.{two-or-four}
 use Rattle.cells.specs.Station.{Station, right-shape}
 use Rattle.lanes.specs.declared.Matrix.{Matrix}
 use Rattle.lanes.specs.Lanes.{rowPlace}

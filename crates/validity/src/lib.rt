@@ -1,10 +1,8 @@
 // Whether a record is turned down, and by which of the refusals 1 to 5.
 ghost use mathlib.Core.Path.{_≡_};
 ghost use mathlib.Core.Bool.{true};
-ghost use Prim.Native.Nat.{_≤_};
 ghost use lib.ListN.{length, replicate};
-ghost use Rattle.matrix.specs.Bytes.{numberAt};
-ghost use Rattle.matrix.specs.Shape.{limits, headerBytes, mostSubjects, knownVersion, shapeOf, inRange, sized};
+ghost use Rattle.matrix.specs.Shape.{limits, mostSubjects, shapeOf};
 ghost use Rattle.matrix.specs.Reading.{stateOf};
 ghost use Rattle.matrix.specs.Record.{validMatrix, recordRefusal};
 ghost use Rattle.cells.specs.Station.{Station};
@@ -14,7 +12,6 @@ use columns::COUNTED;
 use lanes::Matrix;
 use lanes::UPPER;
 use matrix::HEADER_BYTES;
-use matrix::MOST_PLAIN;
 use matrix::MOST_SUBJECTS;
 use matrix::Shape;
 use tallies::AT_ONCE;

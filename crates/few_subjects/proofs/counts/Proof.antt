@@ -1,5 +1,4 @@
 -- `few_subjects::counts` meets its contract.
-use mathlib.Core.Path.{sym, _∙_}
 use borrow.Author.Needs.{needs}
 use borrow.Author.Tests.{eq-eqb, ne-eqb}
 use Rattle.few_subjects.proofs.counts.Statement.{statement}
