@@ -13,7 +13,7 @@ use Rattle.laws.specs.Bounded.{all-same, all-each}
 use Rattle.lanes.specs.declared.Matrix.{Matrix}
 use Rattle.lanes.specs.Lanes.{rowBytes, rowPlace, seenAt, Seen}
 use Rattle.columns.specs.Cells.{OneOrTwo, lanesOf, lastLane, bitsIn, either-way, last-inside, bits-moved}
-use Rattle.columns.specs.Checks.{present, zeroFrom, rootCounts, otherCounts, countTest, unseen, judged, subjectAt, subjectTest, Celled}
+use Rattle.columns.specs.Checks.{present, zeroFrom, rootCounts, otherCounts, counts, countTest, unseen, judged, subjectAt, subjectTest, Celled}
 
 -- bit 1, as the code tests it
 pub bit-one : (v : ℕ) → eqb (v / 2 % 2) 1 ≡ bit 1 v
@@ -72,17 +72,13 @@ absent-column s v y ne e = rw (ne-eqb s 0 ne, ne-eqb v 0 e) refl
 pub absent-row : (s v : ℕ) (y r : Bool) → (s ≡ 0 → ⊥) → v ≡ 0 → r ≡ y → r ≡ (not (eqb s 0) && (eqb v 0 && y))
 absent-row s v y r ne e q = rw (ne-eqb s 0 ne, eq-eqb v 0 e) q
 
--- a subject whose row begins at `at`: U, any other that exists, an absent one
+-- a subject whose row begins at `at`: one that exists, an absent one
 module _ (q : ℕ) (b : List ℕ) (m : ℕ) (seen : ℕ → ℕ) (tally odd : List ℕ) (s at : ℕ) (r : Bool) where
   abbrev self : Bool
   self = bit 1 (getD b (at + (2 * lastLane q s + 1)) 0)
 
-  pub subject-root : (j : ℕ) → j ≡ lastLane q s → self ≡ true → s ≡ 0 → r ≡ rootCounts (getD tally j 0) (getD odd j 0) → r ≡ subjectAt q b m seen tally odd s at
-  subject-root j p h e k = rw (h, eq-eqb s 0 e) (k ∙ ap (λ (i : ℕ). rootCounts (getD tally i 0) (getD odd i 0)) p)
-
-  pub subject-other : (j : ℕ) → j ≡ lastLane q s → self ≡ true → (s ≡ 0 → ⊥) → r ≡ otherCounts (getD tally j 0) (getD odd j 0)
-      → r ≡ subjectAt q b m seen tally odd s at
-  subject-other j p h ne k = rw (h, ne-eqb s 0 ne) (k ∙ ap (λ (i : ℕ). otherCounts (getD tally i 0) (getD odd i 0)) p)
+  pub subject-here : (j : ℕ) → j ≡ lastLane q s → self ≡ true → r ≡ counts s (getD tally j 0) (getD odd j 0) → r ≡ subjectAt q b m seen tally odd s at
+  subject-here j p h k = rw h (k ∙ ap (λ (i : ℕ). counts s (getD tally i 0) (getD odd i 0)) p)
 
   pub subject-absent : self ≡ false → r ≡ (not (eqb s 0) && (unseen q seen s && zeroFrom b at m)) → r ≡ subjectAt q b m seen tally odd s at
   subject-absent h k = rw h k

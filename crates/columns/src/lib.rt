@@ -10,7 +10,7 @@ ghost use Rattle.matrix.specs.Shape.{mostSubjects};
 ghost use Rattle.lanes.specs.Lanes.{seenAt};
 ghost use Rattle.lanes.specs.Lists.{Stored};
 ghost use Rattle.columns.specs.Cells.{OneOrTwo, mostColumns, mostCounted, lanesOf, lastLane, bitsIn};
-ghost use Rattle.columns.specs.Checks.{present, zeroFrom, rootCounts, otherCounts, countTest, subjectAt, subjectTest, Celled, Placed, Lists};
+ghost use Rattle.columns.specs.Checks.{present, zeroFrom, rootCounts, otherCounts, counts, countTest, subjectAt, subjectTest, Celled, Placed, Lists};
 use lanes::Matrix;
 use matrix::MOST_SUBJECTS;
 
@@ -88,14 +88,14 @@ fn zero_from(b: &[u8], at: usize, bytes: usize) -> bool
 
 // U has no owner, and nobody else controls it: of a tally of 2, which is the number of owners and twice that of those that control, an odd
 // number control.
-pub fn root_counts(tally: u8, odd: u8) -> bool
+fn root_counts(tally: u8, odd: u8) -> bool
     ensures { λ r. ⌜ r ≡ rootCounts tally odd ⌝ }
 {
     if tally == 2 { controls(odd) } else { false }
 }
 
 // Any other subject has one owner, and at most one besides itself controls it: 3 where an odd number control it, and 5 where an even number do.
-pub fn other_counts(tally: u8, odd: u8) -> bool
+fn other_counts(tally: u8, odd: u8) -> bool
     ensures { λ r. ⌜ r ≡ otherCounts tally odd ⌝ }
 {
     if controls(odd) {
@@ -103,6 +103,16 @@ pub fn other_counts(tally: u8, odd: u8) -> bool
     } else {
         tally == 5
     }
+}
+
+// The counts of subject s, which exists.
+pub fn counts(s: usize, tally: u8, odd: u8) -> bool
+    ensures { λ r. ⌜ r ≡ counts s tally odd ⌝ }
+{
+    if s == 0 {
+        return root_counts(tally, odd);
+    }
+    other_counts(tally, odd)
 }
 
 // The counts of the n subjects, where all exist. Those after U are all looked at, so that the compiler may take many at once.
@@ -155,11 +165,7 @@ fn subject(
         return absent(b, seen, q, s, at, bytes);
     }
     let j = last_lane(q, s);
-    if s == 0 {
-        root_counts(tally[j], odd[j])
-    } else {
-        other_counts(tally[j], odd[j])
-    }
+    counts(s, tally[j], odd[j])
 }
 
 // The subjects one after another, each with its row.

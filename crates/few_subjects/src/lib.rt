@@ -4,20 +4,9 @@ ghost use Prim.Native.Nat.{_≤_};
 ghost use lib.ListN.{length};
 ghost use Rattle.matrix.specs.Bounded.{all};
 ghost use Rattle.tallies.specs.Blocks.{atOnce};
-ghost use Rattle.columns.specs.Checks.{counts};
 ghost use Rattle.few_subjects.specs.Counts.{fewTest};
 use lanes::UPPER;
 use tallies::AT_ONCE;
-
-// The counts of subject s, which exists.
-fn counts(s: usize, tally: u8, odd: u8) -> bool
-    ensures { λ r. ⌜ r ≡ counts s tally odd ⌝ }
-{
-    if s == 0 {
-        return columns::root_counts(tally, odd);
-    }
-    columns::other_counts(tally, odd)
-}
 
 // The counts of the n subjects, where all exist, of which each is in the upper part of a number. All of them are looked at.
 pub fn counts_fit(low: &[u16; AT_ONCE], odd: &[u16; AT_ONCE], n: usize) -> bool
@@ -28,7 +17,7 @@ pub fn counts_fit(low: &[u16; AT_ONCE], odd: &[u16; AT_ONCE], n: usize) -> bool
     for s in 0..n {
         let tally = (low[s] / UPPER % UPPER) as u8;
         let parity = (odd[s] / UPPER % 4) as u8;
-        wrong = wrong | lanes::fault(counts(s, tally, parity));
+        wrong = wrong | lanes::fault(columns::counts(s, tally, parity));
     }
     wrong == 0
 }

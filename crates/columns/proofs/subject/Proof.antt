@@ -1,4 +1,4 @@
--- `columns::subject` meets its contract. By whether the subject's own cell has control, and whether the subject is U.
+-- `columns::subject` meets its contract. By whether the subject's own cell has control.
 use Prim.Native.Nat.{_+_, _*_}
 use mathlib.Core.Path.{_≡_, sym, _∙_}
 use mathlib.Core.Bool.{true}
@@ -6,7 +6,7 @@ use lib.ListN.{getD}
 use Rattle.matrix.specs.Bytes.{bit}
 use borrow.Author.Tests.{not-true, not-false}
 use Rattle.columns.specs.Cells.{lastLane, last-counted}
-use Rattle.columns.specs.Loops.{subject-root, subject-other, subject-absent}
+use Rattle.columns.specs.Loops.{subject-here, subject-absent}
 use borrow.Author.Needs.{needs}
 use Rattle.columns.proofs.subject.Statement.{statement}
 use Rattle.columns.proofs.subject.Tie as tie
@@ -30,35 +30,20 @@ returns c =
 last-lane-requires : tie.Need-last-lane-requires
 last-lane-requires c κs = search needs
 
-element-copy-out-root-counts : tie.Need-element-copy-out-root-counts
-element-copy-out-root-counts c = last-counted (search needs) _ _ (search needs) (c .before .last-lane .ensures)
+element-copy-out-counts : tie.Need-element-copy-out-counts
+element-copy-out-counts c = last-counted (search needs) _ _ (search needs) (c .last-lane .ensures)
 
-element-copy-out-root-counts-2 : tie.Need-element-copy-out-root-counts-2
-element-copy-out-root-counts-2 c = last-counted (search needs) _ _ (search needs) (c .before .before .last-lane .ensures)
+element-copy-out-counts-2 : tie.Need-element-copy-out-counts-2
+element-copy-out-counts-2 c = last-counted (search needs) _ _ (search needs) (c .before .last-lane .ensures)
 
-root-counts-requires : tie.Need-root-counts-requires
-root-counts-requires c κs = search needs
-
-element-copy-out-other-counts : tie.Need-element-copy-out-other-counts
-element-copy-out-other-counts c = last-counted (search needs) _ _ (search needs) (c .before .last-lane .ensures)
-
-element-copy-out-other-counts-2 : tie.Need-element-copy-out-other-counts-2
-element-copy-out-other-counts-2 c = last-counted (search needs) _ _ (search needs) (c .before .before .last-lane .ensures)
-
-other-counts-requires : tie.Need-other-counts-requires
-other-counts-requires c κs = search needs
+counts-requires : tie.Need-counts-requires
+counts-requires c κs = search needs
 
 returns-2 : tie.Need-returns-2
 returns-2 c =
-    let a = c .before .before .before .before .before .before .before .before .args in
-    subject-root (a .q) (a .b .now) (a .bytes) (λ j. getD (a .seen .now) j 0) (a .tally .now) (a .odd .now) (a .s) (a .at) _ _ (c .before .before .before .before .last-lane .ensures)
-    (here (c .before .before .before .before .before)) (c .before .before .before .if2 .taken) (c .root-counts .ensures)
-
-returns-3 : tie.Need-returns-3
-returns-3 c =
-    let a = c .before .before .before .before .before .before .before .before .args in
-    subject-other (a .q) (a .b .now) (a .bytes) (λ j. getD (a .seen .now) j 0) (a .tally .now) (a .odd .now) (a .s) (a .at) _ _ (c .before .before .before .before .last-lane .ensures)
-    (here (c .before .before .before .before .before)) (c .before .before .before .if2 .left) (c .other-counts .ensures)
+    let a = c .before .before .before .before .before .before .before .args in
+    subject-here (a .q) (a .b .now) (a .bytes) (λ j. getD (a .seen .now) j 0) (a .tally .now) (a .odd .now) (a .s) (a .at) _ _ (c .before .before .before .last-lane .ensures)
+    (here (c .before .before .before .before)) (c .counts .ensures)
 
 pub subject-spec : {M : Type 1} → statement M
 subject-spec =
@@ -68,11 +53,7 @@ subject-spec =
     absent-requires
     returns
     last-lane-requires
-    element-copy-out-root-counts
-    element-copy-out-root-counts-2
-    root-counts-requires
-    element-copy-out-other-counts
-    element-copy-out-other-counts-2
-    other-counts-requires
-    returns-2
-    returns-3)
+    element-copy-out-counts
+    element-copy-out-counts-2
+    counts-requires
+    returns-2)

@@ -1,8 +1,8 @@
--- `few_subjects::counts` meets its contract.
+-- `columns::counts` meets its contract.
 use borrow.Author.Needs.{needs}
 use borrow.Author.Tests.{eq-eqb, ne-eqb}
-use Rattle.few_subjects.proofs.counts.Statement.{statement}
-use Rattle.few_subjects.proofs.counts.Tie as tie
+use Rattle.columns.proofs.counts.Statement.{statement}
+use Rattle.columns.proofs.counts.Tie as tie
 
 root-counts-requires : tie.Need-root-counts-requires
 root-counts-requires c κs = search needs
