@@ -8,30 +8,30 @@ use Rattle.question.specs.declared.Safety.TheVariants.{Refused}
 use Rattle.question.specs.Asked.{Answers}
 
 -- the most bytes of the input, and the bytes of the question at its end
-abbrev pub mostInput : ℕ
-mostInput = 65536
+abbrev pub most_input : ℕ
+most_input = 65536
 
-abbrev pub questionBytes : ℕ
-questionBytes = 11
+abbrev pub question_bytes : ℕ
+question_bytes = 11
 
 -- where the question starts
 abbrev pub tail_at : List ℕ → ℕ
-tail_at input = length input - questionBytes
+tail_at input = length input - question_bytes
 
 pub record AnswersInput (input out out' : List ℕ) (r : Safety) : Type 0 where
-  pub long : mostInput < length input → (r ≡ Refused 4) × (out' ≡ out)
-  pub short : length input < questionBytes → (r ≡ Refused 1) × (out' ≡ out)
-  pub asked : questionBytes ≤ length input → length input ≤ mostInput
+  pub long : most_input < length input → (r ≡ Refused 4) × (out' ≡ out)
+  pub short : length input < question_bytes → (r ≡ Refused 1) × (out' ≡ out)
+  pub asked : question_bytes ≤ length input → length input ≤ most_input
       → Answers limits (take (tail_at input) input) (number_at input (tail_at input) 8) (get_or input (tail_at input + 8) 0) (get_or input (tail_at input + 9) 0) (get_or input (tail_at input + 10) 0) out out' r
 
 module _ (input out : List ℕ) where
-  pub too_long : mostInput < length input → AnswersInput input out out (Refused 4)
+  pub too_long : most_input < length input → AnswersInput input out out (Refused 4)
   too_long h = record { long = λ l. (refl, refl); short = λ l. absurd (omega arith); asked = λ l u. absurd (omega arith) }
 
-  pub too_short : length input < questionBytes → AnswersInput input out out (Refused 1)
+  pub too_short : length input < question_bytes → AnswersInput input out out (Refused 1)
   too_short h = record { long = λ l. absurd (omega arith); short = λ l. (refl, refl); asked = λ l u. absurd (omega arith) }
 
-  pub asked-so : {out' : List ℕ} {r : Safety} {mask s o right : ℕ} → questionBytes ≤ length input → length input ≤ mostInput → mask ≡ number_at input (tail_at input) 8 → s ≡ get_or input (tail_at input + 8) 0 → o ≡ get_or input (tail_at input + 9) 0 → right ≡ get_or input (tail_at input + 10) 0
+  pub asked_so : {out' : List ℕ} {r : Safety} {mask s o right : ℕ} → question_bytes ≤ length input → length input ≤ most_input → mask ≡ number_at input (tail_at input) 8 → s ≡ get_or input (tail_at input + 8) 0 → o ≡ get_or input (tail_at input + 9) 0 → right ≡ get_or input (tail_at input + 10) 0
       → Answers limits (take (tail_at input) input) mask s o right out out' r → AnswersInput input out out' r
-  asked-so {out'} {r} l u e f g h a =
+  asked_so {out'} {r} l u e f g h a =
       record { long = λ z. absurd (omega arith); short = λ z. absurd (omega arith); asked = λ y z. rw (← e, ← f, ← g, ← h) a }

@@ -1,5 +1,7 @@
 // The safety question in the program's input: a record, and as the last 11 bytes the trust mask, s, o and the right.
 
+#![tactic(auto)]
+
 ghost use Rattle.std.specs.Prelude.{◌≡◌, ◌+◌, ◌≤◌, length};
 ghost use Rattle.matrix.specs.Bytes.{number_at};
 ghost use Rattle.asking.specs.Input.{AnswersInput};

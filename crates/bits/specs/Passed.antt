@@ -6,24 +6,24 @@ use Rattle.matrix.specs.Names.{same_name, name_of}
 use Rattle.matrix.specs.State.{State}
 
 -- row w is one of the first r; name x is that of one of the first c columns of a record of n subject names
-unfoldable pub firstRows : ℕ → ℕ → Bool
-firstRows r w = any r (λ d. eqb w d)
+unfoldable pub first_rows : ℕ → ℕ → Bool
+first_rows r w = any r (λ d. eqb w d)
 
-unfoldable pub firstColumns : ℕ → ℕ → Name → Bool
-firstColumns n c x = any c (λ d. same_name x (name_of n d))
+unfoldable pub first_columns : ℕ → ℕ → Name → Bool
+first_columns n c x = any c (λ d. same_name x (name_of n d))
 
 -- the cells of column c in the first r rows; the cells of row r in the first c columns
-abbrev pub columnPart : ℕ → ℕ → ℕ → ℕ → Name → Bool
-columnPart n c r w x = firstRows r w && same_name x (name_of n c)
+abbrev pub column_part : ℕ → ℕ → ℕ → ℕ → Name → Bool
+column_part n c r w x = first_rows r w && same_name x (name_of n c)
 
-abbrev pub rowPart : ℕ → ℕ → ℕ → ℕ → Name → Bool
-rowPart n r c w x = eqb w r && firstColumns n c x
+abbrev pub row_part : ℕ → ℕ → ℕ → ℕ → Name → Bool
+row_part n r c w x = eqb w r && first_columns n c x
 
 -- the cells of row r
 abbrev pub in_row : ℕ → ℕ → Name → Bool
 in_row r w x = eqb w r
 
 -- i has gained own over what s owns in the first c columns
-abbrev pub inheritPart : ℕ → ℕ → ℕ → ℕ → State → State
-inheritPart n i s c S =
-    record { top = S.top; owns = λ w x. S.owns w x || eqb w i && firstColumns n c x && S.owns s x; controls = S.controls; basic = S.basic }
+abbrev pub inherit_part : ℕ → ℕ → ℕ → ℕ → State → State
+inherit_part n i s c S =
+    record { top = S.top; owns = λ w x. S.owns w x || eqb w i && first_columns n c x && S.owns s x; controls = S.controls; basic = S.basic }

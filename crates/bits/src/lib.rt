@@ -1,25 +1,27 @@
 // Bits and cells of a record that is of the right form changed: a right given or taken, a column or a row cleared, own inherited.
 
+#![tactic(auto)]
+
 ghost use Rattle.std.specs.Prelude.{◌≡◌, ◌<◌};
 ghost use Rattle.matrix.specs.Names.{name_of};
 ghost use Rattle.matrix.specs.State.{put, clear};
 ghost use Rattle.matrix.specs.Shape.{columns};
 ghost use Rattle.matrix.specs.Reading.{state_of};
-ghost use Rattle.matrix.specs.Changes.{inherit, inColumn};
-ghost use Rattle.codec.specs.Bits.{withBit};
+ghost use Rattle.matrix.specs.Changes.{inherit, in_column};
+ghost use Rattle.codec.specs.Bits.{with_bit};
 ghost use Rattle.cells.specs.Station.{Station, Cell};
 ghost use Rattle.states.specs.Needs.{RightIn, BitIn};
 ghost use Rattle.bits.specs.Became.{Became};
 ghost use Rattle.bits.specs.Passed.{in_row};
 ghost use Rattle.codec.specs.ShapeRight.{TwoOrFour};
-ghost use Rattle.bits.specs.OwnBytes.{lastByte, ownJoined};
+ghost use Rattle.bits.specs.OwnBytes.{last_byte, own_joined};
 
 use matrix::{Name, Right, Shape};
 
 // The byte v with bit j set or cleared.
 fn with_bit(v: u8, j: usize, on: bool) -> u8
     requires { j < 8 }
-    ensures { result ≡ withBit j on v }
+    ensures { result ≡ with_bit j on v }
 {
     if on { v | (1 << j) } else { v - (v & (1 << j)) }
 }
@@ -46,7 +48,7 @@ pub fn put_right(b: &mut [u8], f: Shape, y: Right, w: usize, x: Name, on: bool)
 // Every cell of column c is cleared.
 pub fn clear_column(b: &mut [u8], f: Shape, c: usize)
     requires { Station b.old f × (c < columns f) }
-    ensures { Became b.old b.new (clear (inColumn (name_of f.n c)) (state_of b.old)) }
+    ensures { Became b.old b.new (clear (in_column (name_of f.n c)) (state_of b.old)) }
 {
     let n = f.n;
     for w in 0..n {
@@ -95,7 +97,7 @@ pub fn clear_row(b: &mut [u8], f: Shape, r: usize)
 // many bytes at once.
 fn last_byte(width: usize, k: usize) -> u8
     requires { TwoOrFour width }
-    ensures { result ≡ lastByte width k }
+    ensures { result ≡ last_byte width k }
 {
     (k % 2) as u8 & ((k / 2 % 2) as u8 | (width == 2) as u8)
 }
@@ -103,7 +105,7 @@ fn last_byte(width: usize, k: usize) -> u8
 // The byte x at place k of a row, joined with own where the byte y of another row has it: own is bit 0 of a cell's last byte.
 fn own_joined(x: u8, y: u8, width: usize, k: usize) -> u8
     requires { TwoOrFour width }
-    ensures { result ≡ ownJoined width x y k }
+    ensures { result ≡ own_joined width x y k }
 {
     x | (y & last_byte(width, k))
 }

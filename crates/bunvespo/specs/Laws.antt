@@ -6,12 +6,12 @@ use Rattle.std.proofs.Math.ListN.{length, get_or}
 use Rattle.std.proofs.lemmas.Bool.{eqb-false}
 use Rattle.matrix.specs.Shape.{limits, shape_of}
 use Rattle.matrix.specs.Shaped.{Octets}
-use Rattle.matrix.specs.CommandList.{commandsOf}
+use Rattle.matrix.specs.CommandList.{commands_of}
 use Rattle.laws.specs.Tests.{way}
 use Rattle.question.specs.declared.Safety.{Safety}
 use Rattle.question.specs.declared.Safety.TheVariants.{Safe, Leaks, Refused}
-use Rattle.question.specs.Asked.{listRoom, safetyRefusal, Decided, Answers}
-use Rattle.question.specs.Numbers.{safetyNumbers}
+use Rattle.question.specs.Asked.{list_room, safety_refusal, Decided, Answers}
+use Rattle.question.specs.Numbers.{safety_numbers}
 use Rattle.bunvespo.specs.Numbers.{AnswersNumbers}
 
 -- r is the answer a, and it is known to be q
@@ -19,13 +19,13 @@ pub numbers_of : {A B : Type 0} (f : A → B) {r a q : A} → r ≡ a → r ≡ 
 numbers_of f e h = ap f (sym h ∙ e)
 
 module _ {b : List ℕ} {mask s o right : ℕ} {out out' : List ℕ} {r : Safety} (h : Answers limits b mask s o right out out' r) where
-  pub answers-numbers : {q : Safety} → r ≡ q → AnswersNumbers b mask s o right out out' (safetyNumbers q)
-  answers-numbers e = record { answer = r; answers = h; is = ap safetyNumbers (sym e) }
+  pub answers_numbers : {q : Safety} → r ≡ q → AnswersNumbers b mask s o right out out' (safety_numbers q)
+  answers_numbers e = record { answer = r; answers = h; is = ap safety_numbers (sym e) }
 
-  abbrev isLeak : Safety → Bool
-  isLeak Safe = false
-  isLeak (Leaks k) = true
-  isLeak (Refused k) = false
+  abbrev is_leak : Safety → Bool
+  is_leak Safe = false
+  is_leak (Leaks k) = true
+  is_leak (Refused k) = false
 
   abbrev number : Safety → ℕ
   number Safe = 0
@@ -33,18 +33,18 @@ module _ {b : List ℕ} {mask s o right : ℕ} {out out' : List ℕ} {r : Safety
   number (Refused k) = 0
 
   -- the commands of a leak are at most n + 2, and n is a byte
-  pub few-commands : Octets b → (commands : ℕ) → r ≡ Leaks commands → commands ≤ 257
+  pub few_commands : Octets b → (commands : ℕ) → r ≡ Leaks commands → commands ≤ 257
   unfolding shape_of
-  few-commands octets commands e = go (way (eqb (safetyRefusal limits b mask s o right (length out)) 0))
+  few_commands octets commands e = go (way (eqb (safety_refusal limits b mask s o right (length out)) 0))
     where
       said : Decided b mask s o right out out' r → commands ≤ 257
-      said (inl d) = absurd (true≢false (sym (ap isLeak e) ∙ ap isLeak d.0))
+      said (inl d) = absurd (true≢false (sym (ap is_leak e) ∙ ap is_leak d.0))
       said (inr d) =
           let same : commands ≡ d.0 = ap number (sym e ∙ d.1) in
-          let some : length (commandsOf (take (listRoom d.0) out')) ≡ d.0 = d.2.number in
-          let few : length (commandsOf (take (listRoom d.0) out')) ≤ get_or b 5 0 + 2 = d.2.leaks.few in
+          let some : length (commands_of (take (list_room d.0) out')) ≡ d.0 = d.2.number in
+          let few : length (commands_of (take (list_room d.0) out')) ≤ get_or b 5 0 + 2 = d.2.leaks.few in
           omega (arith, octets.octet 5)
 
-      go : (eqb (safetyRefusal limits b mask s o right (length out)) 0 ≡ true) ⊎ (eqb (safetyRefusal limits b mask s o right (length out)) 0 ≡ false) → commands ≤ 257
+      go : (eqb (safety_refusal limits b mask s o right (length out)) 0 ≡ true) ⊎ (eqb (safety_refusal limits b mask s o right (length out)) 0 ≡ false) → commands ≤ 257
       go (inl q) = said (h.decided (eqb-true _ 0 q))
-      go (inr q) = absurd (true≢false (sym (ap isLeak e) ∙ ap isLeak (h.refused (eqb-false _ 0 q)).0))
+      go (inr q) = absurd (true≢false (sym (ap is_leak e) ∙ ap is_leak (h.refused (eqb-false _ 0 q)).0))

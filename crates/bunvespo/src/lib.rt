@@ -1,12 +1,14 @@
 // The public calls for programs in other languages, each under a name of C. The file include/bunvespo.h says what the numbers mean.
 
+#![tactic(auto)]
+
 ghost use Rattle.std.specs.Prelude.{◌≡◌, length};
 ghost use Rattle.matrix.specs.Shape.{limits};
-ghost use Rattle.matrix.specs.Calls.{validAnswer, heldAnswer, commandAnswer, commandBytes, runAnswer, runBytes};
-ghost use Rattle.matrix.specs.Converting.{convertResult, convertOutput};
-ghost use Rattle.matrix.specs.FirstHeld.{firstHeldResult, Lent};
+ghost use Rattle.matrix.specs.Calls.{valid_answer, held_answer, command_answer, command_bytes, run_answer, run_bytes};
+ghost use Rattle.matrix.specs.Converting.{convert_result, convert_output};
+ghost use Rattle.matrix.specs.FirstHeld.{first_held_result, Lent};
 ghost use Rattle.station.specs.Given.{fields_of};
-ghost use Rattle.matrix.specs.Numbers.{truth, heldNumbers, commandNumbers, runNumbers};
+ghost use Rattle.matrix.specs.Numbers.{truth, held_numbers, command_numbers, run_numbers};
 ghost use Rattle.history.specs.Calls.{Emptied, Put, Counted};
 ghost use Rattle.bunvespo.specs.Numbers.{AnswersNumbers};
 
@@ -16,7 +18,7 @@ use question::Safety;
 // Whether a record is valid: 1 or 0.
 #[unsafe(no_mangle)]
 pub extern "C" fn bunvespo_valid(b: &[u8]) -> u64
-    ensures { result ≡ truth (validAnswer limits b.now) }
+    ensures { result ≡ truth (valid_answer limits b.now) }
 {
     if station::valid(b) { 1 } else { 0 }
 }
@@ -24,7 +26,7 @@ pub extern "C" fn bunvespo_valid(b: &[u8]) -> u64
 // Whether a right is held: the value is 1 or 0.
 #[unsafe(no_mangle)]
 pub extern "C" fn bunvespo_held(b: &[u8], s: u64, o: u64, right: u64) -> Numbers
-    ensures { result ≡ heldNumbers (heldAnswer limits b.now s o right) }
+    ensures { result ≡ held_numbers (held_answer limits b.now s o right) }
 {
     let answer = station::held(b, s, o, right);
     match answer {
@@ -53,8 +55,8 @@ pub extern "C" fn bunvespo_command(
     o: u64,
     k: u64,
 ) -> Numbers
-    ensures numbers { result ≡ commandNumbers (commandAnswer limits b.old (fields_of code i s o k)) }
-    ensures bytes { b.new ≡ commandBytes limits b.old (fields_of code i s o k) }
+    ensures numbers { result ≡ command_numbers (command_answer limits b.old (fields_of code i s o k)) }
+    ensures bytes { b.new ≡ command_bytes limits b.old (fields_of code i s o k) }
 {
     let answer = station::command(b, code, i, s, o, k);
     match answer {
@@ -72,8 +74,8 @@ pub extern "C" fn bunvespo_command(
 // A list of commands: the value is the number accepted.
 #[unsafe(no_mangle)]
 pub extern "C" fn bunvespo_run(b: &mut [u8], l: &[u8]) -> Numbers
-    ensures numbers { result ≡ runNumbers (runAnswer limits b.old l.now) }
-    ensures bytes { b.new ≡ runBytes limits b.old l.now }
+    ensures numbers { result ≡ run_numbers (run_answer limits b.old l.now) }
+    ensures bytes { b.new ≡ run_bytes limits b.old l.now }
 {
     let outcome = station::run(b, l);
     Numbers {
@@ -121,7 +123,7 @@ pub extern "C" fn bunvespo_first_held(
     right: u64,
     copy: &mut [u8],
 ) -> Numbers
-    ensures numbers { result ≡ firstHeldResult limits b.now l.now s o right (length copy.old) }
+    ensures numbers { result ≡ first_held_result limits b.now l.now s o right (length copy.old) }
     ensures lent { Lent result.refusal (length b.now) copy.old copy.new }
 {
     station::first_held(b, l, s, o, right, copy)
@@ -130,8 +132,8 @@ pub extern "C" fn bunvespo_first_held(
 // A record in version 1 at the start of the output: the value is the bytes of the new record.
 #[unsafe(no_mangle)]
 pub extern "C" fn bunvespo_to_version_1(b: &[u8], out: &mut [u8]) -> Numbers
-    ensures numbers { result ≡ convertResult limits 1 b.now out.old }
-    ensures bytes { out.new ≡ convertOutput limits 1 b.now out.old }
+    ensures numbers { result ≡ convert_result limits 1 b.now out.old }
+    ensures bytes { out.new ≡ convert_output limits 1 b.now out.old }
 {
     station::to_version_1(b, out)
 }
@@ -139,8 +141,8 @@ pub extern "C" fn bunvespo_to_version_1(b: &[u8], out: &mut [u8]) -> Numbers
 // The same in version 2.
 #[unsafe(no_mangle)]
 pub extern "C" fn bunvespo_to_version_2(b: &[u8], out: &mut [u8]) -> Numbers
-    ensures numbers { result ≡ convertResult limits 2 b.now out.old }
-    ensures bytes { out.new ≡ convertOutput limits 2 b.now out.old }
+    ensures numbers { result ≡ convert_result limits 2 b.now out.old }
+    ensures bytes { out.new ≡ convert_output limits 2 b.now out.old }
 {
     station::to_version_2(b, out)
 }

@@ -3,17 +3,17 @@ use Rattle.std.specs.Prelude.{ℕ, ◌+◌, ◌*◌, ◌/◌, ◌%◌, ◌≤◌
 use Rattle.std.proofs.Common.{mod-eq_of_lt, arith, sym, ◌∙◌, ap, ap₂, ⊎_elim}
 use Rattle.std.proofs.Math.Nat.{div-div-eq-div-mul}
 use Rattle.std.proofs.Math.Arith.{digits_div, digits_mod}
-use Rattle.matrix.specs.Bytes.{number_at, setNumber}
+use Rattle.matrix.specs.Bytes.{number_at, set_number}
 use Rattle.matrix.specs.Shaped.{Octets}
 use Rattle.codec.specs.ShapeRight.{TwoOrFour}
-use Rattle.codec.specs.Numbers.{two-read, two-stored, four-read, four-stored}
+use Rattle.codec.specs.Numbers.{two_read, two_stored, four_read, four_stored}
 
 -- a cell's bytes are two or more, and four where they are not two
-pub two-least : {w : ℕ} → TwoOrFour w → 2 ≤ w
-two-least {w} h = ⊎_elim (λ (e : w ≡ 2). omega arith) (λ (e : w ≡ 4). omega arith) h
+pub two_least : {w : ℕ} → TwoOrFour w → 2 ≤ w
+two_least {w} h = ⊎_elim (λ (e : w ≡ 2). omega arith) (λ (e : w ≡ 4). omega arith) h
 
-pub not-two : {w : ℕ} → TwoOrFour w → (w ≡ 2 → ⊥) → w ≡ 4
-not-two {w} h ne = ⊎_elim (λ (e : w ≡ 2). absurd (ne e)) (λ (e : w ≡ 4). e) h
+pub not_two : {w : ℕ} → TwoOrFour w → (w ≡ 2 → ⊥) → w ≡ 4
+not_two {w} h ne = ⊎_elim (λ (e : w ≡ 2). absurd (ne e)) (λ (e : w ≡ 4). e) h
 
 -- v and m have the same four bytes, in v from the lowest on and in m from the highest on
 pub record Turned (v m : ℕ) : Type 0 where
@@ -21,10 +21,10 @@ pub record Turned (v m : ℕ) : Type 0 where
   pub q : ℕ
   pub x : ℕ
   pub y : ℕ
-  pub p-byte : p < 256
-  pub q-byte : q < 256
-  pub x-byte : x < 256
-  pub y-byte : y < 256
+  pub p_byte : p < 256
+  pub q_byte : q < 256
+  pub x_byte : x < 256
+  pub y_byte : y < 256
   pub word : v ≡ p + q * 256 + x * 65536 + y * 16777216
   pub number : m ≡ (p * 256 + q) * 65536 + (x * 256 + y)
 
@@ -38,27 +38,27 @@ module _ (b : List ℕ) (o : Octets b) (at : ℕ) where
         q = 0;
         x = get_or b at 0;
         y = get_or b (at + 1) 0;
-        p-byte = omega arith;
-        q-byte = omega arith;
-        x-byte = o.octet at;
-        y-byte = o.octet (at + 1);
+        p_byte = omega arith;
+        q_byte = omega arith;
+        x_byte = o.octet at;
+        y_byte = o.octet (at + 1);
         word = omega arith;
-        number = two-read b at ∙ omega arith;
+        number = two_read b at ∙ omega arith;
       }
 
-  pub turned-four : Turned (get_or b at 0 + get_or b (at + 1) 0 * 256 + get_or b (at + 2) 0 * 65536 + get_or b (at + 3) 0 * 16777216) (number_at b at 4)
-  turned-four =
+  pub turned_four : Turned (get_or b at 0 + get_or b (at + 1) 0 * 256 + get_or b (at + 2) 0 * 65536 + get_or b (at + 3) 0 * 16777216) (number_at b at 4)
+  turned_four =
       record {
         p = get_or b at 0;
         q = get_or b (at + 1) 0;
         x = get_or b (at + 2) 0;
         y = get_or b (at + 3) 0;
-        p-byte = o.octet at;
-        q-byte = o.octet (at + 1);
-        x-byte = o.octet (at + 2);
-        y-byte = o.octet (at + 3);
+        p_byte = o.octet at;
+        q_byte = o.octet (at + 1);
+        x_byte = o.octet (at + 2);
+        y_byte = o.octet (at + 3);
         word = omega arith;
-        number = four-read b at ∙ ap₂ (λ (h l : ℕ). h * 65536 + l) (two-read b at) (two-read b (at + 2) ∙ ap (λ (i : ℕ). get_or b (at + 2) 0 * 256 + get_or b i 0) (omega arith));
+        number = four_read b at ∙ ap₂ (λ (h l : ℕ). h * 65536 + l) (two_read b at) (two_read b (at + 2) ∙ ap (λ (i : ℕ). get_or b (at + 2) 0 * 256 + get_or b i 0) (omega arith));
       }
 
 -- ---- the bytes of both
@@ -74,40 +74,40 @@ two : (lo hi : ℕ) → lo < 256 → hi < 256 → hi * 256 + lo < 65536
 two lo hi a b = omega arith
 
 -- a number's lowest two bytes
-low-bytes : (k lo hi : ℕ) → lo < 256 → hi < 256 → k % 65536 ≡ hi * 256 + lo → (k % 256 ≡ lo) × (k / 256 % 256 ≡ hi)
-low-bytes k lo hi a b e = (omega arith, omega arith)
+low_bytes : (k lo hi : ℕ) → lo < 256 → hi < 256 → k % 65536 ≡ hi * 256 + lo → (k % 256 ≡ lo) × (k / 256 % 256 ≡ hi)
+low_bytes k lo hi a b e = (omega arith, omega arith)
 
 module _ (v m : ℕ) (t : Turned v m) where
-  word-halves : Halves v (t.q * 256 + t.p) (t.y * 256 + t.x)
-  word-halves =
-      halves v (t.q * 256 + t.p) (t.y * 256 + t.x) (two t.p t.q t.p-byte t.q-byte) (two t.x t.y t.x-byte t.y-byte) (omega (arith, t.word))
+  word_halves : Halves v (t.q * 256 + t.p) (t.y * 256 + t.x)
+  word_halves =
+      halves v (t.q * 256 + t.p) (t.y * 256 + t.x) (two t.p t.q t.p_byte t.q_byte) (two t.x t.y t.x_byte t.y_byte) (omega (arith, t.word))
 
-  number-halves : Halves m (t.x * 256 + t.y) (t.p * 256 + t.q)
-  number-halves =
-      halves m (t.x * 256 + t.y) (t.p * 256 + t.q) (two t.y t.x t.y-byte t.x-byte) (two t.q t.p t.q-byte t.p-byte) t.number
+  number_halves : Halves m (t.x * 256 + t.y) (t.p * 256 + t.q)
+  number_halves =
+      halves m (t.x * 256 + t.y) (t.p * 256 + t.q) (two t.y t.x t.y_byte t.x_byte) (two t.q t.p t.q_byte t.p_byte) t.number
 
   -- each byte of the word is one of the number
   first_two : (v % 256 ≡ m / 65536 / 256 % 256) × (v / 256 % 256 ≡ m / 65536 % 256)
   first_two =
-      let w = low-bytes v t.p t.q t.p-byte t.q-byte word-halves.0 in
-      let n = low-bytes (m / 65536) t.q t.p t.q-byte t.p-byte number-halves.1 in
+      let w = low_bytes v t.p t.q t.p_byte t.q_byte word_halves.0 in
+      let n = low_bytes (m / 65536) t.q t.p t.q_byte t.p_byte number_halves.1 in
       (w.0 ∙ sym n.1, w.1 ∙ sym n.0)
 
-  last-two : (v / 65536 % 256 ≡ m / 256 % 256) × (v / 16777216 % 256 ≡ m % 256)
-  last-two =
-      let w = low-bytes (v / 65536) t.x t.y t.x-byte t.y-byte word-halves.1 in
-      let n = low-bytes m t.y t.x t.y-byte t.x-byte number-halves.0 in
+  last_two : (v / 65536 % 256 ≡ m / 256 % 256) × (v / 16777216 % 256 ≡ m % 256)
+  last_two =
+      let w = low_bytes (v / 65536) t.x t.y t.x_byte t.y_byte word_halves.1 in
+      let n = low_bytes m t.y t.x t.y_byte t.x_byte number_halves.0 in
       (w.0 ∙ sym n.1, ap (λ (k : ℕ). k % 256) (sym (div-div-eq-div-mul v 65536 256)) ∙ w.1 ∙ sym n.0)
 
   -- the lower half of the word is the upper half of the number
-  pub lower-clear : v % 65536 ≡ 0 → m < 65536
-  lower-clear h = below t.p t.q (sym word-halves.0 ∙ h) t.number
+  pub lower_clear : v % 65536 ≡ 0 → m < 65536
+  lower_clear h = below t.p t.q (sym word_halves.0 ∙ h) t.number
     where
       below : (p q : ℕ) → q * 256 + p ≡ 0 → m ≡ (p * 256 + q) * 65536 + (t.x * 256 + t.y) → m < 65536
-      below p q e d = omega (arith, two t.y t.x t.y-byte t.x-byte)
+      below p q e d = omega (arith, two t.y t.x t.y_byte t.x_byte)
 
-  pub upper-clear : m < 65536 → v % 65536 ≡ 0
-  upper-clear h = word-halves.0 ∙ none t.p t.q t.number
+  pub upper_clear : m < 65536 → v % 65536 ≡ 0
+  upper_clear h = word_halves.0 ∙ none t.p t.q t.number
     where
       none : (p q : ℕ) → m ≡ (p * 256 + q) * 65536 + (t.x * 256 + t.y) → q * 256 + p ≡ 0
       none p q d = omega arith
@@ -115,16 +115,16 @@ module _ (v m : ℕ) (t : Turned v m) where
 -- ---- stored
 
 -- the upper half of a word stored is the lower half of the number
-pub two-turned : (l : List ℕ) (at v m : ℕ) → Turned v m → set (set l at (v / 65536 % 256)) (at + 1) (v / 16777216 % 256) ≡ setNumber l at 2 m
-two-turned l at v m t = ap₂ (λ (x y : ℕ). set (set l at x) (at + 1) y) (last-two v m t).0 (last-two v m t).1 ∙ sym (two-stored l at m)
+pub two_turned : (l : List ℕ) (at v m : ℕ) → Turned v m → set (set l at (v / 65536 % 256)) (at + 1) (v / 16777216 % 256) ≡ set_number l at 2 m
+two_turned l at v m t = ap₂ (λ (x y : ℕ). set (set l at x) (at + 1) y) (last_two v m t).0 (last_two v m t).1 ∙ sym (two_stored l at m)
 
 -- and with the lower half it is the number
-pub four-turned : (l : List ℕ) (at v m : ℕ) → Turned v m
-    → set (set (set (set l at (v % 256)) (at + 1) (v / 256 % 256)) (at + 2) (v / 65536 % 256)) (at + 3) (v / 16777216 % 256) ≡ setNumber l at 4 m
-four-turned l at v m t =
+pub four_turned : (l : List ℕ) (at v m : ℕ) → Turned v m
+    → set (set (set (set l at (v % 256)) (at + 1) (v / 256 % 256)) (at + 2) (v / 65536 % 256)) (at + 3) (v / 16777216 % 256) ≡ set_number l at 4 m
+four_turned l at v m t =
     let i : at + 3 ≡ at + 2 + 1 = omega arith in
     ap₂ (λ (k : List ℕ) (j : ℕ). set (set k (at + 2) (v / 65536 % 256)) j (v / 16777216 % 256)) first i
-    ∙ two-turned (setNumber l at 2 (m / 65536)) (at + 2) v m t ∙ sym (four-stored l at m)
+    ∙ two_turned (set_number l at 2 (m / 65536)) (at + 2) v m t ∙ sym (four_stored l at m)
   where
-    first : set (set l at (v % 256)) (at + 1) (v / 256 % 256) ≡ setNumber l at 2 (m / 65536)
-    first = ap₂ (λ (p q : ℕ). set (set l at p) (at + 1) q) (first_two v m t).0 (first_two v m t).1 ∙ sym (two-stored l at (m / 65536))
+    first : set (set l at (v % 256)) (at + 1) (v / 256 % 256) ≡ set_number l at 2 (m / 65536)
+    first = ap₂ (λ (p q : ℕ). set (set l at p) (at + 1) q) (first_two v m t).0 (first_two v m t).1 ∙ sym (two_stored l at (m / 65536))

@@ -1,10 +1,12 @@
 // The cells of a record as words of four bytes, of which a cell of two bytes is a half: one read and stored, and whether a shape has room for all.
 
+#![tactic(auto)]
+
 ghost use Rattle.std.specs.Prelude.{◌≡◌, ℕ, ◌+◌, ◌≤◌, length};
-ghost use Rattle.matrix.specs.Bytes.{number_at, setNumber};
-ghost use Rattle.matrix.specs.Shape.{basicsOf};
+ghost use Rattle.matrix.specs.Bytes.{number_at, set_number};
+ghost use Rattle.matrix.specs.Shape.{basics_of};
 ghost use Rattle.matrix.specs.Reading.{state_of};
-ghost use Rattle.matrix.specs.Converting.{basicFrom};
+ghost use Rattle.matrix.specs.Converting.{basic_from};
 ghost use Rattle.codec.specs.ShapeRight.{TwoOrFour};
 ghost use Rattle.cell_words.specs.Wanted.{Wanted};
 ghost use Rattle.cell_words.specs.Words.{Turned};
@@ -27,7 +29,7 @@ pub fn word(b: &[u8], at: usize, width: usize) -> u32
 // The cell of `width` bytes from `at` on becomes that of the word v: where it has two bytes, the word's upper half.
 pub fn put_word(out: &mut [u8], at: usize, width: usize, v: u32)
     requires { TwoOrFour width × (at + width ≤ length out.old) }
-    ensures { (m : ℕ) → Turned v m → out.new ≡ setNumber out.old at width m }
+    ensures { (m : ℕ) → Turned v m → out.new ≡ set_number out.old at width m }
 {
     if width == 2 {
         out[at] = (v / 65536 % 256) as u8;
@@ -44,7 +46,7 @@ pub fn put_word(out: &mut [u8], at: usize, width: usize, v: u32)
 // all cells are joined, without a branch, and looked at in the end.
 pub fn too_wide(b: &[u8], f: Shape, g: Shape) -> bool
     requires { Wanted b.now f g }
-    ensures { result ≡ basicFrom (basicsOf g) f (state_of b.now) }
+    ensures { result ≡ basic_from (basics_of g) f (state_of b.now) }
 {
     if f.width <= g.width {
         return false;

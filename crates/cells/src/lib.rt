@@ -1,13 +1,15 @@
 // The cells of a record's bytes: where one stands, and reading and storing one.
 
+#![tactic(auto)]
+
 ghost use Rattle.std.specs.Prelude.{◌≡◌, ◌+◌, ◌<◌, length};
-ghost use Rattle.matrix.specs.Bytes.{bit, number_at, setNumber};
-ghost use Rattle.matrix.specs.Shape.{columns, bits_of, basicsOf, cellPlace};
-ghost use Rattle.matrix.specs.Reading.{cell_at, setCell};
-ghost use Rattle.codec.specs.Bits.{wordBits};
+ghost use Rattle.matrix.specs.Bytes.{bit, number_at, set_number};
+ghost use Rattle.matrix.specs.Shape.{columns, bits_of, basics_of, cell_place};
+ghost use Rattle.matrix.specs.Reading.{cell_at, set_cell};
+ghost use Rattle.codec.specs.Bits.{word_bits};
 ghost use Rattle.codec.specs.ShapeRight.{ShapeRight};
 ghost use Rattle.cells.specs.Station.{Cell};
-ghost use Rattle.cells.specs.Places.{rowBytes, bitPlace};
+ghost use Rattle.cells.specs.Places.{row_bytes, bit_place};
 
 use matrix::Shape;
 
@@ -28,7 +30,7 @@ pub fn bits_of(f: Shape) -> usize
 
 pub fn basics_of(f: Shape) -> usize
     requires { ShapeRight f }
-    ensures { result ≡ basicsOf f }
+    ensures { result ≡ basics_of f }
 {
     4 * f.width - 1
 }
@@ -36,7 +38,7 @@ pub fn basics_of(f: Shape) -> usize
 // The bytes of a row.
 pub fn row_bytes(f: Shape) -> usize
     requires { ShapeRight f }
-    ensures { result ≡ rowBytes f }
+    ensures { result ≡ row_bytes f }
 {
     f.width * columns_of(f)
 }
@@ -44,7 +46,7 @@ pub fn row_bytes(f: Shape) -> usize
 // The place of the first byte of the cell of row r and column c.
 pub fn place(f: Shape, r: usize, c: usize) -> usize
     requires { ShapeRight f × (r < f.n) × (c < columns f) }
-    ensures { result ≡ cellPlace f r c }
+    ensures { result ≡ cell_place f r c }
 {
     f.first + f.width * (r * columns_of(f) + c)
 }
@@ -63,7 +65,7 @@ fn two(b: &[u8], at: usize) -> usize
 // The two bytes from `at` on become the number v, without what is above its 16 low bits.
 fn put_two(b: &mut [u8], at: usize, v: usize)
     requires { at + 1 < length b.old }
-    ensures { b.new ≡ setNumber b.old at 2 v }
+    ensures { b.new ≡ set_number b.old at 2 v }
 {
     b[at] = (v / 256 % 256) as u8;
     b[at + 1] = (v % 256) as u8;
@@ -85,7 +87,7 @@ pub fn cell(b: &[u8], f: Shape, r: usize, c: usize) -> usize
 // The cell of row r and column c becomes v.
 pub fn store(b: &mut [u8], f: Shape, r: usize, c: usize, v: usize)
     requires { Cell b.old f r c }
-    ensures { b.new ≡ setCell b.old r c v }
+    ensures { b.new ≡ set_cell b.old r c v }
 {
     let at = place(f, r, c);
     if f.width == 2 {
@@ -98,7 +100,7 @@ pub fn store(b: &mut [u8], f: Shape, r: usize, c: usize, v: usize)
 
 // Whether bit j of v is set.
 pub fn bit_of(v: usize, j: usize) -> bool
-    requires { j < wordBits }
+    requires { j < word_bits }
     ensures { result ≡ bit j v }
 {
     (v >> j) % 2 == 1
@@ -107,7 +109,7 @@ pub fn bit_of(v: usize, j: usize) -> bool
 // The place of the byte that has bit j of the cell of row r and column c.
 pub fn bit_place(f: Shape, r: usize, c: usize, j: usize) -> usize
     requires { ShapeRight f × (r < f.n) × (c < columns f) × (j < bits_of f) }
-    ensures { result ≡ bitPlace f r c j }
+    ensures { result ≡ bit_place f r c j }
 {
     place(f, r, c) + (f.width - 1 - j / 8)
 }

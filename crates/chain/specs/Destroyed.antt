@@ -5,32 +5,32 @@ use Rattle.matrix.specs.declared.Name.{Name}
 use Rattle.matrix.specs.declared.Name.TheVariants.{Subject}
 use Rattle.matrix.specs.declared.Right.TheVariants.{Own}
 use Rattle.matrix.specs.declared.Shape.{Shape}
-use Rattle.matrix.specs.Names.{same_name, columnOf}
-use Rattle.matrix.specs.State.{State, exists, existsName, clear}
+use Rattle.matrix.specs.Names.{same_name, column_of}
+use Rattle.matrix.specs.State.{State, exists, exists_name, clear}
 use Rattle.matrix.specs.Owners.{Above, owner, higher, walk, meets}
 use Rattle.matrix.specs.Valid.{Valid}
-use Rattle.matrix.specs.Changes.{inherit, inCross}
-use Rattle.matrix.specs.Tests.{otherController}
+use Rattle.matrix.specs.Changes.{inherit, in_cross}
+use Rattle.matrix.specs.Tests.{other_controller}
 use Rattle.matrix.specs.Shaped.{Within}
 use Rattle.laws.specs.Tests.{clash, fails, and_left, and_both, or_cases, or_left, or_right}
-use Rattle.laws.specs.Same.{eqb_same, sameName-eq}
-use Rattle.laws.specs.Changed.{inherit-bit}
-use Rattle.owners.specs.Walk.{walk-self, walk-found, walk-finds}
-use Rattle.kept.specs.Cells.{clear-found, clear-other}
-use Rattle.kept.specs.Parts.{Up, up-link, above-heir}
-use Rattle.kept.specs.Subjects.{destroyed-keeps}
-use Rattle.frame.specs.Stays.{within-clear, within-inherit}
-use Rattle.frame.specs.Top.{controller-found}
+use Rattle.laws.specs.Same.{eqb_same, same_name_eq}
+use Rattle.laws.specs.Changed.{inherit_bit}
+use Rattle.owners.specs.Walk.{walk_self, walk_found, walk_finds}
+use Rattle.kept.specs.Cells.{clear_found, clear_other}
+use Rattle.kept.specs.Parts.{Up, up_link, above_heir}
+use Rattle.kept.specs.Subjects.{destroyed_keeps}
+use Rattle.frame.specs.Stays.{within_clear, within_inherit}
+use Rattle.frame.specs.Top.{controller_found}
 use Rattle.question.specs.Leaks.{Untrusted}
-use Rattle.route.specs.Parts.{destroysAll, among}
+use Rattle.route.specs.Parts.{destroys_all, among}
 use Rattle.route.specs.RunsTo.{RunsTo, done, step}
-use Rattle.steps.specs.Accepted.{destroy-accepted}
-use Rattle.chain.specs.Distinct.{among-here, among_later, among-not-here, among-not-later}
-use Rattle.chain.specs.Chain.{Chain, last, link, chain-distinct, chain-apart}
+use Rattle.steps.specs.Accepted.{destroy_accepted}
+use Rattle.chain.specs.Distinct.{among_here, among_later, among_not_here, among_not_later}
+use Rattle.chain.specs.Chain.{Chain, last, link, chain_distinct, chain_apart}
 
 -- v destroyed w
 abbrev pub destroyed : ℕ → ℕ → State → State
-destroyed v w S = clear (inCross w) (inherit v w S)
+destroyed v w S = clear (in_cross w) (inherit v w S)
 
 -- whether a subject is left: e, it existed; t, it is the one destroyed; m, it is among those destroyed later
 left_one : (t e : Bool) → cond (t || t) false e ≡ (e && not t)
@@ -39,71 +39,71 @@ left_one true false = refl
 left_one false true = refl
 left_one false false = refl
 
-left-later : (e t m : Bool) → (e && not t && not m) ≡ (e && not (t || m))
-left-later true true m = refl
-left-later true false m = refl
-left-later false t m = refl
+left_later : (e t m : Bool) → (e && not t && not m) ≡ (e && not (t || m))
+left_later true true m = refl
+left_later true false m = refl
+left_later false t m = refl
 
-left-none : (e : Bool) → e ≡ (e && true)
-left-none true = refl
-left-none false = refl
+left_none : (e : Bool) → e ≡ (e && true)
+left_none true = refl
+left_none false = refl
 
 -- One destruction: what is owned by another than w stays owned, and what w owned v owns.
 module _ (S : State) (v w : ℕ) where
-  outside : (u : ℕ) (x : Name) → u ≢ w → x ≢ Subject w → inCross w u x ≡ false
+  outside : (u : ℕ) (x : Name) → u ≢ w → x ≢ Subject w → in_cross w u x ≡ false
   outside u x r c =
-      fails (inCross w u x) (λ e. ⊎_elim (λ a. c (sameName-eq x (Subject w) a)) (λ b. r (eqb-true u w b)) (or_cases (same_name x (Subject w)) (eqb u w) e))
+      fails (in_cross w u x) (λ e. ⊎_elim (λ a. c (same_name_eq x (Subject w) a)) (λ b. r (eqb-true u w b)) (or_cases (same_name x (Subject w)) (eqb u w) e))
 
-  own-stays : (u : ℕ) (x : Name) → u ≢ w → x ≢ Subject w → S.owns u x ≡ true → (destroyed v w S).owns u x ≡ true
-  own-stays u x r c h = clear-other (inCross w) (inherit v w S).owns u x (outside u x r c) (or_left (eqb u v && S.owns w x) h)
+  own_stays : (u : ℕ) (x : Name) → u ≢ w → x ≢ Subject w → S.owns u x ≡ true → (destroyed v w S).owns u x ≡ true
+  own_stays u x r c h = clear_other (in_cross w) (inherit v w S).owns u x (outside u x r c) (or_left (eqb u v && S.owns w x) h)
 
-  own-gained : (x : Name) → v ≢ w → x ≢ Subject w → S.owns w x ≡ true → (destroyed v w S).owns v x ≡ true
-  own-gained x r c h = clear-other (inCross w) (inherit v w S).owns v x (outside v x r c) (or_right (S.owns v x) (and_both (eqb_same v) h))
+  own_gained : (x : Name) → v ≢ w → x ≢ Subject w → S.owns w x ≡ true → (destroyed v w S).owns v x ≡ true
+  own_gained x r c h = clear_other (in_cross w) (inherit v w S).owns v x (outside v x r c) (or_right (S.owns v x) (and_both (eqb_same v) h))
 
   -- so a chain that w is not in stays, and a chain that began at w begins at v
-  chain-stays : {o : Name} {u : ℕ} {us : List ℕ} → o ≢ Subject w → among w (u ∷ us) ≡ false → Chain S.owns o u us
+  chain_stays : {o : Name} {u : ℕ} {us : List ℕ} → o ≢ Subject w → among w (u ∷ us) ≡ false → Chain S.owns o u us
       → Chain (destroyed v w S).owns o u us
-  chain-stays {o} c n (last {v = u} h) = last (own-stays u o (among-not-here w u [] n) c h)
-  chain-stays c n (link {v = u} {w = x} {ws = us} h rest) =
-      let m = among-not-later w u (x ∷ us) n in
-      link (own-stays u (Subject x) (among-not-here w u (x ∷ us) n) (λ e. among-not-here w x us m (ap columnOf e)) h) (chain-stays c m rest)
+  chain_stays {o} c n (last {v = u} h) = last (own_stays u o (among_not_here w u [] n) c h)
+  chain_stays c n (link {v = u} {w = x} {ws = us} h rest) =
+      let m = among_not_later w u (x ∷ us) n in
+      link (own_stays u (Subject x) (among_not_here w u (x ∷ us) n) (λ e. among_not_here w x us m (ap column_of e)) h) (chain_stays c m rest)
 
-  chain-gained : {o : Name} {us : List ℕ} → v ≢ w → o ≢ Subject w → among w us ≡ false → Chain S.owns o w us
+  chain_gained : {o : Name} {us : List ℕ} → v ≢ w → o ≢ Subject w → among w us ≡ false → Chain S.owns o w us
       → Chain (destroyed v w S).owns o v us
-  chain-gained {o} r c n (last h) = last (own-gained o r c h)
-  chain-gained r c n (link {w = x} {ws = us} h rest) =
-      link (own-gained (Subject x) r (λ e. among-not-here w x us n (ap columnOf e)) h) (chain-stays c n rest)
+  chain_gained {o} r c n (last h) = last (own_gained o r c h)
+  chain_gained r c n (link {w = x} {ws = us} h rest) =
+      link (own_gained (Subject x) r (λ e. among_not_here w x us n (ap column_of e)) h) (chain_stays c n rest)
 
   -- who owns a name then owned it, or is v and w owned it
-  old-link : (u : ℕ) (x : Name) → (destroyed v w S).owns u x ≡ true → (S.owns u x ≡ true) ⊎ ((u ≡ v) × (S.owns w x ≡ true))
-  old-link u x h =
-      ⊎_elim (λ old. inl old) (λ p. inr (p.1, p.2)) (inherit-bit v w S Own u x (clear-found (inCross w) (inherit v w S).owns u x h).1)
+  old_link : (u : ℕ) (x : Name) → (destroyed v w S).owns u x ≡ true → (S.owns u x ≡ true) ⊎ ((u ≡ v) × (S.owns w x ≡ true))
+  old_link u x h =
+      ⊎_elim (λ old. inl old) (λ p. inr (p.1, p.2)) (inherit_bit v w S Own u x (clear_found (in_cross w) (inherit v w S).owns u x h).1)
 
   -- so nobody comes to be above a name where v owned w: one link, and then a chain of them
-  old-from : S.owns v (Subject w) ≡ true → (x : Name) (b u : ℕ) → (destroyed v w S).owns b x ≡ true → Up S.owns b u → Above S.owns x u
-  old-from own x b u h up =
+  old_from : S.owns v (Subject w) ≡ true → (x : Name) (b u : ℕ) → (destroyed v w S).owns b x ≡ true → Up S.owns b u → Above S.owns x u
+  old_from own x b u h up =
       ⊎_elim (λ old. ⊎_elim (λ e. owner (subst (λ (n : ℕ). S.owns n x ≡ true) e old)) (λ more. higher old more) up)
-      (λ p. higher p.1 (up-link S.owns w v u own (subst (λ (n : ℕ). Up S.owns n u) p.0 up))) (old-link b x h)
+      (λ p. higher p.1 (up_link S.owns w v u own (subst (λ (n : ℕ). Up S.owns n u) p.0 up))) (old_link b x h)
 
-  old-above : S.owns v (Subject w) ≡ true → (x : Name) (u : ℕ) → Above (destroyed v w S).owns x u → Above S.owns x u
-  old-above own x u (owner h) = old-from own x u u h (inl refl)
-  old-above own x u (higher {w = b} h up) =
-      old-from own x b u h (inr (above-heir S.owns (destroyed v w S).owns v w own (λ c d e. old-link c (Subject d) e) b u up))
+  old_above : S.owns v (Subject w) ≡ true → (x : Name) (u : ℕ) → Above (destroyed v w S).owns x u → Above S.owns x u
+  old_above own x u (owner h) = old_from own x u u h (inl refl)
+  old_above own x u (higher {w = b} h up) =
+      old_from own x b u h (inr (above_heir S.owns (destroyed v w S).owns v w own (λ c d e. old_link c (Subject d) e) b u up))
 
   -- all that existed but w are left
-  exists-left : (u : ℕ) → exists (destroyed v w S) u ≡ (exists S u && not (eqb u w))
-  exists-left u = left_one (eqb u w) (exists S u)
+  exists_left : (u : ℕ) → exists (destroyed v w S) u ≡ (exists S u && not (eqb u w))
+  exists_left u = left_one (eqb u w) (exists S u)
 
 -- What holds after v destroyed each of ws in turn, from the state S to the state T: v owns o, the subjects ws are gone and no others, and
 -- nobody came to control a name or to be above one.
 pub record Cleared (f : Shape) (S : State) (v : ℕ) (ws : List ℕ) (o : Name) (T : State) : Type 0 where
-  pub runs : RunsTo f S (destroysAll v ws) T
+  pub runs : RunsTo f S (destroys_all v ws) T
   pub valid : Valid T
   pub within : Within f T
   pub top : T.top ≡ S.top
   pub there : exists T v ≡ true
   pub owning : T.owns v o ≡ true
-  pub name : existsName T o ≡ true
+  pub name : exists_name T o ≡ true
   pub existing : (u : ℕ) → exists T u ≡ (exists S u && not (among u ws))
   pub controls : (u : ℕ) (x : Name) → T.controls u x ≡ true → S.controls u x ≡ true
   pub above : (x : Name) (u : ℕ) → Above T.owns x u → Above S.owns x u
@@ -111,7 +111,7 @@ pub record Cleared (f : Shape) (S : State) (v : ℕ) (ws : List ℕ) (o : Name) 
 -- Where v heads a chain of owners ws down to o, it may destroy them all.
 pub clears : (f : Shape) (S : State) (v : ℕ) (ws : List ℕ) (o : Name) → Valid S → Within f S → Chain S.owns o v ws
     → (T : State) × Cleared f S v ws o T
-unfolding destroysAll among
+unfolding destroys_all among
 clears f S v [] o V₁ k (last h) = (
   S,
   record {
@@ -122,64 +122,64 @@ clears f S v [] o V₁ k (last h) = (
     there = V₁.row Own v o h;
     owning = h;
     name = V₁.column Own v o h;
-    existing = λ u. left-none (exists S u);
+    existing = λ u. left_none (exists S u);
     controls = λ u x e. e;
     above = λ x u a. a;
   },
 )
 clears f S v (w ∷ ws) o V₁ k (link h c) =
-    let d = chain-distinct V₁ (link h c) in
-    let differs : v ≢ w = λ e. among-not-here v w ws d.0 (sym e) in
-    let apart : o ≢ Subject w = chain-apart V₁ w (link h c) (among_later w v (w ∷ ws) (among-here w ws)) in
+    let d = chain_distinct V₁ (link h c) in
+    let differs : v ≢ w = λ e. among_not_here v w ws d.0 (sym e) in
+    let apart : o ≢ Subject w = chain_apart V₁ w (link h c) (among_later w v (w ∷ ws) (among_here w ws)) in
     let row : v < f.n = k.row Own v (Subject w) h in
     let column : w < f.n = ltb-true w f.n (k.column Own v (Subject w) h) in
     let S' = destroyed v w S in
-    let r = clears f S' v ws o (destroyed-keeps S v w V₁ (V₁.row Own v (Subject w) h) h)
-    (within-clear f (inCross w) (inherit v w S) (within-inherit f v w S k row)) (chain-gained S v w differs apart d.1.0 c) in
+    let r = clears f S' v ws o (destroyed_keeps S v w V₁ (V₁.row Own v (Subject w) h) h)
+    (within_clear f (in_cross w) (inherit v w S) (within_inherit f v w S k row)) (chain_gained S v w differs apart d.1.0 c) in
     let T = r.0 in
     let p = r.1 in (
       T,
       record {
-        runs = step (destroy-accepted f v w V₁ row column h) p.runs;
+        runs = step (destroy_accepted f v w V₁ row column h) p.runs;
         valid = p.valid;
         within = p.within;
         top = p.top;
         there = p.there;
         owning = p.owning;
         name = p.name;
-        existing = λ u. p.existing u ∙ ap (λ (e : Bool). e && not (among u ws)) (exists-left S v w u) ∙ left-later (exists S u) (eqb u w) (among u ws);
-        controls = λ u x e. (clear-found (inCross w) S.controls u x (p.controls u x e)).1;
-        above = λ x u a. old-above S v w h x u (p.above x u a);
+        existing = λ u. p.existing u ∙ ap (λ (e : Bool). e && not (among u ws)) (exists_left S v w u) ∙ left_later (exists S u) (eqb u w) (among u ws);
+        controls = λ u x e. (clear_found (in_cross w) S.controls u x (p.controls u x e)).1;
+        above = λ x u a. old_above S v w h x u (p.above x u a);
       },
     )
 
 module _ {f : Shape} {S T : State} {v : ℕ} {ws : List ℕ} {o : Name} (V₁ : Valid S) (p : Cleared f S v ws o T) where
   -- who exists then existed
-  pub cleared-before : (u : ℕ) → exists T u ≡ true → exists S u ≡ true
-  cleared-before u e = and_left (exists S u) (not (among u ws)) (sym (p.existing u) ∙ e)
+  pub cleared_before : (u : ℕ) → exists T u ≡ true → exists S u ≡ true
+  cleared_before u e = and_left (exists S u) (not (among u ws)) (sym (p.existing u) ∙ e)
 
   -- a name that no other controlled is controlled by no other
-  pub cleared-alone : (x : Name) → otherController S x ≡ false → otherController T x ≡ false
-  cleared-alone x h =
-      fails (otherController T x) (λ e. let c = (controller-found p.valid x).0 e in
-      clash ((controller-found V₁ x).1 (c.0, p.controls c.0 x c.1, c.2)) h)
+  pub cleared_alone : (x : Name) → other_controller S x ≡ false → other_controller T x ≡ false
+  cleared_alone x h =
+      fails (other_controller T x) (λ e. let c = (controller_found p.valid x).0 e in
+      clash ((controller_found V₁ x).1 (c.0, p.controls c.0 x c.1, c.2)) h)
 
   -- and a walk that did not meet a name does not meet it, where it starts at a subject that is left
-  pub cleared-apart : (s : ℕ) (x : Name) → exists T s ≡ true → meets (walk S s x) ≡ false → meets (walk T s x) ≡ false
-  cleared-apart s x e h =
+  pub cleared_apart : (s : ℕ) (x : Name) → exists T s ≡ true → meets (walk S s x) ≡ false → meets (walk T s x) ≡ false
+  cleared_apart s x e h =
       fails (meets (walk T s x))
-      (λ m. ⊎_elim (λ q. clash (subst (λ (y : Name). meets (walk S s y) ≡ true) (sym q) (ap meets (walk-self S V₁ s))) h)
+      (λ m. ⊎_elim (λ q. clash (subst (λ (y : Name). meets (walk S s y) ≡ true) (sym q) (ap meets (walk_self S V₁ s))) h)
       (λ u. clash (subst (λ (y : Name). meets (walk S s y) ≡ true) (sym u.1)
-      (walk-finds S V₁ s u.0 (cleared-before s e) (p.above (Subject s) u.0 u.2))) h)
-      (walk-found T s x m))
+      (walk_finds S V₁ s u.0 (cleared_before s e) (p.above (Subject s) u.0 u.2))) h)
+      (walk_found T s x m))
 
 -- v begins every command, and there are as many as subjects to destroy
-pub destroys-begun : (trusted : ℕ → Bool) (v : ℕ) (ws : List ℕ) → trusted v ≡ false → Untrusted trusted (destroysAll v ws)
-unfolding destroysAll
-destroys-begun trusted v [] h = tt
-destroys-begun trusted v (w ∷ ws) h = (h, destroys-begun trusted v ws h)
+pub destroys_begun : (trusted : ℕ → Bool) (v : ℕ) (ws : List ℕ) → trusted v ≡ false → Untrusted trusted (destroys_all v ws)
+unfolding destroys_all
+destroys_begun trusted v [] h = tt
+destroys_begun trusted v (w ∷ ws) h = (h, destroys_begun trusted v ws h)
 
-pub destroys-length : (v : ℕ) (ws : List ℕ) → length (destroysAll v ws) ≡ length ws
-unfolding destroysAll
-destroys-length v [] = refl
-destroys-length v (w ∷ ws) = ap suc (destroys-length v ws)
+pub destroys_length : (v : ℕ) (ws : List ℕ) → length (destroys_all v ws) ≡ length ws
+unfolding destroys_all
+destroys_length v [] = refl
+destroys_length v (w ∷ ws) = ap suc (destroys_length v ws)

@@ -1,5 +1,7 @@
 // The change that an accepted command makes in the bytes of a record that is of the right form.
 
+#![tactic(auto)]
+
 ghost use Rattle.matrix.specs.Reading.{state_of};
 ghost use Rattle.matrix.specs.Changes.{change};
 ghost use Rattle.states.specs.Needs.{RightIn};

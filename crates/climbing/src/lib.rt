@@ -1,11 +1,13 @@
 // The way up over a name: from the lowest of its owners from whom a way up meets an untrusted subject, with the subjects on it that are needed.
 
+#![tactic(auto)]
+
 ghost use Rattle.std.specs.Prelude.{◌≡◌, ◌+◌, ◌≤◌, ◌<◌, length};
-ghost use Rattle.matrix.specs.Shape.{mostSubjects};
+ghost use Rattle.matrix.specs.Shape.{most_subjects};
 ghost use Rattle.matrix.specs.Reading.{state_of};
 ghost use Rattle.states.specs.Needs.{NameIn, Guessed};
-ghost use Rattle.question.specs.Trust.{trustedBy};
-ghost use Rattle.route.specs.Parts.{untilOwner};
+ghost use Rattle.question.specs.Trust.{trusted_by};
+ghost use Rattle.route.specs.Parts.{until_owner};
 ghost use Rattle.ways.specs.Path.{listed};
 ghost use Rattle.rising.specs.Rises.{Found};
 ghost use Rattle.rising.specs.Shut.{ShutAll};
@@ -26,8 +28,8 @@ fn owner_rise(
     closed: &mut u64,
     path: &mut [u8; MOST_SUBJECTS],
 ) -> Climbed
-    requires { NameIn b.now f x × Guessed b.now f owners.now × (w < f.n) × ShutAll (state_of b.now) (trustedBy trust) closed.old × (length path.old ≡ mostSubjects) }
-    ensures { OwnerRises b.now f.n (trustedBy trust) x w path.new result × ShutAll (state_of b.now) (trustedBy trust) closed.new }
+    requires { NameIn b.now f x × Guessed b.now f owners.now × (w < f.n) × ShutAll (state_of b.now) (trusted_by trust) closed.old × (length path.old ≡ most_subjects) }
+    ensures { OwnerRises b.now f.n (trusted_by trust) x w path.new result × ShutAll (state_of b.now) (trusted_by trust) closed.new }
 {
     if !states::has_bit(b, f, Right::Own, w, x) {
         return Climbed::None;
@@ -44,8 +46,8 @@ fn way_over_subject(
     owners: &[u8; MOST_SUBJECTS],
     path: &mut [u8; MOST_SUBJECTS],
 ) -> Climbed
-    requires { Guessed b.now f owners.now × (v < f.n) × (length path.old ≡ mostSubjects) }
-    ensures { Climbs b.now f.n (trustedBy trust) (Name.Subject v) path.new result }
+    requires { Guessed b.now f owners.now × (v < f.n) × (length path.old ≡ most_subjects) }
+    ensures { Climbs b.now f.n (trusted_by trust) (Name.Subject v) path.new result }
 {
     let w = states::owner_of(b, f, owners, v);
     if f.n <= w {
@@ -65,8 +67,8 @@ fn way_over_plain(
     owners: &[u8; MOST_SUBJECTS],
     path: &mut [u8; MOST_SUBJECTS],
 ) -> Climbed
-    requires { NameIn b.now f (Name.Plain o) × Guessed b.now f owners.now × (length path.old ≡ mostSubjects) }
-    ensures { Climbs b.now f.n (trustedBy trust) (Name.Plain o) path.new result }
+    requires { NameIn b.now f (Name.Plain o) × Guessed b.now f owners.now × (length path.old ≡ most_subjects) }
+    ensures { Climbs b.now f.n (trusted_by trust) (Name.Plain o) path.new result }
 {
     let n = f.n;
     let first = 4 * row_search::first_block(b, f, o, 0);
@@ -83,7 +85,7 @@ fn way_over_plain(
 // How many of the m subjects of a path, the last first, are needed down to the first that owns plain object o.
 fn needed_of(b: &[u8], f: Shape, o: usize, path: &[u8; MOST_SUBJECTS], m: usize) -> usize
     requires { NameIn b.now f (Name.Plain o) × Passes path.now f.n m }
-    ensures { result ≡ length (untilOwner (state_of b.now).owns (Name.Plain o) (listed path.now m)) }
+    ensures { result ≡ length (until_owner (state_of b.now).owns (Name.Plain o) (listed path.now m)) }
 {
     for t in 1..m {
         if states::has_bit(b, f, Right::Own, path[m - t] as usize, Name::Plain(o)) {
@@ -95,7 +97,7 @@ fn needed_of(b: &[u8], f: Shape, o: usize, path: &[u8; MOST_SUBJECTS], m: usize)
 
 // The k subjects of a path from place `from` on become its first.
 fn keep_last(path: &mut [u8; MOST_SUBJECTS], from: usize, k: usize)
-    requires { (length path.old ≡ mostSubjects) × (from + k ≤ mostSubjects) }
+    requires { (length path.old ≡ most_subjects) × (from + k ≤ most_subjects) }
     ensures { Moved path.old path.new from k }
 {
     for j in 0..k {
@@ -106,7 +108,7 @@ fn keep_last(path: &mut [u8; MOST_SUBJECTS], from: usize, k: usize)
 // A way over plain object o without the subjects below the highest on it that owns o: where that one is destroyed, o is inherited. One subject
 // alone is that owner.
 fn shortened(b: &[u8], f: Shape, o: usize, r: Climbed, path: &mut [u8; MOST_SUBJECTS]) -> Climbed
-    requires { NameIn b.now f (Name.Plain o) × (length path.old ≡ mostSubjects) × Found f.n path.old r }
+    requires { NameIn b.now f (Name.Plain o) × (length path.old ≡ most_subjects) × Found f.n path.old r }
     ensures { Shortened b.now f.n o path.old path.new r result }
 {
     match r {
@@ -131,8 +133,8 @@ pub fn way_up(
     owners: &[u8; MOST_SUBJECTS],
     path: &mut [u8; MOST_SUBJECTS],
 ) -> Climbed
-    requires { NameIn b.now f x × Guessed b.now f owners.now × (length path.old ≡ mostSubjects) }
-    ensures { Leads b.now f.n (trustedBy trust) x path.new result }
+    requires { NameIn b.now f x × Guessed b.now f owners.now × (length path.old ≡ most_subjects) }
+    ensures { Leads b.now f.n (trusted_by trust) x path.new result }
 {
     match x {
         Name::Subject(v) => way_over_subject(b, f, trust, v, owners, path),

@@ -2,11 +2,11 @@
 use Rattle.std.specs.Prelude.{ℕ, zero, suc, ◌+◌, ◌-◌, ◌*◌, ◌/◌, ◌%◌, ◌^◌, ◌≤◌, ◌<◌, ◌≡◌, refl, Bool, true, false, cond, List, eqb, ltb, get_or, set}
 use Rattle.std.proofs.Common.{arith, sym, ◌∙◌, ap, ap₂, subst, ⊎_elim, pow-add, shr-shr, get_or-set_other, eqb-true, eq-eqb, ne_eqb, ltb-true, ltb-false}
 use Rattle.std.proofs.Math.Arith.{digits_div, digits_mod, digits_lt}
-use Rattle.matrix.specs.Bytes.{number_at, setNumber, bit}
+use Rattle.matrix.specs.Bytes.{number_at, set_number, bit}
 use Rattle.matrix.specs.Shaped.{Octets}
 use Rattle.laws.specs.Tests.{way, same_test}
-use Rattle.codec.specs.Bits.{withBit, withBit-below, bit-low, bit-withBit, same_bits}
-use Rattle.codec.specs.Numbers.{numberAt-below, set_same, number-stored, pow-bytes}
+use Rattle.codec.specs.Bits.{with_bit, with_bit_below, bit_low, bit_with_bit, same_bits}
+use Rattle.codec.specs.Numbers.{number_at_below, set_same, number_stored, pow_bytes}
 
 -- the byte of bit j among the w bytes of a number, the first byte highest
 abbrev pub byte_of : ℕ → ℕ → ℕ
@@ -16,14 +16,14 @@ byte_of w j = w - 1 - j / 8
 low_bit : (j hi lo : ℕ) → j < 8 → bit j (hi * 256 + lo) ≡ bit j lo
 low_bit j hi lo h =
     let e : suc (7 - j) + j ≡ 8 = omega arith in
-    subst (λ (m : ℕ). bit j (hi * 2 ^ m + lo) ≡ bit j lo) e (bit-low j (7 - j) hi lo)
+    subst (λ (m : ℕ). bit j (hi * 2 ^ m + lo) ≡ bit j lo) e (bit_low j (7 - j) hi lo)
 
 high_bit : (j hi lo : ℕ) → lo < 256 → bit (8 + j) (hi * 256 + lo) ≡ bit j hi
 unfolding bit
 high_bit j hi lo h = ap (λ (x : ℕ). eqb (x % 2) 1) (sym (shr-shr (hi * 256 + lo) 8 j) ∙ ap (λ (x : ℕ). x / 2 ^ j) (digits_div hi h))
 
-parts-bit : (i hi lo : ℕ) → lo < 256 → bit i (hi * 256 + lo) ≡ cond (ltb i 8) (bit i lo) (bit (i - 8) hi)
-parts-bit i hi lo h =
+parts_bit : (i hi lo : ℕ) → lo < 256 → bit i (hi * 256 + lo) ≡ cond (ltb i 8) (bit i lo) (bit (i - 8) hi)
+parts_bit i hi lo h =
     ⊎_elim (λ (t : ltb i 8 ≡ true). rw t (low_bit i hi lo (ltb-true i 8 t)))
     (λ (t : ltb i 8 ≡ false).
     let e : i ≡ 8 + (i - 8) = omega (arith, ltb-false i 8 t) in
@@ -35,42 +35,42 @@ module _ (w hi lo : ℕ) (on : Bool) (h : hi < 256 ^ w) (l : lo < 256) where
   m = 8 * w + 8
 
   few : hi < 2 ^ (8 * w)
-  few = rw (← pow-bytes w) h
+  few = rw (← pow_bytes w) h
 
   whole : (x y : ℕ) → x < 2 ^ (8 * w) → y < 256 → x * 256 + y < 2 ^ m
   whole x y a b = rw (pow-add 2 (8 * w) 8) (digits_lt a b)
 
-  low-with : (j : ℕ) → j < 8 → withBit j on (hi * 256 + lo) ≡ hi * 256 + withBit j on lo
-  low-with j b = same_bits m _ _ (withBit-below m j on _ (omega arith) (whole hi lo few l)) (whole hi _ few below) each
+  low_with : (j : ℕ) → j < 8 → with_bit j on (hi * 256 + lo) ≡ hi * 256 + with_bit j on lo
+  low_with j b = same_bits m _ _ (with_bit_below m j on _ (omega arith) (whole hi lo few l)) (whole hi _ few below) each
     where
-      below : withBit j on lo < 256
-      below = withBit-below 8 j on lo b l
+      below : with_bit j on lo < 256
+      below = with_bit_below 8 j on lo b l
 
-      each : (i : ℕ) → i < m → bit i (withBit j on (hi * 256 + lo)) ≡ bit i (hi * 256 + withBit j on lo)
+      each : (i : ℕ) → i < m → bit i (with_bit j on (hi * 256 + lo)) ≡ bit i (hi * 256 + with_bit j on lo)
       each i k =
-          bit-withBit i j on (hi * 256 + lo) ∙ ap (λ (t : Bool). cond (eqb i j) on t) (parts-bit i hi lo l)
-          ∙ ⊎_elim (λ (t : ltb i 8 ≡ true). rw t (sym (bit-withBit i j on lo)))
+          bit_with_bit i j on (hi * 256 + lo) ∙ ap (λ (t : Bool). cond (eqb i j) on t) (parts_bit i hi lo l)
+          ∙ ⊎_elim (λ (t : ltb i 8 ≡ true). rw t (sym (bit_with_bit i j on lo)))
           (λ (t : ltb i 8 ≡ false). let ge = ltb-false i 8 t in rw (t, ne_eqb i j (λ e. omega arith)) refl) (way (ltb i 8))
-          ∙ sym (parts-bit i hi (withBit j on lo) below)
+          ∙ sym (parts_bit i hi (with_bit j on lo) below)
 
-  high-with : (j : ℕ) → j < 8 * w → withBit (8 + j) on (hi * 256 + lo) ≡ withBit j on hi * 256 + lo
-  high-with j b = same_bits m _ _ (withBit-below m (8 + j) on _ (omega arith) (whole hi lo few l)) (whole _ lo (withBit-below (8 * w) j on hi b few) l) each
+  high_with : (j : ℕ) → j < 8 * w → with_bit (8 + j) on (hi * 256 + lo) ≡ with_bit j on hi * 256 + lo
+  high_with j b = same_bits m _ _ (with_bit_below m (8 + j) on _ (omega arith) (whole hi lo few l)) (whole _ lo (with_bit_below (8 * w) j on hi b few) l) each
     where
-      each : (i : ℕ) → i < m → bit i (withBit (8 + j) on (hi * 256 + lo)) ≡ bit i (withBit j on hi * 256 + lo)
+      each : (i : ℕ) → i < m → bit i (with_bit (8 + j) on (hi * 256 + lo)) ≡ bit i (with_bit j on hi * 256 + lo)
       each i k =
-          bit-withBit i (8 + j) on (hi * 256 + lo) ∙ ap (λ (t : Bool). cond (eqb i (8 + j)) on t) (parts-bit i hi lo l)
+          bit_with_bit i (8 + j) on (hi * 256 + lo) ∙ ap (λ (t : Bool). cond (eqb i (8 + j)) on t) (parts_bit i hi lo l)
           ∙ ⊎_elim (λ (t : ltb i 8 ≡ true). let lt = ltb-true i 8 t in rw (t, ne_eqb i (8 + j) (λ e. omega arith)) refl)
           (λ (t : ltb i 8 ≡ false).
           let ge = ltb-false i 8 t in
           let same : eqb i (8 + j) ≡ eqb (i - 8) j =
           same_test _ _ (λ q. eq-eqb (i - 8) j (omega (arith, eqb-true i (8 + j) q))) (λ q. eq-eqb i (8 + j) (omega (arith, eqb-true (i - 8) j q))) in
-          rw (t, same) (sym (bit-withBit (i - 8) j on hi))) (way (ltb i 8))
-          ∙ sym (parts-bit i (withBit j on hi) lo l)
+          rw (t, same) (sym (bit_with_bit (i - 8) j on hi))) (way (ltb i 8))
+          ∙ sym (parts_bit i (with_bit j on hi) lo l)
 
-pub byte-bit : (b : List ℕ) (at w j : ℕ) → Octets b → j < 8 * w → bit j (number_at b at w) ≡ bit (j % 8) (get_or b (at + byte_of w j) 0)
+pub byte_bit : (b : List ℕ) (at w j : ℕ) → Octets b → j < 8 * w → bit j (number_at b at w) ≡ bit (j % 8) (get_or b (at + byte_of w j) 0)
 unfolding number_at
-byte-bit b at zero j o h = absurd (omega arith)
-byte-bit b at (suc w) j o h = ⊎_elim last (λ t. front t (byte-bit b at w (j - 8) o (omega (arith, ltb-false j 8 t)))) (way (ltb j 8))
+byte_bit b at zero j o h = absurd (omega arith)
+byte_bit b at (suc w) j o h = ⊎_elim last (λ t. front t (byte_bit b at w (j - 8) o (omega (arith, ltb-false j 8 t)))) (way (ltb j 8))
   where
     last : ltb j 8 ≡ true → bit j (number_at b at w * 256 + get_or b (at + w) 0) ≡ bit (j % 8) (get_or b (at + byte_of (suc w) j) 0)
     last t =
@@ -85,13 +85,13 @@ byte-bit b at (suc w) j o h = ⊎_elim last (λ t. front t (byte-bit b at w (j -
         let k : 8 ≤ j = ltb-false j 8 t in
         let e : (j - 8) % 8 ≡ j % 8 = omega arith in
         let p : at + byte_of w (j - 8) ≡ at + byte_of (suc w) j = omega arith in
-        parts-bit j (number_at b at w) (get_or b (at + w) 0) (o.octet (at + w)) ∙ rw t (i ∙ ap₂ (λ (i x : ℕ). bit i (get_or b x 0)) e p)
+        parts_bit j (number_at b at w) (get_or b (at + w) 0) (o.octet (at + w)) ∙ rw t (i ∙ ap₂ (λ (i x : ℕ). bit i (get_or b x 0)) e p)
 
-pub byte-stored : (b : List ℕ) (at w j : ℕ) (on : Bool) → Octets b → j < 8 * w
-    → setNumber b at w (withBit j on (number_at b at w)) ≡ set b (at + byte_of w j) (withBit (j % 8) on (get_or b (at + byte_of w j) 0))
-unfolding number_at setNumber
-byte-stored b at zero j on o h = absurd (omega arith)
-byte-stored b at (suc w) j on o h = ⊎_elim last (λ t. front t (byte-stored b at w (j - 8) on o (omega (arith, ltb-false j 8 t)))) (way (ltb j 8))
+pub byte_stored : (b : List ℕ) (at w j : ℕ) (on : Bool) → Octets b → j < 8 * w
+    → set_number b at w (with_bit j on (number_at b at w)) ≡ set b (at + byte_of w j) (with_bit (j % 8) on (get_or b (at + byte_of w j) 0))
+unfolding number_at set_number
+byte_stored b at zero j on o h = absurd (omega arith)
+byte_stored b at (suc w) j on o h = ⊎_elim last (λ t. front t (byte_stored b at w (j - 8) on o (omega (arith, ltb-false j 8 t)))) (way (ltb j 8))
   where
     hi : ℕ
     hi = number_at b at w
@@ -99,31 +99,31 @@ byte-stored b at (suc w) j on o h = ⊎_elim last (λ t. front t (byte-stored b 
     lo : ℕ
     lo = get_or b (at + w) 0
 
-    stored : (x y v : ℕ) → y < 256 → v ≡ x * 256 + y → set (setNumber b at w (v / 256)) (at + w) (v % 256) ≡ set (setNumber b at w x) (at + w) y
+    stored : (x y v : ℕ) → y < 256 → v ≡ x * 256 + y → set (set_number b at w (v / 256)) (at + w) (v % 256) ≡ set (set_number b at w x) (at + w) y
     stored x y v l e =
-        ap (λ (z : ℕ). set (setNumber b at w (z / 256)) (at + w) (z % 256)) e
-        ∙ ap₂ (λ (p q : ℕ). set (setNumber b at w p) (at + w) q) (digits_div x l) (digits_mod x l)
+        ap (λ (z : ℕ). set (set_number b at w (z / 256)) (at + w) (z % 256)) e
+        ∙ ap₂ (λ (p q : ℕ). set (set_number b at w p) (at + w) q) (digits_div x l) (digits_mod x l)
 
-    last : ltb j 8 ≡ true → set (setNumber b at w (withBit j on (hi * 256 + lo) / 256)) (at + w) (withBit j on (hi * 256 + lo) % 256) ≡ set b (at + byte_of (suc w) j) (withBit (j % 8) on (get_or b (at + byte_of (suc w) j) 0))
+    last : ltb j 8 ≡ true → set (set_number b at w (with_bit j on (hi * 256 + lo) / 256)) (at + w) (with_bit j on (hi * 256 + lo) % 256) ≡ set b (at + byte_of (suc w) j) (with_bit (j % 8) on (get_or b (at + byte_of (suc w) j) 0))
     last t =
         let k : j < 8 = ltb-true j 8 t in
         let e : j ≡ j % 8 = omega arith in
         let p : at + w ≡ at + byte_of (suc w) j = omega arith in
-        stored hi (withBit j on lo) _ (withBit-below 8 j on lo k (o.octet (at + w))) (low-with w hi lo on (numberAt-below b at w o) (o.octet (at + w)) j k)
-        ∙ ap (λ (l : List ℕ). set l (at + w) (withBit j on lo)) (number-stored b at w o)
-        ∙ ap₂ (λ (i x : ℕ). set b x (withBit i on (get_or b x 0))) e p
+        stored hi (with_bit j on lo) _ (with_bit_below 8 j on lo k (o.octet (at + w))) (low_with w hi lo on (number_at_below b at w o) (o.octet (at + w)) j k)
+        ∙ ap (λ (l : List ℕ). set l (at + w) (with_bit j on lo)) (number_stored b at w o)
+        ∙ ap₂ (λ (i x : ℕ). set b x (with_bit i on (get_or b x 0))) e p
 
-    front : ltb j 8 ≡ false → setNumber b at w (withBit (j - 8) on hi) ≡ set b (at + byte_of w (j - 8)) (withBit ((j - 8) % 8) on (get_or b (at + byte_of w (j - 8)) 0))
-        → set (setNumber b at w (withBit j on (hi * 256 + lo) / 256)) (at + w) (withBit j on (hi * 256 + lo) % 256) ≡ set b (at + byte_of (suc w) j) (withBit (j % 8) on (get_or b (at + byte_of (suc w) j) 0))
+    front : ltb j 8 ≡ false → set_number b at w (with_bit (j - 8) on hi) ≡ set b (at + byte_of w (j - 8)) (with_bit ((j - 8) % 8) on (get_or b (at + byte_of w (j - 8)) 0))
+        → set (set_number b at w (with_bit j on (hi * 256 + lo) / 256)) (at + w) (with_bit j on (hi * 256 + lo) % 256) ≡ set b (at + byte_of (suc w) j) (with_bit (j % 8) on (get_or b (at + byte_of (suc w) j) 0))
     front t i =
         let k : 8 ≤ j = ltb-false j 8 t in
         let d : j ≡ 8 + (j - 8) = omega arith in
         let e : (j - 8) % 8 ≡ j % 8 = omega arith in
         let p : at + byte_of w (j - 8) ≡ at + byte_of (suc w) j = omega arith in
-        let u = withBit ((j - 8) % 8) on (get_or b (at + byte_of w (j - 8)) 0) in
+        let u = with_bit ((j - 8) % 8) on (get_or b (at + byte_of w (j - 8)) 0) in
         let one = set b (at + byte_of w (j - 8)) u in
         let kept : lo ≡ get_or one (at + w) 0 = sym (get_or-set_other b (at + byte_of w (j - 8)) (at + w) u 0 (omega arith)) in
-        stored (withBit (j - 8) on hi) lo _ (o.octet (at + w))
-        (ap (λ (x : ℕ). withBit x on (hi * 256 + lo)) d ∙ high-with w hi lo on (numberAt-below b at w o) (o.octet (at + w)) (j - 8) (omega arith))
+        stored (with_bit (j - 8) on hi) lo _ (o.octet (at + w))
+        (ap (λ (x : ℕ). with_bit x on (hi * 256 + lo)) d ∙ high_with w hi lo on (number_at_below b at w o) (o.octet (at + w)) (j - 8) (omega arith))
         ∙ ap (λ (l : List ℕ). set l (at + w) lo) i ∙ ap (set one (at + w)) kept ∙ set_same one (at + w)
-        ∙ ap₂ (λ (x y : ℕ). set b y (withBit x on (get_or b y 0))) e p
+        ∙ ap₂ (λ (x y : ℕ). set b y (with_bit x on (get_or b y 0))) e p

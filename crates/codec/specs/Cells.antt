@@ -6,15 +6,15 @@ use Rattle.std.proofs.Math.Path.{refl}
 use Rattle.std.proofs.Math.Arith.{digits_lt, digits_div, digits_mod}
 use Rattle.matrix.specs.declared.Shape.{Shape}
 use Rattle.matrix.specs.Bytes.{number_at}
-use Rattle.matrix.specs.Shape.{shape_of, headerBytes, bits_of, columns, cellPlace, size_of}
-use Rattle.matrix.specs.Reading.{cell_at, setCell}
+use Rattle.matrix.specs.Shape.{shape_of, header_bytes, bits_of, columns, cell_place, size_of}
+use Rattle.matrix.specs.Reading.{cell_at, set_cell}
 use Rattle.matrix.specs.Shaped.{Shaped, Octets}
-use Rattle.codec.specs.Numbers.{length-setNumber, getD-setNumber-other, numberAt-set-other, numberAt-set-same, octets-setNumber, numberAt-below, pow-bytes}
+use Rattle.codec.specs.Numbers.{length_set_number, get_or_set_number_other, number_at_set_other, number_at_set_same, octets_set_number, number_at_below, pow_bytes}
 
 -- ---- the places of the cells of a shape
 
 -- a cell ends within the record
-pub place_inside : (f : Shape) (r c : ℕ) → r < f.n → c < columns f → cellPlace f r c + f.width ≤ size_of f
+pub place_inside : (f : Shape) (r c : ℕ) → r < f.n → c < columns f → cell_place f r c + f.width ≤ size_of f
 place_inside f r c h l =
     let m : f.width * suc (r * columns f + c) ≤ f.width * (f.n * columns f) = mul-le-mul_left f.width (digits_lt h l) in
     let e : f.width * suc (r * columns f + c) ≡ f.width * (r * columns f + c) + f.width = mul-suc f.width (r * columns f + c) in
@@ -24,9 +24,9 @@ place_inside f r c h l =
     place a x w y h = omega arith
 
 -- the cells of two rows or columns have no byte in common
-pub place-apart : (f : Shape) (r c w d : ℕ) → c < columns f → d < columns f → (r ≡ w → c ≡ d → ⊥)
-    → cellPlace f r c < cellPlace f w d + f.width → cellPlace f w d < cellPlace f r c + f.width → ⊥
-place-apart f r c w d h l ne a b = ne row column
+pub place_apart : (f : Shape) (r c w d : ℕ) → c < columns f → d < columns f → (r ≡ w → c ≡ d → ⊥)
+    → cell_place f r c < cell_place f w d + f.width → cell_place f w d < cell_place f r c + f.width → ⊥
+place_apart f r c w d h l ne a b = ne row column
   where
     k : ℕ
     k = r * columns f + c
@@ -51,71 +51,71 @@ place-apart f r c w d h l ne a b = ne row column
     column = sym (digits_mod r h) ∙ ap (λ (x : ℕ). x % columns f) same ∙ digits_mod w l
 
 -- a cell is after the header
-pub cell-after : (b : List ℕ) (r c : ℕ) → headerBytes ≤ cellPlace (shape_of b) r c
+pub cell_after : (b : List ℕ) (r c : ℕ) → header_bytes ≤ cell_place (shape_of b) r c
 unfolding shape_of
-cell-after b r c = omega arith
+cell_after b r c = omega arith
 
 -- ---- storing a cell
 
 module _ (b : List ℕ) (r c v : ℕ) where
-  pub length-set-cell : length (setCell b r c v) ≡ length b
-  unfolding setCell
-  length-set-cell = length-setNumber b (cellPlace (shape_of b) r c) (shape_of b).width v
+  pub length_set_cell : length (set_cell b r c v) ≡ length b
+  unfolding set_cell
+  length_set_cell = length_set_number b (cell_place (shape_of b) r c) (shape_of b).width v
 
   -- the bytes before the first cell stay
-  pub header-set : (i : ℕ) → i < headerBytes → get_or (setCell b r c v) i 0 ≡ get_or b i 0
-  unfolding setCell
-  header-set i h = getD-setNumber-other b (cellPlace (shape_of b) r c) (shape_of b).width v i (λ l u. omega (arith, cell-after b r c))
+  pub header_set : (i : ℕ) → i < header_bytes → get_or (set_cell b r c v) i 0 ≡ get_or b i 0
+  unfolding set_cell
+  header_set i h = get_or_set_number_other b (cell_place (shape_of b) r c) (shape_of b).width v i (λ l u. omega (arith, cell_after b r c))
 
-  pub shape-set : shape_of (setCell b r c v) ≡ shape_of b
+  pub shape_set : shape_of (set_cell b r c v) ≡ shape_of b
   unfolding shape_of
-  shape-set = rw (header-set 0 (omega arith), header-set 5 (omega arith), header-set 6 (omega arith)) refl
+  shape_set = rw (header_set 0 (omega arith), header_set 5 (omega arith), header_set 6 (omega arith)) refl
 
-  pub count_set : number_at (setCell b r c v) 1 4 ≡ number_at b 1 4
-  unfolding setCell
-  count_set = numberAt-set-other b (cellPlace (shape_of b) r c) (shape_of b).width v 1 4 (λ l u. omega (arith, cell-after b r c))
+  pub count_set : number_at (set_cell b r c v) 1 4 ≡ number_at b 1 4
+  unfolding set_cell
+  count_set = number_at_set_other b (cell_place (shape_of b) r c) (shape_of b).width v 1 4 (λ l u. omega (arith, cell_after b r c))
 
-  pub shaped-set : Shaped b → Shaped (setCell b r c v)
-  shaped-set s =
+  pub shaped_set : Shaped b → Shaped (set_cell b r c v)
+  shaped_set s =
       record {
-        version = rw shape-set s.version;
-        low = rw shape-set s.low;
-        high = rw shape-set s.high;
-        plain = rw shape-set s.plain;
-        count = rw shape-set (count_set ∙ s.count);
-        size = rw shape-set (length-set-cell ∙ s.size);
+        version = rw shape_set s.version;
+        low = rw shape_set s.low;
+        high = rw shape_set s.high;
+        plain = rw shape_set s.plain;
+        count = rw shape_set (count_set ∙ s.count);
+        size = rw shape_set (length_set_cell ∙ s.size);
       }
 
-  pub octets-set : Octets b → Octets (setCell b r c v)
-  unfolding setCell
-  octets-set o = octets-setNumber b (cellPlace (shape_of b) r c) (shape_of b).width v o
+  pub octets_set : Octets b → Octets (set_cell b r c v)
+  unfolding set_cell
+  octets_set o = octets_set_number b (cell_place (shape_of b) r c) (shape_of b).width v o
 
 -- ---- the cells of a record
 
 -- a cell is within the bytes
-pub cell-inside : (b : List ℕ) (r c : ℕ) → Shaped b → r < (shape_of b).n → c < columns (shape_of b)
-    → cellPlace (shape_of b) r c + (shape_of b).width ≤ length b
-cell-inside b r c s h l = rw s.size (place_inside (shape_of b) r c h l)
+pub cell_inside : (b : List ℕ) (r c : ℕ) → Shaped b → r < (shape_of b).n → c < columns (shape_of b)
+    → cell_place (shape_of b) r c + (shape_of b).width ≤ length b
+cell_inside b r c s h l = rw s.size (place_inside (shape_of b) r c h l)
 
 pub cell_below : (b : List ℕ) (r c : ℕ) → Octets b → cell_at b r c < 2 ^ bits_of (shape_of b)
 unfolding cell_at
-cell_below b r c o = rw (← pow-bytes (shape_of b).width) (numberAt-below b (cellPlace (shape_of b) r c) (shape_of b).width o)
+cell_below b r c o = rw (← pow_bytes (shape_of b).width) (number_at_below b (cell_place (shape_of b) r c) (shape_of b).width o)
 
-pub cell-set-same : (b : List ℕ) (r c v : ℕ) → Shaped b → r < (shape_of b).n → c < columns (shape_of b) → v < 2 ^ bits_of (shape_of b)
-    → cell_at (setCell b r c v) r c ≡ v
+pub cell_set_same : (b : List ℕ) (r c v : ℕ) → Shaped b → r < (shape_of b).n → c < columns (shape_of b) → v < 2 ^ bits_of (shape_of b)
+    → cell_at (set_cell b r c v) r c ≡ v
 unfolding cell_at
-cell-set-same b r c v s h l k = rw (shape-set b r c v) (stored (rw (← pow-bytes (shape_of b).width) at k))
+cell_set_same b r c v s h l k = rw (shape_set b r c v) (stored (rw (← pow_bytes (shape_of b).width) at k))
   where
-    stored : v < 256 ^ (shape_of b).width → number_at (setCell b r c v) (cellPlace (shape_of b) r c) (shape_of b).width ≡ v
-    stored z = unfold setCell in numberAt-set-same b (cellPlace (shape_of b) r c) (shape_of b).width v (cell-inside b r c s h l) z
+    stored : v < 256 ^ (shape_of b).width → number_at (set_cell b r c v) (cell_place (shape_of b) r c) (shape_of b).width ≡ v
+    stored z = unfold set_cell in number_at_set_same b (cell_place (shape_of b) r c) (shape_of b).width v (cell_inside b r c s h l) z
 
-pub cell-set-other : (b : List ℕ) (r c v w d : ℕ) → c < columns (shape_of b) → d < columns (shape_of b) → (r ≡ w → c ≡ d → ⊥)
-    → cell_at (setCell b r c v) w d ≡ cell_at b w d
+pub cell_set_other : (b : List ℕ) (r c v w d : ℕ) → c < columns (shape_of b) → d < columns (shape_of b) → (r ≡ w → c ≡ d → ⊥)
+    → cell_at (set_cell b r c v) w d ≡ cell_at b w d
 unfolding cell_at
-cell-set-other b r c v w d h l ne = rw (shape-set b r c v) kept
+cell_set_other b r c v w d h l ne = rw (shape_set b r c v) kept
   where
-    kept : number_at (setCell b r c v) (cellPlace (shape_of b) w d) (shape_of b).width ≡ number_at b (cellPlace (shape_of b) w d) (shape_of b).width
+    kept : number_at (set_cell b r c v) (cell_place (shape_of b) w d) (shape_of b).width ≡ number_at b (cell_place (shape_of b) w d) (shape_of b).width
     kept =
-        unfold setCell in
-        numberAt-set-other b (cellPlace (shape_of b) r c) (shape_of b).width v (cellPlace (shape_of b) w d) (shape_of b).width
-        (place-apart (shape_of b) r c w d h l ne)
+        unfold set_cell in
+        number_at_set_other b (cell_place (shape_of b) r c) (shape_of b).width v (cell_place (shape_of b) w d) (shape_of b).width
+        (place_apart (shape_of b) r c w d h l ne)

@@ -6,50 +6,50 @@ use Rattle.matrix.specs.declared.Form.{Form}
 use Rattle.matrix.specs.declared.Form.TheVariants.{Plain, Starred}
 use Rattle.matrix.specs.declared.Right.{Right}
 use Rattle.matrix.specs.declared.Right.TheVariants.{Own, Control, Basic}
-use Rattle.matrix.specs.Rights.{code_of, rightOf}
-use Rattle.matrix.specs.Touched.{sameRight}
+use Rattle.matrix.specs.Rights.{code_of, right_of}
+use Rattle.matrix.specs.Touched.{same_right}
 use Rattle.laws.specs.Tests.{way, same_test}
-use Rattle.laws.specs.Same.{sameRight-refl, sameRight-eq}
+use Rattle.laws.specs.Same.{same_right_refl, same_right_eq}
 
-pub codeOf-rightOf : (j : ℕ) → code_of (rightOf j) ≡ j
-codeOf-rightOf zero = refl
-codeOf-rightOf (suc zero) = refl
-codeOf-rightOf (suc (suc j)) = ⊎_elim plain starred (way (eqb (j % 2) 0))
+pub code_of_right_of : (j : ℕ) → code_of (right_of j) ≡ j
+code_of_right_of zero = refl
+code_of_right_of (suc zero) = refl
+code_of_right_of (suc (suc j)) = ⊎_elim plain starred (way (eqb (j % 2) 0))
   where
-    plain : eqb (j % 2) 0 ≡ true → code_of (rightOf (suc (suc j))) ≡ suc (suc j)
+    plain : eqb (j % 2) 0 ≡ true → code_of (right_of (suc (suc j))) ≡ suc (suc j)
     plain e = rw e (omega (arith, eqb-true (j % 2) 0 e))
 
-    starred : eqb (j % 2) 0 ≡ false → code_of (rightOf (suc (suc j))) ≡ suc (suc j)
+    starred : eqb (j % 2) 0 ≡ false → code_of (right_of (suc (suc j))) ≡ suc (suc j)
     starred e = rw e (omega (arith, eqb-false (j % 2) 0 e))
 
 -- the right of the number 2 more than m
-rightOf-two : (m : ℕ) → rightOf (2 + m) ≡ Basic (m / 2) (cond (eqb (m % 2) 0) Plain Starred)
-rightOf-two m = let e : 2 + m ≡ suc (suc m) = omega arith in ap rightOf e
+right_of_two : (m : ℕ) → right_of (2 + m) ≡ Basic (m / 2) (cond (eqb (m % 2) 0) Plain Starred)
+right_of_two m = let e : 2 + m ≡ suc (suc m) = omega arith in ap right_of e
 
-pub rightOf-codeOf : (y : Right) → rightOf (code_of y) ≡ y
-rightOf-codeOf Own = refl
-rightOf-codeOf Control = refl
-rightOf-codeOf (Basic k Plain) =
+pub right_of_code_of : (y : Right) → right_of (code_of y) ≡ y
+right_of_code_of Own = refl
+right_of_code_of Control = refl
+right_of_code_of (Basic k Plain) =
     let e : 2 * k / 2 ≡ k = omega arith in
     let d : eqb (2 * k % 2) 0 ≡ true = eq-eqb (2 * k % 2) 0 (omega arith) in
-    rightOf-two (2 * k) ∙ rw (e, d) refl
-rightOf-codeOf (Basic k Starred) =
+    right_of_two (2 * k) ∙ rw (e, d) refl
+right_of_code_of (Basic k Starred) =
     let s : 3 + 2 * k ≡ 2 + suc (2 * k) = omega arith in
     let e : suc (2 * k) / 2 ≡ k = omega arith in
     let d : eqb (suc (2 * k) % 2) 0 ≡ false = ne_eqb (suc (2 * k) % 2) 0 (omega arith) in
-    ap rightOf s ∙ rightOf-two (suc (2 * k)) ∙ rw (e, d) refl
+    ap right_of s ∙ right_of_two (suc (2 * k)) ∙ rw (e, d) refl
 
-pub codeOf-same : (y z : Right) → code_of y ≡ code_of z → y ≡ z
-codeOf-same y z h = sym (rightOf-codeOf y) ∙ ap rightOf h ∙ rightOf-codeOf z
+pub code_of_same : (y z : Right) → code_of y ≡ code_of z → y ≡ z
+code_of_same y z h = sym (right_of_code_of y) ∙ ap right_of h ∙ right_of_code_of z
 
 -- a cell of w bytes has room for the basic rights below 4 w - 1
-pub codeOf-room : (w k : ℕ) (f : Form) → k < 4 * w - 1 → code_of (Basic k f) < 8 * w
-codeOf-room w k Plain h = omega arith
-codeOf-room w k Starred h = omega arith
+pub code_of_room : (w k : ℕ) (f : Form) → k < 4 * w - 1 → code_of (Basic k f) < 8 * w
+code_of_room w k Plain h = omega arith
+code_of_room w k Starred h = omega arith
 
 -- codes are the same where the rights are
-pub codeOf-test : (z y : Right) → eqb (code_of z) (code_of y) ≡ sameRight z y
-codeOf-test z y =
-    same_test (eqb (code_of z) (code_of y)) (sameRight z y)
-    (λ h. subst (λ (u : Right). sameRight z u ≡ true) (codeOf-same z y (eqb-true (code_of z) (code_of y) h)) (sameRight-refl z))
-    (λ h. eq-eqb (code_of z) (code_of y) (ap code_of (sameRight-eq z y h)))
+pub code_of_test : (z y : Right) → eqb (code_of z) (code_of y) ≡ same_right z y
+code_of_test z y =
+    same_test (eqb (code_of z) (code_of y)) (same_right z y)
+    (λ h. subst (λ (u : Right). same_right z u ≡ true) (code_of_same z y (eqb-true (code_of z) (code_of y) h)) (same_right_refl z))
+    (λ h. eq-eqb (code_of z) (code_of y) (ap code_of (same_right_eq z y h)))

@@ -8,57 +8,57 @@ use Rattle.std.proofs.Math.Seq.{set_out}
 use Rattle.std.proofs.lemmas.List.{get_or_at}
 use Rattle.std.proofs.Math.Arith.{digits_div, digits_mod, digits_lt}
 use Rattle.std.proofs.lemmas.Bool.{eqb-false}
-use Rattle.matrix.specs.Bytes.{number_at, setNumber, bytesOfNumber}
+use Rattle.matrix.specs.Bytes.{number_at, set_number, bytes_of_number}
 use Rattle.matrix.specs.Shaped.{Octets}
 use Rattle.laws.specs.Tests.{way}
 use Rattle.laws.specs.Bounded.{below_suc}
 
 -- a number is what stands at its places
-pub numberAt-agree : (a b : List ℕ) (at to w : ℕ) → ((j : ℕ) → j < w → get_or a (at + j) 0 ≡ get_or b (to + j) 0)
+pub number_at_agree : (a b : List ℕ) (at to w : ℕ) → ((j : ℕ) → j < w → get_or a (at + j) 0 ≡ get_or b (to + j) 0)
     → number_at a at w ≡ number_at b to w
 unfolding number_at
-numberAt-agree a b at to zero h = refl
-numberAt-agree a b at to (suc w) h =
-    ap₂ (λ (x y : ℕ). x * 256 + y) (numberAt-agree a b at to w (λ j l. h j (omega arith))) (h w (omega arith))
+number_at_agree a b at to zero h = refl
+number_at_agree a b at to (suc w) h =
+    ap₂ (λ (x y : ℕ). x * 256 + y) (number_at_agree a b at to w (λ j l. h j (omega arith))) (h w (omega arith))
 
 -- ---- storing a number
 
-pub length-setNumber : (b : List ℕ) (at w v : ℕ) → length (setNumber b at w v) ≡ length b
-unfolding setNumber
-length-setNumber b at zero v = refl
-length-setNumber b at (suc w) v = length-set (setNumber b at w (v / 256)) (at + w) (v % 256) ∙ length-setNumber b at w (v / 256)
+pub length_set_number : (b : List ℕ) (at w v : ℕ) → length (set_number b at w v) ≡ length b
+unfolding set_number
+length_set_number b at zero v = refl
+length_set_number b at (suc w) v = length-set (set_number b at w (v / 256)) (at + w) (v % 256) ∙ length_set_number b at w (v / 256)
 
 -- another place than those from `at` on
-pub getD-setNumber-other : (b : List ℕ) (at w v i : ℕ) → (at ≤ i → i < at + w → ⊥) → get_or (setNumber b at w v) i 0 ≡ get_or b i 0
-unfolding setNumber
-getD-setNumber-other b at zero v i h = refl
-getD-setNumber-other b at (suc w) v i h =
-    get_or-set_other (setNumber b at w (v / 256)) (at + w) i (v % 256) 0 (λ e. h (omega arith) (omega arith))
-    ∙ getD-setNumber-other b at w (v / 256) i (λ l u. h l (omega arith))
+pub get_or_set_number_other : (b : List ℕ) (at w v i : ℕ) → (at ≤ i → i < at + w → ⊥) → get_or (set_number b at w v) i 0 ≡ get_or b i 0
+unfolding set_number
+get_or_set_number_other b at zero v i h = refl
+get_or_set_number_other b at (suc w) v i h =
+    get_or-set_other (set_number b at w (v / 256)) (at + w) i (v % 256) 0 (λ e. h (omega arith) (omega arith))
+    ∙ get_or_set_number_other b at w (v / 256) i (λ l u. h l (omega arith))
 
 -- a number that ends before the stored one begins, or begins after it ends
-pub numberAt-set-other : (b : List ℕ) (at w v to u : ℕ) → (at < to + u → to < at + w → ⊥)
-    → number_at (setNumber b at w v) to u ≡ number_at b to u
-numberAt-set-other b at w v to u h =
-    numberAt-agree (setNumber b at w v) b to to u (λ j l. getD-setNumber-other b at w v (to + j) (λ p q. h (omega arith) (omega arith)))
+pub number_at_set_other : (b : List ℕ) (at w v to u : ℕ) → (at < to + u → to < at + w → ⊥)
+    → number_at (set_number b at w v) to u ≡ number_at b to u
+number_at_set_other b at w v to u h =
+    number_at_agree (set_number b at w v) b to to u (λ j l. get_or_set_number_other b at w v (to + j) (λ p q. h (omega arith) (omega arith)))
 
-pub numberAt-set-same : (b : List ℕ) (at w v : ℕ) → at + w ≤ length b → v < 256 ^ w → number_at (setNumber b at w v) at w ≡ v
-unfolding setNumber number_at
-numberAt-set-same b at zero v h l = omega arith
-numberAt-set-same b at (suc w) v h l =
-    ap₂ (λ (x y : ℕ). x * 256 + y) (high ∙ numberAt-set-same b at w (v / 256) (omega arith) below) low ∙ div-add-mod' v 256
+pub number_at_set_same : (b : List ℕ) (at w v : ℕ) → at + w ≤ length b → v < 256 ^ w → number_at (set_number b at w v) at w ≡ v
+unfolding set_number number_at
+number_at_set_same b at zero v h l = omega arith
+number_at_set_same b at (suc w) v h l =
+    ap₂ (λ (x y : ℕ). x * 256 + y) (high ∙ number_at_set_same b at w (v / 256) (omega arith) below) low ∙ div-add-mod' v 256
   where
     front : List ℕ
-    front = setNumber b at w (v / 256)
+    front = set_number b at w (v / 256)
 
     high : number_at (set front (at + w) (v % 256)) at w ≡ number_at front at w
-    high = numberAt-agree (set front (at + w) (v % 256)) front at at w (λ j k. get_or-set_other front (at + w) (at + j) (v % 256) 0 (omega arith))
+    high = number_at_agree (set front (at + w) (v % 256)) front at at w (λ j k. get_or-set_other front (at + w) (at + j) (v % 256) 0 (omega arith))
 
     below : v / 256 < 256 ^ w
     below = (div-lt_iff_lt-mul {k = 256} (omega arith)).1 (rw pow-suc at l)
 
     low : get_or (set front (at + w) (v % 256)) (at + w) 0 ≡ v % 256
-    low = get_or-set_same front (at + w) (v % 256) 0 (let e : length front ≡ length b = length-setNumber b at w (v / 256) in omega arith)
+    low = get_or-set_same front (at + w) (v % 256) 0 (let e : length front ≡ length b = length_set_number b at w (v / 256) in omega arith)
 
 -- a byte, and a number of bytes, stored where it stands
 pub set_same : (l : List ℕ) (i : ℕ) → set l i (get_or l i 0) ≡ l
@@ -66,35 +66,35 @@ set_same [] i = refl
 set_same (x ∷ xs) zero = refl
 set_same (x ∷ xs) (suc i) = ap (λ (r : List ℕ). x ∷ r) (set_same xs i)
 
-pub number-stored : (b : List ℕ) (at w : ℕ) → Octets b → setNumber b at w (number_at b at w) ≡ b
-unfolding setNumber number_at
-number-stored b at zero o = refl
-number-stored b at (suc w) o =
-    ap₂ (λ (x y : ℕ). set (setNumber b at w x) (at + w) y) (digits_div (number_at b at w) (o.octet (at + w))) (digits_mod (number_at b at w) (o.octet (at + w)))
-    ∙ ap (λ (l : List ℕ). set l (at + w) (get_or b (at + w) 0)) (number-stored b at w o) ∙ set_same b (at + w)
+pub number_stored : (b : List ℕ) (at w : ℕ) → Octets b → set_number b at w (number_at b at w) ≡ b
+unfolding set_number number_at
+number_stored b at zero o = refl
+number_stored b at (suc w) o =
+    ap₂ (λ (x y : ℕ). set (set_number b at w x) (at + w) y) (digits_div (number_at b at w) (o.octet (at + w))) (digits_mod (number_at b at w) (o.octet (at + w)))
+    ∙ ap (λ (l : List ℕ). set l (at + w) (get_or b (at + w) 0)) (number_stored b at w o) ∙ set_same b (at + w)
 
 -- ---- a number of two bytes
 
-pub two-read : (b : List ℕ) (at : ℕ) → number_at b at 2 ≡ get_or b at 0 * 256 + get_or b (at + 1) 0
+pub two_read : (b : List ℕ) (at : ℕ) → number_at b at 2 ≡ get_or b at 0 * 256 + get_or b (at + 1) 0
 unfolding number_at
-two-read b at = rw add-zero (simp zero-add)
+two_read b at = rw add-zero (simp zero-add)
 
-pub two-stored : (b : List ℕ) (at v : ℕ) → setNumber b at 2 v ≡ set (set b at (v / 256 % 256)) (at + 1) (v % 256)
-unfolding setNumber
-two-stored b at v = rw add-zero refl
+pub two_stored : (b : List ℕ) (at v : ℕ) → set_number b at 2 v ≡ set (set b at (v / 256 % 256)) (at + 1) (v % 256)
+unfolding set_number
+two_stored b at v = rw add-zero refl
 
 -- ---- a number of four bytes is two numbers of two
 
-pub four-read : (b : List ℕ) (at : ℕ) → number_at b at 4 ≡ number_at b at 2 * 65536 + number_at b (at + 2) 2
+pub four_read : (b : List ℕ) (at : ℕ) → number_at b at 4 ≡ number_at b at 2 * 65536 + number_at b (at + 2) 2
 unfolding number_at
-four-read b at =
+four_read b at =
     let e : at + 2 + 0 ≡ at + 2 = omega arith in
     let f : at + 2 + 1 ≡ at + 3 = omega arith in
     rw (e, f) (omega arith)
 
-pub four-stored : (b : List ℕ) (at v : ℕ) → setNumber b at 4 v ≡ setNumber (setNumber b at 2 (v / 65536)) (at + 2) 2 v
-unfolding setNumber
-four-stored b at v =
+pub four_stored : (b : List ℕ) (at v : ℕ) → set_number b at 4 v ≡ set_number (set_number b at 2 (v / 65536)) (at + 2) 2 v
+unfolding set_number
+four_stored b at v =
     let e : at + 2 + 0 ≡ at + 2 = omega arith in
     let f : at + 2 + 1 ≡ at + 3 = omega arith in
     let g : v / 256 / 256 ≡ v / 65536 = div-div-eq-div-mul v 256 256 in
@@ -102,8 +102,8 @@ four-stored b at v =
 
 -- ---- bytes stay bytes
 
-octets-set-byte : (b : List ℕ) (i v : ℕ) → v < 256 → Octets b → Octets (set b i v)
-octets-set-byte b i v h o = record { octet = λ j. each j }
+octets_set_byte : (b : List ℕ) (i v : ℕ) → v < 256 → Octets b → Octets (set b i v)
+octets_set_byte b i v h o = record { octet = λ j. each j }
   where
     here : get_or (set b i v) i 0 < 256
     here =
@@ -116,64 +116,65 @@ octets-set-byte b i v h o = record { octet = λ j. each j }
         ⊎_elim (λ (e : eqb j i ≡ true). subst (λ (k : ℕ). get_or (set b i v) k 0 < 256) (sym (eqb-true j i e)) here)
         (λ (e : eqb j i ≡ false). subst (λ (x : ℕ). x < 256) (sym (get_or-set_other b i j v 0 (eqb-false j i e))) (o.octet j)) (way (eqb j i))
 
-pub octets-setNumber : (b : List ℕ) (at w v : ℕ) → Octets b → Octets (setNumber b at w v)
-unfolding setNumber
-octets-setNumber b at zero v o = o
-octets-setNumber b at (suc w) v o =
-    octets-set-byte (setNumber b at w (v / 256)) (at + w) (v % 256) (mod-lt v (omega arith)) (octets-setNumber b at w (v / 256) o)
+pub octets_set_number : (b : List ℕ) (at w v : ℕ) → Octets b → Octets (set_number b at w v)
+unfolding set_number
+octets_set_number b at zero v o = o
+octets_set_number b at (suc w) v o =
+    octets_set_byte (set_number b at w (v / 256)) (at + w) (v % 256) (mod-lt v (omega arith)) (octets_set_number b at w (v / 256) o)
 
-pub numberAt-below : (b : List ℕ) (at w : ℕ) → Octets b → number_at b at w < 256 ^ w
+pub number_at_below : (b : List ℕ) (at w : ℕ) → Octets b → number_at b at w < 256 ^ w
 unfolding number_at
-numberAt-below b at zero o = omega arith
-numberAt-below b at (suc w) o = rw (pow-suc 256 w) (digits_lt (numberAt-below b at w o) (o.octet (at + w)))
+number_at_below b at zero o = omega arith
+number_at_below b at (suc w) o = rw (pow-suc 256 w) (digits_lt (number_at_below b at w o) (o.octet (at + w)))
 
 -- w bytes are 8 w bits
-pub pow-bytes : (w : ℕ) → 256 ^ w ≡ 2 ^ (8 * w)
-pow-bytes zero = refl
-pow-bytes (suc w) =
+pub pow_bytes : (w : ℕ) → 256 ^ w ≡ 2 ^ (8 * w)
+pow_bytes zero = refl
+pow_bytes (suc w) =
     let e : 8 * suc w ≡ 8 * w + 8 = omega arith in
-    pow-suc 256 w ∙ ap (λ (x : ℕ). x * 256) (pow-bytes w) ∙ sym (ap (λ (x : ℕ). 2 ^ x) e ∙ pow-add 2 (8 * w) 8)
+    pow-suc 256 w ∙ ap (λ (x : ℕ). x * 256) (pow_bytes w) ∙ sym (ap (λ (x : ℕ). 2 ^ x) e ∙ pow-add 2 (8 * w) 8)
 
 -- ---- the bytes of a number
 
-pub length-bytesOfNumber : (w v : ℕ) → length (bytesOfNumber w v) ≡ w
-unfolding bytesOfNumber
-length-bytesOfNumber zero v = refl
-length-bytesOfNumber (suc w) v =
-    let e : length (bytesOfNumber w (v / 256)) ≡ w = length-bytesOfNumber w (v / 256) in
-    length-append (bytesOfNumber w (v / 256)) (v % 256 ∷ []) ∙ (omega arith)
+pub length_bytes_of_number : (w v : ℕ) → length (bytes_of_number w v) ≡ w
+unfolding bytes_of_number
+length_bytes_of_number zero v = refl
+length_bytes_of_number (suc w) v =
+    let e : length (bytes_of_number w (v / 256)) ≡ w = length_bytes_of_number w (v / 256) in
+    length-append (bytes_of_number w (v / 256)) (v % 256 ∷ []) ∙ (omega arith)
 
 -- in a list they are read as the number
-pub numberAt-bytes : (xs : List ℕ) (w v : ℕ) (ys : List ℕ) → v < 256 ^ w → number_at (xs ++ bytesOfNumber w v ++ ys) (length xs) w ≡ v
-unfolding bytesOfNumber number_at
-numberAt-bytes xs zero v ys l = omega arith
-numberAt-bytes xs (suc w) v ys l =
-    rw whole (ap₂ (λ (x y : ℕ). x * 256 + y) (numberAt-bytes xs w (v / 256) (v % 256 ∷ ys) below) last ∙ div-add-mod' v 256)
+pub number_at_bytes : (xs : List ℕ) (w v : ℕ) (ys : List ℕ) → v < 256 ^ w → number_at (xs ++ bytes_of_number w v ++ ys) (length xs) w ≡ v
+unfolding bytes_of_number number_at
+number_at_bytes xs zero v ys l = omega arith
+number_at_bytes xs (suc w) v ys l =
+    subst (λ (z : List ℕ). number_at z (length xs) (suc w) ≡ v) (sym whole)
+    (ap₂ (λ (x y : ℕ). x * 256 + y) (number_at_bytes xs w (v / 256) (v % 256 ∷ ys) below) last ∙ div-add-mod' v 256)
   where
-    whole : xs ++ (bytesOfNumber w (v / 256) ++ (v % 256 ∷ [])) ++ ys ≡ xs ++ bytesOfNumber w (v / 256) ++ (v % 256 ∷ ys)
+    whole : xs ++ (bytes_of_number w (v / 256) ++ (v % 256 ∷ [])) ++ ys ≡ xs ++ bytes_of_number w (v / 256) ++ (v % 256 ∷ ys)
     whole = simp append_assoc
 
     below : v / 256 < 256 ^ w
     below = (div-lt_iff_lt-mul {k = 256} (omega arith)).1 (rw pow-suc at l)
 
-    last : get_or (xs ++ bytesOfNumber w (v / 256) ++ (v % 256 ∷ ys)) (length xs + w) 0 ≡ v % 256
+    last : get_or (xs ++ bytes_of_number w (v / 256) ++ (v % 256 ∷ ys)) (length xs + w) 0 ≡ v % 256
     last =
-        get_or_at (xs ++ bytesOfNumber w (v / 256)) (v % 256) ys 0 (length xs + w)
-        (length-append xs (bytesOfNumber w (v / 256)) ∙ ap (λ (n : ℕ). length xs + n) (length-bytesOfNumber w (v / 256)))
+        get_or_at (xs ++ bytes_of_number w (v / 256)) (v % 256) ys 0 (length xs + w)
+        (length-append xs (bytes_of_number w (v / 256)) ∙ ap (λ (n : ℕ). length xs + n) (length_bytes_of_number w (v / 256)))
 
 -- the bytes of the number at a place are what stands there
-pub getD-bytes-numberAt : (b : List ℕ) (at w j : ℕ) → Octets b → j < w → get_or (bytesOfNumber w (number_at b at w)) j 0 ≡ get_or b (at + j) 0
-unfolding bytesOfNumber number_at
-getD-bytes-numberAt b at zero j o h = absurd (not-suc-le-zero h)
-getD-bytes-numberAt b at (suc w) j o h =
+pub get_or_bytes_number_at : (b : List ℕ) (at w j : ℕ) → Octets b → j < w → get_or (bytes_of_number w (number_at b at w)) j 0 ≡ get_or b (at + j) 0
+unfolding bytes_of_number number_at
+get_or_bytes_number_at b at zero j o h = absurd (not-suc-le-zero h)
+get_or_bytes_number_at b at (suc w) j o h =
     rw (digits_div (number_at b at w) (o.octet (at + w)), digits_mod (number_at b at w) (o.octet (at + w)))
-    (⊎_elim (λ l. earlier l (getD-bytes-numberAt b at w j o l)) last (below_suc j w h))
+    (⊎_elim (λ l. earlier l (get_or_bytes_number_at b at w j o l)) last (below_suc j w h))
   where
     front : List ℕ
-    front = bytesOfNumber w (number_at b at w)
+    front = bytes_of_number w (number_at b at w)
 
     long : length front ≡ w
-    long = length-bytesOfNumber w (number_at b at w)
+    long = length_bytes_of_number w (number_at b at w)
 
     earlier : j < w → get_or front j 0 ≡ get_or b (at + j) 0 → get_or (front ++ (get_or b (at + w) 0 ∷ [])) j 0 ≡ get_or b (at + j) 0
     earlier l e = get_or-append front (get_or b (at + w) 0 ∷ []) 0 j (rw long l) ∙ e
@@ -181,25 +182,25 @@ getD-bytes-numberAt b at (suc w) j o h =
     last : j ≡ w → get_or (front ++ (get_or b (at + w) 0 ∷ [])) j 0 ≡ get_or b (at + j) 0
     last q = rw q (get_or_at front (get_or b (at + w) 0) [] 0 w long)
 
-pub bytes-numberAt : (b : List ℕ) (at w : ℕ) → Octets b → at + w ≤ length b → bytesOfNumber w (number_at b at w) ≡ take w (drop at b)
-bytes-numberAt b at w o h =
-    ext_get_or 0 (bytesOfNumber w (number_at b at w)) (take w (drop at b)) (long ∙ sym (length-take-le w (drop at b) (simp length-drop (omega arith))))
-    (λ j l. let k : j < w = rw long at l in getD-bytes-numberAt b at w j o k ∙ sym (get_or-take w (drop at b) j 0 k ∙ get_or-drop at b j 0))
+pub bytes_number_at : (b : List ℕ) (at w : ℕ) → Octets b → at + w ≤ length b → bytes_of_number w (number_at b at w) ≡ take w (drop at b)
+bytes_number_at b at w o h =
+    ext_get_or 0 (bytes_of_number w (number_at b at w)) (take w (drop at b)) (long ∙ sym (length-take-le w (drop at b) (simp length-drop (omega arith))))
+    (λ j l. let k : j < w = rw long at l in get_or_bytes_number_at b at w j o k ∙ sym (get_or-take w (drop at b) j 0 k ∙ get_or-drop at b j 0))
   where
-    long : length (bytesOfNumber w (number_at b at w)) ≡ w
-    long = length-bytesOfNumber w (number_at b at w)
+    long : length (bytes_of_number w (number_at b at w)) ≡ w
+    long = length_bytes_of_number w (number_at b at w)
 
 -- each byte of a number is a digit to the base 256
-pub getD-bytesOfNumber : (w v j : ℕ) → j < w → get_or (bytesOfNumber w v) j 0 ≡ v / 256 ^ (w - suc j) % 256
-unfolding bytesOfNumber
-getD-bytesOfNumber zero v j h = absurd (not-suc-le-zero h)
-getD-bytesOfNumber (suc w) v j h = ⊎_elim (λ l. earlier l (getD-bytesOfNumber w (v / 256) j l)) last (below_suc j w h)
+pub get_or_bytes_of_number : (w v j : ℕ) → j < w → get_or (bytes_of_number w v) j 0 ≡ v / 256 ^ (w - suc j) % 256
+unfolding bytes_of_number
+get_or_bytes_of_number zero v j h = absurd (not-suc-le-zero h)
+get_or_bytes_of_number (suc w) v j h = ⊎_elim (λ l. earlier l (get_or_bytes_of_number w (v / 256) j l)) last (below_suc j w h)
   where
     front : List ℕ
-    front = bytesOfNumber w (v / 256)
+    front = bytes_of_number w (v / 256)
 
     long : length front ≡ w
-    long = length-bytesOfNumber w (v / 256)
+    long = length_bytes_of_number w (v / 256)
 
     earlier : j < w → get_or front j 0 ≡ v / 256 / 256 ^ (w - suc j) % 256
         → get_or (front ++ (v % 256 ∷ [])) j 0 ≡ v / 256 ^ (suc w - suc j) % 256
@@ -215,13 +216,13 @@ getD-bytesOfNumber (suc w) v j h = ⊎_elim (λ l. earlier l (getD-bytesOfNumber
         ap (λ (k : ℕ). get_or (front ++ (v % 256 ∷ [])) k 0) q ∙ get_or_at front (v % 256) [] 0 w long
         ∙ ap (λ (d : ℕ). d % 256) (sym (ap (λ (k : ℕ). v / 256 ^ k) z ∙ div-one v))
 
-pub octets-bytesOfNumber : (w v : ℕ) → Octets (bytesOfNumber w v)
-octets-bytesOfNumber w v = record { octet = λ j. each j }
+pub octets_bytes_of_number : (w v : ℕ) → Octets (bytes_of_number w v)
+octets_bytes_of_number w v = record { octet = λ j. each j }
   where
-    each : (j : ℕ) → get_or (bytesOfNumber w v) j 0 < 256
+    each : (j : ℕ) → get_or (bytes_of_number w v) j 0 < 256
     each j =
-        ⊎_elim (λ (l : ltb j w ≡ true). rw (getD-bytesOfNumber w v j (ltb-true j w l)) (mod-lt (v / 256 ^ (w - suc j)) (omega arith)))
+        ⊎_elim (λ (l : ltb j w ≡ true). rw (get_or_bytes_of_number w v j (ltb-true j w l)) (mod-lt (v / 256 ^ (w - suc j)) (omega arith)))
         (λ (l : ltb j w ≡ false).
-        let k : length (bytesOfNumber w v) ≤ j = rw (length-bytesOfNumber w v) (ltb-false j w l) in
-        rw (get_or-eq_default (bytesOfNumber w v) 0 k) (omega arith))
+        let k : length (bytes_of_number w v) ≤ j = rw (length_bytes_of_number w v) (ltb-false j w l) in
+        rw (get_or-eq_default (bytes_of_number w v) 0 k) (omega arith))
         (way (ltb j w))

@@ -1,1 +1,3 @@
 // Laws of the bytes of a record. All of it is in specs/; there is no code.
+
+#![tactic(auto)]

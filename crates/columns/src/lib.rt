@@ -1,12 +1,15 @@
 // Tests of each column of a record. Its cells are lanes, q each: one in version 1, two in version 2.
+
+#![tactic(auto)]
+
 ghost use Rattle.std.specs.Prelude.{◌≡◌, not, ◌&&◌, ◌+◌, ◌*◌, ◌≤◌, ◌<◌, eqb, length, get_or};
 ghost use Rattle.matrix.specs.Bounded.{all};
 ghost use Rattle.matrix.specs.Bytes.{bit};
-ghost use Rattle.matrix.specs.Shape.{mostSubjects};
+ghost use Rattle.matrix.specs.Shape.{most_subjects};
 ghost use Rattle.lanes.specs.Lanes.{seen_at};
 ghost use Rattle.lanes.specs.Lists.{Stored};
-ghost use Rattle.columns.specs.Cells.{OneOrTwo, mostColumns, mostCounted, lanes_of, lastLane, bitsIn};
-ghost use Rattle.columns.specs.Checks.{present, zeroFrom, rootCounts, otherCounts, counts, countTest, subjectAt, subjectTest, Celled, Placed, Lists};
+ghost use Rattle.columns.specs.Cells.{OneOrTwo, most_columns, most_counted, lanes_of, last_lane, bits_in};
+ghost use Rattle.columns.specs.Checks.{present, zero_from, root_counts, other_counts, counts, count_test, subject_at, subject_test, Celled, Placed, Lists};
 
 use lanes::Matrix;
 use matrix::MOST_SUBJECTS;
@@ -18,7 +21,7 @@ pub const COUNTED: usize = MOST_LANES * MOST_SUBJECTS;
 
 // The lanes of k cells.
 pub fn lanes_of(q: usize, k: usize) -> usize
-    requires { OneOrTwo q × (k ≤ mostColumns) }
+    requires { OneOrTwo q × (k ≤ most_columns) }
     ensures { result ≡ lanes_of q k }
 {
     q * k
@@ -26,16 +29,16 @@ pub fn lanes_of(q: usize, k: usize) -> usize
 
 // The last lane of cell c, which has own and control.
 pub fn last_lane(q: usize, c: usize) -> usize
-    requires { OneOrTwo q × (c < mostColumns) }
-    ensures { result ≡ lastLane q c }
+    requires { OneOrTwo q × (c < most_columns) }
+    ensures { result ≡ last_lane q c }
 {
     q * c + (q - 1)
 }
 
 // The bits that are seen in cell c: those of its first lane and of its last, which may be the same one.
 pub fn bits_of(seen: &[u16], q: usize, c: usize) -> u16
-    requires { OneOrTwo q × (c < mostColumns) × (lastLane q c < length seen.now) }
-    ensures { result ≡ bitsIn q (λ j. get_or seen.now j 0) c }
+    requires { OneOrTwo q × (c < most_columns) × (last_lane q c < length seen.now) }
+    ensures { result ≡ bits_in q (λ j. get_or seen.now j 0) c }
 {
     seen[lanes_of(q, c)] | seen[last_lane(q, c)]
 }
@@ -49,8 +52,8 @@ fn controls(upper: u8) -> bool
 
 // Subject s, whose row begins at `at`, exists: its own cell has control.
 fn exists(b: &[u8], q: usize, s: usize, at: usize) -> bool
-    requires { OneOrTwo q × (s < mostSubjects) × (at + (2 * lastLane q s + 1) < length b.now) }
-    ensures { result ≡ bit 1 (get_or b.now (at + (2 * lastLane q s + 1)) 0) }
+    requires { OneOrTwo q × (s < most_subjects) × (at + (2 * last_lane q s + 1) < length b.now) }
+    ensures { result ≡ bit 1 (get_or b.now (at + (2 * last_lane q s + 1)) 0) }
 {
     controls(b[at + (2 * last_lane(q, s) + 1)])
 }
@@ -74,7 +77,7 @@ pub fn all_present(b: &[u8], m: Matrix, q: usize) -> bool
 // The `bytes` bytes from `at` on are all zero. All of them are looked at, so that the compiler may take many at once.
 fn zero_from(b: &[u8], at: usize, bytes: usize) -> bool
     requires { at + bytes ≤ length b.now }
-    ensures { result ≡ zeroFrom b.now at bytes }
+    ensures { result ≡ zero_from b.now at bytes }
 {
     let mut any: u8 = 0;
     for j in 0..bytes {
@@ -86,14 +89,14 @@ fn zero_from(b: &[u8], at: usize, bytes: usize) -> bool
 // U has no owner, and nobody else controls it: of a tally of 2, which is the number of owners and twice that of those that control, an odd
 // number control.
 fn root_counts(tally: u8, odd: u8) -> bool
-    ensures { result ≡ rootCounts tally odd }
+    ensures { result ≡ root_counts tally odd }
 {
     if tally == 2 { controls(odd) } else { false }
 }
 
 // Any other subject has one owner, and at most one besides itself controls it: 3 where an odd number control it, and 5 where an even number do.
 fn other_counts(tally: u8, odd: u8) -> bool
-    ensures { result ≡ otherCounts tally odd }
+    ensures { result ≡ other_counts tally odd }
 {
     if controls(odd) {
         tally == 3
@@ -114,8 +117,8 @@ pub fn counts(s: usize, tally: u8, odd: u8) -> bool
 
 // The counts of the n subjects, where all exist. Those after U are all looked at, so that the compiler may take many at once.
 fn counts_fit(tally: &[u8; COUNTED], odd: &[u8; COUNTED], q: usize, n: usize) -> bool
-    requires { OneOrTwo q × (1 ≤ n) × (n ≤ mostSubjects) × (length tally.now ≡ mostCounted) × (length odd.now ≡ mostCounted) }
-    ensures { result ≡ all n (countTest q tally.now odd.now) }
+    requires { OneOrTwo q × (1 ≤ n) × (n ≤ most_subjects) × (length tally.now ≡ most_counted) × (length odd.now ≡ most_counted) }
+    ensures { result ≡ all n (count_test q tally.now odd.now) }
 {
     let root = last_lane(q, 0);
     if !root_counts(tally[root], odd[root]) {
@@ -132,7 +135,7 @@ fn counts_fit(tally: &[u8; COUNTED], odd: &[u8; COUNTED], q: usize, n: usize) ->
 // An absent subject is not U, and its column and row are zero.
 fn absent(b: &[u8], seen: &[u16; COUNTED], q: usize, s: usize, at: usize, bytes: usize) -> bool
     requires { Placed q b.now seen.now s at bytes }
-    ensures { result ≡ (not (eqb s 0) && (eqb (bitsIn q (λ j. get_or seen.now j 0) s) 0 && zeroFrom b.now at bytes)) }
+    ensures { result ≡ (not (eqb s 0) && (eqb (bits_in q (λ j. get_or seen.now j 0) s) 0 && zero_from b.now at bytes)) }
 {
     if s == 0 {
         return false;
@@ -155,8 +158,8 @@ fn subject(
     at: usize,
     bytes: usize,
 ) -> bool
-    requires { Placed q b.now seen.now s at bytes × (length tally.now ≡ mostCounted) × (length odd.now ≡ mostCounted) }
-    ensures { result ≡ subjectAt q b.now bytes (λ j. get_or seen.now j 0) tally.now odd.now s at }
+    requires { Placed q b.now seen.now s at bytes × (length tally.now ≡ most_counted) × (length odd.now ≡ most_counted) }
+    ensures { result ≡ subject_at q b.now bytes (λ j. get_or seen.now j 0) tally.now odd.now s at }
 {
     if !exists(b, q, s, at) {
         return absent(b, seen, q, s, at, bytes);
@@ -174,8 +177,8 @@ fn each_subject(
     m: Matrix,
     q: usize,
 ) -> bool
-    requires { Celled q b.now m × Lists tally.now odd.now × (length seen.now ≡ mostCounted) }
-    ensures { result ≡ all m.rows (subjectTest q b.now m (λ j. get_or seen.now j 0) tally.now odd.now) }
+    requires { Celled q b.now m × Lists tally.now odd.now × (length seen.now ≡ most_counted) }
+    ensures { result ≡ all m.rows (subject_test q b.now m (λ j. get_or seen.now j 0) tally.now odd.now) }
 {
     let rows = m.rows;
     let mut at = m.first;
@@ -191,7 +194,7 @@ fn each_subject(
 // The subjects where some are absent: what is seen in their columns is needed too.
 fn with_absent(b: &[u8], tally: &[u8; COUNTED], odd: &[u8; COUNTED], m: Matrix, q: usize) -> bool
     requires { Celled q b.now m × Lists tally.now odd.now }
-    ensures { result ≡ all m.rows (subjectTest q b.now m (seen_at b.now m) tally.now odd.now) }
+    ensures { result ≡ all m.rows (subject_test q b.now m (seen_at b.now m) tally.now odd.now) }
 {
     let mut seen = [0u16; COUNTED];
     merging::merge(&mut seen, b, m, 0, lanes_of(q, m.rows));
@@ -201,7 +204,7 @@ fn with_absent(b: &[u8], tally: &[u8; COUNTED], odd: &[u8; COUNTED], m: Matrix, 
 // The subjects. Where all exist, only their counts are to be tested. Each number of lanes has a call of its own, so that the compiler knows it.
 pub fn subjects(b: &[u8], tally: &[u8; COUNTED], odd: &[u8; COUNTED], m: Matrix, q: usize) -> bool
     requires { Celled q b.now m × Lists tally.now odd.now }
-    ensures { result ≡ all m.rows (subjectTest q b.now m (seen_at b.now m) tally.now odd.now) }
+    ensures { result ≡ all m.rows (subject_test q b.now m (seen_at b.now m) tally.now odd.now) }
 {
     if !all_present(b, m, q) {
         return with_absent(b, tally, odd, m, q);
@@ -215,8 +218,8 @@ pub fn subjects(b: &[u8], tally: &[u8; COUNTED], odd: &[u8; COUNTED], m: Matrix,
 
 // The owner of each of the n subjects, which stands at the last lane of its column, at the subject's own place.
 fn put_owners(owners: &mut [u8; MOST_SUBJECTS], marks: &[u8; COUNTED], q: usize, n: usize)
-    requires { OneOrTwo q × (n ≤ mostSubjects) × (length owners.old ≡ mostSubjects) × (length marks.now ≡ mostCounted) }
-    ensures { Stored n (λ s. get_or marks.now (lastLane q s) 0) owners.old owners.new }
+    requires { OneOrTwo q × (n ≤ most_subjects) × (length owners.old ≡ most_subjects) × (length marks.now ≡ most_counted) }
+    ensures { Stored n (λ s. get_or marks.now (last_lane q s) 0) owners.old owners.new }
 {
     for s in 0..n {
         owners[s] = marks[last_lane(q, s)];
@@ -224,8 +227,8 @@ fn put_owners(owners: &mut [u8; MOST_SUBJECTS], marks: &[u8; COUNTED], q: usize,
 }
 
 pub fn owners(owners: &mut [u8; MOST_SUBJECTS], marks: &[u8; COUNTED], q: usize, n: usize)
-    requires { OneOrTwo q × (n ≤ mostSubjects) × (length owners.old ≡ mostSubjects) × (length marks.now ≡ mostCounted) }
-    ensures { Stored n (λ s. get_or marks.now (lastLane q s) 0) owners.old owners.new }
+    requires { OneOrTwo q × (n ≤ most_subjects) × (length owners.old ≡ most_subjects) × (length marks.now ≡ most_counted) }
+    ensures { Stored n (λ s. get_or marks.now (last_lane q s) 0) owners.old owners.new }
 {
     if q == 1 {
         put_owners(owners, marks, 1, n);

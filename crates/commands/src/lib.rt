@@ -1,8 +1,10 @@
 // One command on a valid record: decoded, tested, and carried out where it is accepted.
 
+#![tactic(auto)]
+
 ghost use Rattle.std.specs.Prelude.{◌≡◌, ◌<◌, length};
 ghost use Rattle.matrix.specs.Commands.{kind_of};
-ghost use Rattle.matrix.specs.Shape.{mostSubjects, shape_of};
+ghost use Rattle.matrix.specs.Shape.{most_subjects, shape_of};
 ghost use Rattle.states.specs.Needs.{Guessed};
 ghost use Rattle.rules.specs.Needs.{CommandIn};
 ghost use Rattle.short_ways.specs.Answered.{Answered, Carried};
@@ -12,8 +14,8 @@ use matrix::{Act, Answer, Command, Fields, Kind, MOST_SUBJECTS, Name, Right, Sha
 
 // Row w becomes the guess of who owns subject v.
 fn guess(owners: &mut [u8; MOST_SUBJECTS], v: usize, w: usize)
-    requires { (length owners.old ≡ mostSubjects) × (w < mostSubjects) }
-    ensures { length owners.new ≡ mostSubjects }
+    requires { (length owners.old ≡ most_subjects) × (w < most_subjects) }
+    ensures { length owners.new ≡ most_subjects }
 {
     if v < MOST_SUBJECTS {
         owners[v] = w as u8;
@@ -27,8 +29,8 @@ fn handed_on(w: u8, s: u8, i: u8) -> u8 {
 
 // Row i becomes the guess wherever row s is.
 fn hand_on(owners: &mut [u8; MOST_SUBJECTS], s: usize, i: usize)
-    requires { (length owners.old ≡ mostSubjects) × (s < mostSubjects) × (i < mostSubjects) }
-    ensures { length owners.new ≡ mostSubjects }
+    requires { (length owners.old ≡ most_subjects) × (s < most_subjects) × (i < most_subjects) }
+    ensures { length owners.new ≡ most_subjects }
 {
     let from = s as u8;
     let to = i as u8;
@@ -39,8 +41,8 @@ fn hand_on(owners: &mut [u8; MOST_SUBJECTS], s: usize, i: usize)
 
 // The guess of who owns o becomes s, where o is a subject.
 fn guess_owner(owners: &mut [u8; MOST_SUBJECTS], o: Name, s: usize)
-    requires { (length owners.old ≡ mostSubjects) × (s < mostSubjects) }
-    ensures { length owners.new ≡ mostSubjects }
+    requires { (length owners.old ≡ most_subjects) × (s < most_subjects) }
+    ensures { length owners.new ≡ most_subjects }
 {
     match o {
         Name::Subject(v) => guess(owners, v, s),
@@ -50,8 +52,8 @@ fn guess_owner(owners: &mut [u8; MOST_SUBJECTS], o: Name, s: usize)
 
 // The guesses follow a transfer of the right y over o to s.
 fn follow_transfer(owners: &mut [u8; MOST_SUBJECTS], o: Name, s: usize, y: Right)
-    requires { (length owners.old ≡ mostSubjects) × (s < mostSubjects) }
-    ensures { length owners.new ≡ mostSubjects }
+    requires { (length owners.old ≡ most_subjects) × (s < most_subjects) }
+    ensures { length owners.new ≡ most_subjects }
 {
     match y {
         Right::Own => guess_owner(owners, o, s),
@@ -63,8 +65,8 @@ fn follow_transfer(owners: &mut [u8; MOST_SUBJECTS], o: Name, s: usize, y: Right
 // The guesses of who owns each subject follow an accepted command, so that a run's walks seldom have to search. They stay guesses:
 // nothing rests on what stands in the table.
 fn follow(owners: &mut [u8; MOST_SUBJECTS], d: Command)
-    requires { (length owners.old ≡ mostSubjects) × (d.s < mostSubjects) × (d.i < mostSubjects) }
-    ensures { length owners.new ≡ mostSubjects }
+    requires { (length owners.old ≡ most_subjects) × (d.s < most_subjects) × (d.i < most_subjects) }
+    ensures { length owners.new ≡ most_subjects }
 {
     let act = d.act;
     let o = d.o;
@@ -89,7 +91,7 @@ fn carry_out(
 ) -> Answer
     requires { CommandIn b.old f d × (kind ≡ kind_of d.act) × Guessed b.old f owners.old }
     ensures answer { Carried b.old b.new d result }
-    ensures table { length owners.new ≡ mostSubjects }
+    ensures table { length owners.new ≡ most_subjects }
 {
     let v = verdict::judge(b, f, owners, d, kind);
     if v.refusal != 0 {
@@ -105,7 +107,7 @@ fn carry_out(
 pub fn command_on(b: &mut [u8], owners: &mut [u8; MOST_SUBJECTS], c: Fields) -> Answer
     requires { Guessed b.old (shape_of b.old) owners.old }
     ensures answer { Answered b.old b.new c result }
-    ensures table { length owners.new ≡ mostSubjects }
+    ensures table { length owners.new ≡ most_subjects }
 {
     let f = opening::shape(b);
     let decoded = decoding::decode(f, c);
@@ -117,8 +119,8 @@ pub fn command_on(b: &mut [u8], owners: &mut [u8; MOST_SUBJECTS], c: Fields) -> 
 
 // The guesses follow a command over a subject that went a short way, given by its fields.
 fn follow_fields(owners: &mut [u8; MOST_SUBJECTS], c: Fields)
-    requires { (length owners.old ≡ mostSubjects) × (c.s < mostSubjects) × (c.i < mostSubjects) }
-    ensures { length owners.new ≡ mostSubjects }
+    requires { (length owners.old ≡ most_subjects) × (c.s < most_subjects) × (c.i < most_subjects) }
+    ensures { length owners.new ≡ most_subjects }
 {
     if c.code == 12 {
         guess(owners, c.s, c.i);
@@ -151,7 +153,7 @@ pub fn command_in_list(
 ) -> Answer
     requires { Guessed b.old f owners.old }
     ensures answer { Answered b.old b.new c result }
-    ensures table { length owners.new ≡ mostSubjects }
+    ensures table { length owners.new ≡ most_subjects }
 {
     if short_ways::by_right(b, f, c) {
         return Answer::Accepted(0);

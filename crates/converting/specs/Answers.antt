@@ -7,11 +7,11 @@ use borrow.Author.Tests.{leb-true, leb-false, le-ltb, lt-ltb, ne_eqb}
 use Rattle.matrix.specs.declared.Numbers.{Numbers}
 use Rattle.matrix.specs.declared.Shape.{Shape}
 use Rattle.matrix.specs.Numbers.{numbers}
-use Rattle.matrix.specs.Tests.{firstFailed}
-use Rattle.matrix.specs.Shape.{limits, shape_of, basicsOf, size_of}
+use Rattle.matrix.specs.Tests.{first_failed}
+use Rattle.matrix.specs.Shape.{limits, shape_of, basics_of, size_of}
 use Rattle.matrix.specs.Reading.{state_of, content, bytes_of}
-use Rattle.matrix.specs.Record.{recordRefusal}
-use Rattle.matrix.specs.Converting.{inVersion, basicFrom, convertRefusal, converted, convertResult, convertOutput}
+use Rattle.matrix.specs.Record.{record_refusal}
+use Rattle.matrix.specs.Converting.{in_version, basic_from, convert_refusal, converted, convert_result, convert_output}
 use Rattle.laws.specs.Tests.{way}
 
 -- the refusal after 1 to 5, where a basic right is set above those of the version, or the output is short
@@ -19,10 +19,10 @@ abbrev pub later : Bool → Bool → ℕ
 later above short = cond above 18 (cond short 15 0)
 
 -- where there is none, none is set and the output is long enough
-pub later-none : (above short : Bool) → later above short ≡ 0 → (above ≡ false) × (short ≡ false)
-later-none true short h = let z : ◌≡◌ {A = ℕ} 18 0 = h in absurd (omega arith)
-later-none false true h = let z : ◌≡◌ {A = ℕ} 15 0 = h in absurd (omega arith)
-later-none false false h = (refl, refl)
+pub later_none : (above short : Bool) → later above short ≡ 0 → (above ≡ false) × (short ≡ false)
+later_none true short h = let z : ◌≡◌ {A = ℕ} 18 0 = h in absurd (omega arith)
+later_none false true h = let z : ◌≡◌ {A = ℕ} 15 0 = h in absurd (omega arith)
+later_none false false h = (refl, refl)
 
 -- as the definition tests
 tested : (above : Bool) (size room : ℕ) → cond (not above) (cond (leb size room) 0 15) 18 ≡ later above (ltb room size)
@@ -33,36 +33,36 @@ tested false size room =
 
 -- the answer r, and the output after it, are those of the conversion
 pub record Converts (v : ℕ) (b out out' : List ℕ) (r : Numbers) : Type 0 where
-  pub result : r ≡ convertResult limits v b out
-  pub output : out' ≡ convertOutput limits v b out
+  pub result : r ≡ convert_result limits v b out
+  pub output : out' ≡ convert_output limits v b out
 
 -- A record b that passed 1 to 5, of shape f, and g that shape in version v; r is the refusal after 1 to 5.
-module _ (v : ℕ) (b out : List ℕ) {f g : Shape} {r : ℕ} (s : f ≡ shape_of b) (w : g ≡ inVersion v f) (passed : recordRefusal limits b ≡ 0)
-    (e : r ≡ later (basicFrom (basicsOf g) f (state_of b)) (ltb (length out) (size_of g))) where
-  wanted : inVersion v (shape_of b) ≡ g
-  wanted = ap (inVersion v) (sym s) ∙ sym w
+module _ (v : ℕ) (b out : List ℕ) {f g : Shape} {r : ℕ} (s : f ≡ shape_of b) (w : g ≡ in_version v f) (passed : record_refusal limits b ≡ 0)
+    (e : r ≡ later (basic_from (basics_of g) f (state_of b)) (ltb (length out) (size_of g))) where
+  wanted : in_version v (shape_of b) ≡ g
+  wanted = ap (in_version v) (sym s) ∙ sym w
 
-  refusal : convertRefusal limits v b (length out) ≡ r
+  refusal : convert_refusal limits v b (length out) ≡ r
   refusal =
-      tests ∙ tested (basicFrom (basicsOf h) (shape_of b) (state_of b)) (size_of h) (length out)
-      ∙ ap₂ (λ (i k : Shape). later (basicFrom (basicsOf i) k (state_of b)) (ltb (length out) (size_of i))) wanted (sym s) ∙ sym e
+      tests ∙ tested (basic_from (basics_of h) (shape_of b) (state_of b)) (size_of h) (length out)
+      ∙ ap₂ (λ (i k : Shape). later (basic_from (basics_of i) k (state_of b)) (ltb (length out) (size_of i))) wanted (sym s) ∙ sym e
     where
       h : Shape
-      h = inVersion v (shape_of b)
+      h = in_version v (shape_of b)
 
-      tests : convertRefusal limits v b (length out) ≡ cond (not (basicFrom (basicsOf h) (shape_of b) (state_of b))) (cond (leb (size_of h) (length out)) 0 15) 18
-      tests = unfold convertRefusal firstFailed in rw passed refl
+      tests : convert_refusal limits v b (length out) ≡ cond (not (basic_from (basics_of h) (shape_of b) (state_of b))) (cond (leb (size_of h) (length out)) 0 15) 18
+      tests = unfold convert_refusal first_failed in rw passed refl
 
   pub refused : (r ≡ 0 → ⊥) → Converts v b out out (numbers r 0)
-  unfolding convertResult convertOutput
+  unfolding convert_result convert_output
   refused n = let z = ne_eqb r 0 n in record { result = rw (refusal, z) refl; output = rw (refusal, z) refl }
 
   pub answered : r ≡ 0 → Converts v b out (bytes_of (content g (state_of b)) ++ drop (size_of g) out) (numbers 0 (size_of g))
   unfolding converted
   answered n = subst (λ (h : Shape). Converts v b out (bytes_of (content h (state_of b)) ++ drop (size_of h) out) (numbers 0 (size_of h))) wanted whole
     where
-      zero : convertRefusal limits v b (length out) ≡ 0
+      zero : convert_refusal limits v b (length out) ≡ 0
       zero = refusal ∙ n
 
-      whole : Converts v b out (converted v b ++ drop (size_of (inVersion v (shape_of b))) out) (numbers 0 (size_of (inVersion v (shape_of b))))
-      whole = record { result = unfold convertResult in rw zero refl; output = unfold convertOutput in rw zero refl }
+      whole : Converts v b out (converted v b ++ drop (size_of (in_version v (shape_of b))) out) (numbers 0 (size_of (in_version v (shape_of b))))
+      whole = record { result = unfold convert_result in rw zero refl; output = unfold convert_output in rw zero refl }

@@ -1,10 +1,12 @@
 // A record in another version: by which test it is refused, and writing it there.
 
+#![tactic(auto)]
+
 ghost use Rattle.std.specs.Prelude.{◌≡◌, true, length};
-ghost use Rattle.matrix.specs.Shape.{limits, knownVersion, size_of};
+ghost use Rattle.matrix.specs.Shape.{limits, known_version, size_of};
 ghost use Rattle.matrix.specs.Reading.{content, state_of, bytes_of};
-ghost use Rattle.matrix.specs.Record.{recordRefusal};
-ghost use Rattle.matrix.specs.Converting.{convertResult, convertOutput};
+ghost use Rattle.matrix.specs.Record.{record_refusal};
+ghost use Rattle.matrix.specs.Converting.{convert_result, convert_output};
 ghost use Rattle.codec.specs.ShapeRight.{ShapeRight};
 ghost use Rattle.cells.specs.Station.{Station};
 ghost use Rattle.converting.specs.Needs.{Fits};
@@ -81,9 +83,9 @@ fn refusal_of(above: bool, short: bool) -> u64
 
 // A record that passed 1 to 5, in another version at the start of `out`. What is after it there stays.
 pub fn convert(b: &[u8], f: Shape, version: usize, out: &mut [u8]) -> Numbers
-    requires { Station b.now f × (recordRefusal limits b.now ≡ 0) × (knownVersion version ≡ true) }
-    ensures result { result ≡ convertResult limits version b.now out.old }
-    ensures output { out.new ≡ convertOutput limits version b.now out.old }
+    requires { Station b.now f × (record_refusal limits b.now ≡ 0) × (known_version version ≡ true) }
+    ensures result { result ≡ convert_result limits version b.now out.old }
+    ensures output { out.new ≡ convert_output limits version b.now out.old }
 {
     let g = opening::shape_in(version, f.n, f.p);
     let size = size_of(g);

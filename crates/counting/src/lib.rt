@@ -1,4 +1,7 @@
 // What is counted in each lane over all rows: the two low bits of its upper byte.
+
+#![tactic(auto)]
+
 ghost use Rattle.std.specs.Prelude.{◌≡◌, ◌*◌, ◌%◌, ◌≤◌, ◌<◌, length};
 ghost use Rattle.lanes.specs.Lanes.{Counted, Laid};
 ghost use Rattle.tallies.specs.Blocks.{at_once, Sized};

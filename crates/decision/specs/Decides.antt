@@ -15,36 +15,36 @@ use Rattle.matrix.specs.declared.Right.TheVariants.{Own, Basic}
 use Rattle.matrix.specs.declared.Shape.{Shape}
 use Rattle.matrix.specs.Bounded.{least}
 use Rattle.matrix.specs.Names.{named}
-use Rattle.matrix.specs.State.{State, held, exists, existsName}
+use Rattle.matrix.specs.State.{State, held, exists, exists_name}
 use Rattle.matrix.specs.Valid.{Valid}
-use Rattle.matrix.specs.Shape.{basicsOf}
+use Rattle.matrix.specs.Shape.{basics_of}
 use Rattle.matrix.specs.Shaped.{Within}
 use Rattle.laws.specs.Tests.{clash, fails, holds, and_left, and_right, and_both}
-use Rattle.laws.specs.Bounded.{least-passes, least-found}
+use Rattle.laws.specs.Bounded.{least_passes, least_found}
 use Rattle.frame.specs.Top.{row_below}
 use Rattle.question.specs.Safe.{Safe}
 use Rattle.question.specs.Leaks.{LeaksBy}
-use Rattle.route.specs.Parts.{basicNumber}
+use Rattle.route.specs.Parts.{basic_number}
 use Rattle.route.specs.Rise.{Risen, meets_at, none, rises}
 use Rattle.safe.specs.Possible.{possible}
-use Rattle.safe.specs.Conditions.{hasStar, Starless, TrustedAbove}
-use Rattle.safe.specs.Nobody.{nobody-safe}
-use Rattle.safe.specs.Impossible.{impossible-safe}
-use Rattle.safe.specs.Trusted.{guarded-safe}
-use Rattle.finish.specs.Reaches.{reaches-none, reaches-leak}
-use Rattle.chain.specs.Rising.{Met, riseIn, none_above, rise-meets, met-until}
-use Rattle.ways.specs.Ways.{Way, held-now, by-star, by-creation, from-above, no_way, starHolder, untrustedIn, riser, needed, wayUp, risenOver, wayOver, wayMade, way_of, list_of}
+use Rattle.safe.specs.Conditions.{has_star, Starless, TrustedAbove}
+use Rattle.safe.specs.Nobody.{nobody_safe}
+use Rattle.safe.specs.Impossible.{impossible_safe}
+use Rattle.safe.specs.Trusted.{guarded_safe}
+use Rattle.finish.specs.Reaches.{reaches_none, reaches_leak}
+use Rattle.chain.specs.Rising.{Met, rise_in, none_above, rise_meets, met_until}
+use Rattle.ways.specs.Ways.{Way, held_now, by_star, by_creation, from_above, no_way, star_holder, untrusted_in, riser, needed, way_up, risen_over, way_over, way_made, way_of, list_of}
 use Rattle.decision.specs.Sought.{Sought}
-use Rattle.decision.specs.Lists.{star-leaks, creation-leaks}
-use Rattle.decision.specs.Above.{above-leaks}
+use Rattle.decision.specs.Lists.{star_leaks, creation_leaks}
+use Rattle.decision.specs.Above.{above_leaks}
 
 -- what a way says of the question
 abbrev pub Says : Shape → State → (ℕ → Bool) → ℕ → Name → Right → Way → Type 0
-Says f S trusted s o x held-now = LeaksBy f S trusted s o x (list_of S s o x held-now)
-Says f S trusted s o x (by-star i) = LeaksBy f S trusted s o x (list_of S s o x (by-star i))
-Says f S trusted s o x (by-creation v) = LeaksBy f S trusted s o x (list_of S s o x (by-creation v))
-Says f S trusted s o x (from-above v ws) = LeaksBy f S trusted s o x (list_of S s o x (from-above v ws))
-Says f S trusted s o x no_way = Safe (basicsOf f) S trusted s o x
+Says f S trusted s o x held_now = LeaksBy f S trusted s o x (list_of S s o x held_now)
+Says f S trusted s o x (by_star i) = LeaksBy f S trusted s o x (list_of S s o x (by_star i))
+Says f S trusted s o x (by_creation v) = LeaksBy f S trusted s o x (list_of S s o x (by_creation v))
+Says f S trusted s o x (from_above v ws) = LeaksBy f S trusted s o x (list_of S s o x (from_above v ws))
+Says f S trusted s o x no_way = Safe (basics_of f) S trusted s o x
 
 -- a property of both branches, each with what its test says
 either : {A : Type 0} (P : A → Type 0) (t : Bool) {w v : A} → (t ≡ true → P w) → (t ≡ false → P v) → P (cond t w v)
@@ -53,17 +53,17 @@ either P false f g = g refl
 
 -- nothing passes below the bound where the search ends at it
 none_below : (n : ℕ) (f : ℕ → Bool) → ltb (least n f) n ≡ false → (i : ℕ) → i < n → f i ≡ false
-none_below n f h i l = fails (f i) (λ e. let a : least n f < n = least-found n f i l e in let b : n ≤ least n f = ltb-false (least n f) n h in omega arith)
+none_below n f h i l = fails (f i) (λ e. let a : least n f < n = least_found n f i l e in let b : n ≤ least n f = ltb-false (least n f) n h in omega arith)
 
-not-risen : (r : Risen) → rises r ≡ false → r ≡ none
-not-risen (meets_at v ws) h = absurd (clash refl h)
-not-risen none h = refl
+not_risen : (r : Risen) → rises r ≡ false → r ≡ none
+not_risen (meets_at v ws) h = absurd (clash refl h)
+not_risen none h = refl
 
-met-needed : {S : State} {trusted : ℕ → Bool} → Valid S → (o : Name) {v : ℕ} {ws : List ℕ} → Met S trusted o v ws → Met S trusted o v (needed S o ws)
-met-needed valid (Subject a) m = m
-met-needed valid (Name.Plain a) m = met-until valid m
+met_needed : {S : State} {trusted : ℕ → Bool} → Valid S → (o : Name) {v : ℕ} {ws : List ℕ} → Met S trusted o v ws → Met S trusted o v (needed S o ws)
+met_needed valid (Subject a) m = m
+met_needed valid (Name.Plain a) m = met_until valid m
 
-module _ (f : Shape) (S : State) (trusted : ℕ → Bool) (s : ℕ) (o : Name) (x : Right) (valid : Valid S) (within : Within f S) (subject : s < f.n) (object : named f.n f.p o ≡ true) (right : basicNumber x < basicsOf f) where
+module _ (f : Shape) (S : State) (trusted : ℕ → Bool) (s : ℕ) (o : Name) (x : Right) (valid : Valid S) (within : Within f S) (subject : s < f.n) (object : named f.n f.p o ≡ true) (right : basic_number x < basics_of f) where
   abbrev Here : Way → Type 0
   Here = Says f S trusted s o x
 
@@ -71,66 +71,66 @@ module _ (f : Shape) (S : State) (trusted : ℕ → Bool) (s : ℕ) (o : Name) (
     sought : Sought f S s o x
     sought = record { valid = valid; within = within; subject = subject; object = object; right = right; reachable = reachable; unheld = unheld }
 
-    by-stars : ltb (least S.top (starHolder S trusted o x)) S.top ≡ true → Here (by-star (least S.top (starHolder S trusted o x)))
-    by-stars h =
-        let i : ℕ = least S.top (starHolder S trusted o x) in
+    by_stars : ltb (least S.top (star_holder S trusted o x)) S.top ≡ true → Here (by_star (least S.top (star_holder S trusted o x)))
+    by_stars h =
+        let i : ℕ = least S.top (star_holder S trusted o x) in
         let l : i < S.top = ltb-true i S.top h in
-        let p : starHolder S trusted o x i ≡ true = least-passes S.top (starHolder S trusted o x) l in
-        star-leaks f S trusted s o x i sought l (not-true (trusted i) (and_left (not (trusted i)) (hasStar S x i o) p)) (and_right (not (trusted i)) (hasStar S x i o) p)
+        let p : star_holder S trusted o x i ≡ true = least_passes S.top (star_holder S trusted o x) l in
+        star_leaks f S trusted s o x i sought l (not-true (trusted i) (and_left (not (trusted i)) (has_star S x i o) p)) (and_right (not (trusted i)) (has_star S x i o) p)
 
-    made : existsName S o ≡ false → Here (wayMade S trusted)
-    unfolding wayMade
-    made gone = either Here (ltb (least S.top (untrustedIn S trusted)) S.top) created nobody
+    made : exists_name S o ≡ false → Here (way_made S trusted)
+    unfolding way_made
+    made gone = either Here (ltb (least S.top (untrusted_in S trusted)) S.top) created nobody
       where
-        created : ltb (least S.top (untrustedIn S trusted)) S.top ≡ true → Here (by-creation (least S.top (untrustedIn S trusted)))
+        created : ltb (least S.top (untrusted_in S trusted)) S.top ≡ true → Here (by_creation (least S.top (untrusted_in S trusted)))
         created h =
-            let v : ℕ = least S.top (untrustedIn S trusted) in
+            let v : ℕ = least S.top (untrusted_in S trusted) in
             let l : v < S.top = ltb-true v S.top h in
-            let p : untrustedIn S trusted v ≡ true = least-passes S.top (untrustedIn S trusted) l in
-            creation-leaks f S trusted s o x v sought l (and_left (exists S v) (not (trusted v)) p) (not-true (trusted v) (and_right (exists S v) (not (trusted v)) p)) gone
+            let p : untrusted_in S trusted v ≡ true = least_passes S.top (untrusted_in S trusted) l in
+            creation_leaks f S trusted s o x v sought l (and_left (exists S v) (not (trusted v)) p) (not-true (trusted v) (and_right (exists S v) (not (trusted v)) p)) gone
 
-        nobody : ltb (least S.top (untrustedIn S trusted)) S.top ≡ false → Here no_way
+        nobody : ltb (least S.top (untrusted_in S trusted)) S.top ≡ false → Here no_way
         nobody h =
-            nobody-safe (basicsOf f) S trusted s o x unheld
-            (λ v e. holds (trusted v) (λ t. clash (and_both e (rw t refl)) (none_below S.top (untrustedIn S trusted) h v (valid.bound v e))))
+            nobody_safe (basics_of f) S trusted s o x unheld
+            (λ v e. holds (trusted v) (λ t. clash (and_both e (rw t refl)) (none_below S.top (untrusted_in S trusted) h v (valid.bound v e))))
 
-    over : existsName S o ≡ true → ltb (least S.top (starHolder S trusted o x)) S.top ≡ false → Here (wayOver S trusted o)
-    unfolding risenOver
-    over there starless = either (λ (r : Risen). Here (wayUp S o r)) (ltb (least S.top (riser S trusted o)) S.top) up guarded
+    over : exists_name S o ≡ true → ltb (least S.top (star_holder S trusted o x)) S.top ≡ false → Here (way_over S trusted o)
+    unfolding risen_over
+    over there starless = either (λ (r : Risen). Here (way_up S o r)) (ltb (least S.top (riser S trusted o)) S.top) up guarded
       where
-        risen : (w : ℕ) (r : Risen) → riseIn S trusted S.top w [] ≡ r → S.owns w o ≡ true → rises r ≡ true → Here (wayUp S o r)
+        risen : (w : ℕ) (r : Risen) → rise_in S trusted S.top w [] ≡ r → S.owns w o ≡ true → rises r ≡ true → Here (way_up S o r)
         risen w (meets_at v ws) e own h =
-            above-leaks f S trusted s o x v (needed S o ws) sought (met-needed valid o (rise-meets S valid trusted o w v ws own e))
+            above_leaks f S trusted s o x v (needed S o ws) sought (met_needed valid o (rise_meets S valid trusted o w v ws own e))
         risen w none e own h = absurd (false≢true h)
 
-        up : ltb (least S.top (riser S trusted o)) S.top ≡ true → Here (wayUp S o (riseIn S trusted S.top (least S.top (riser S trusted o)) []))
+        up : ltb (least S.top (riser S trusted o)) S.top ≡ true → Here (way_up S o (rise_in S trusted S.top (least S.top (riser S trusted o)) []))
         up h =
             let w : ℕ = least S.top (riser S trusted o) in
-            let p : riser S trusted o w ≡ true = least-passes S.top (riser S trusted o) (ltb-true w S.top h) in
-            risen w (riseIn S trusted S.top w []) refl (and_left (S.owns w o) (rises (riseIn S trusted S.top w [])) p) (and_right (S.owns w o) (rises (riseIn S trusted S.top w [])) p)
+            let p : riser S trusted o w ≡ true = least_passes S.top (riser S trusted o) (ltb-true w S.top h) in
+            risen w (rise_in S trusted S.top w []) refl (and_left (S.owns w o) (rises (rise_in S trusted S.top w [])) p) (and_right (S.owns w o) (rises (rise_in S trusted S.top w [])) p)
 
         guarded : ltb (least S.top (riser S trusted o)) S.top ≡ false → Here no_way
-        guarded h = guarded-safe (basicsOf f) S trusted s o x valid unheld there above stars
+        guarded h = guarded_safe (basics_of f) S trusted s o x valid unheld there above stars
           where
             above : TrustedAbove S.owns trusted o
             above =
                 none_above S valid trusted o
-                (λ w e. not-risen (riseIn S trusted S.top w [])
-                (fails (rises (riseIn S trusted S.top w []))
+                (λ w e. not_risen (rise_in S trusted S.top w [])
+                (fails (rises (rise_in S trusted S.top w []))
                 (λ r. clash (and_both e r) (none_below S.top (riser S trusted o) h w (row_below valid Own w o e)))))
 
             stars : Starless S trusted o x
             stars k g e v t =
                 fails (S.basic k Starred v o)
-                (λ b. clash (and_both {t = not (trusted v)} (rw t refl) (subst (λ (y : Right). hasStar S y v o ≡ true) (sym e) b))
-                (none_below S.top (starHolder S trusted o x) starless v (row_below valid (Basic k Starred) v o b)))
+                (λ b. clash (and_both {t = not (trusted v)} (rw t refl) (subst (λ (y : Right). has_star S y v o ≡ true) (sym e) b))
+                (none_below S.top (star_holder S trusted o x) starless v (row_below valid (Basic k Starred) v o b)))
 
   -- every way says what is so
   pub decides : Says f S trusted s o x (way_of S trusted s o x)
   unfolding way_of
   decides =
-      either Here (held S x s o) (λ h. reaches-leak tt (reaches-none h) (omega arith))
+      either Here (held S x s o) (λ h. reaches_leak tt (reaches_none h) (omega arith))
       (λ unheld. either Here (possible s o x)
-      (λ reachable. either Here (ltb (least S.top (starHolder S trusted o x)) S.top) (by-stars unheld reachable)
-      (λ starless. either Here (existsName S o) (λ there. over unheld reachable there starless) (λ gone. made unheld reachable gone)))
-      (λ impossible. impossible-safe (basicsOf f) S trusted s o x valid impossible))
+      (λ reachable. either Here (ltb (least S.top (star_holder S trusted o x)) S.top) (by_stars unheld reachable)
+      (λ starless. either Here (exists_name S o) (λ there. over unheld reachable there starless) (λ gone. made unheld reachable gone)))
+      (λ impossible. impossible_safe (basics_of f) S trusted s o x valid impossible))

@@ -8,73 +8,73 @@ use Rattle.matrix.specs.declared.Right.{Right}
 use Rattle.matrix.specs.declared.Right.TheVariants.{Own, Control, Basic}
 use Rattle.matrix.specs.declared.Shape.{Shape}
 use Rattle.matrix.specs.Names.{named, same_name}
-use Rattle.matrix.specs.State.{State, exists, existsName}
+use Rattle.matrix.specs.State.{State, exists, exists_name}
 use Rattle.laws.specs.Tests.{way, and_left, and_right, or_cases}
-use Rattle.laws.specs.Same.{sameName-eq}
+use Rattle.laws.specs.Same.{same_name_eq}
 use Rattle.question.specs.Leaks.{LeaksBy}
-use Rattle.route.specs.Parts.{creates, createsName, heldByOwn, finish}
-use Rattle.safe.specs.Conditions.{hasStar}
-use Rattle.steps.specs.Runs.{untrusted-append}
-use Rattle.finish.specs.Reaches.{Reaches, reaches-leak}
-use Rattle.finish.specs.Finish.{absent-runs, absent-own-runs, absent-control-runs, pass-runs}
-use Rattle.finish.specs.Lists.{create-untrusted, finish-untrusted, pass-untrusted, finish-length, pass-length}
-use Rattle.ways.specs.Ways.{isControl, passesRight, madeHeld}
+use Rattle.route.specs.Parts.{creates, creates_name, held_by_own, finish}
+use Rattle.safe.specs.Conditions.{has_star}
+use Rattle.steps.specs.Runs.{untrusted_append}
+use Rattle.finish.specs.Reaches.{Reaches, reaches_leak}
+use Rattle.finish.specs.Finish.{absent_runs, absent_own_runs, absent_control_runs, pass_runs}
+use Rattle.finish.specs.Lists.{create_untrusted, finish_untrusted, pass_untrusted, finish_length, pass_length}
+use Rattle.ways.specs.Ways.{is_control, passes_right, made_held}
 use Rattle.decision.specs.Sought.{Sought, gainable}
 
 module _ (f : Shape) (S : State) (trusted : ℕ → Bool) (s : ℕ) (o : Name) where
-  pub star-leaks : (x : Right) (i : ℕ) → Sought f S s o x → i < S.top → trusted i ≡ false → hasStar S x i o ≡ true
-      → LeaksBy f S trusted s o x (cond (not (exists S s)) (creates i s ∷ []) [] ++ (passesRight i s o x ∷ []))
-  star-leaks Own i q l t h = absurd (false≢true h)
-  star-leaks Control i q l t h = absurd (false≢true h)
-  star-leaks (Basic k g) i q l t h =
+  pub star_leaks : (x : Right) (i : ℕ) → Sought f S s o x → i < S.top → trusted i ≡ false → has_star S x i o ≡ true
+      → LeaksBy f S trusted s o x (cond (not (exists S s)) (creates i s ∷ []) [] ++ (passes_right i s o x ∷ []))
+  star_leaks Own i q l t h = absurd (false≢true h)
+  star_leaks Control i q l t h = absurd (false≢true h)
+  star_leaks (Basic k g) i q l t h =
       let li : i < f.n = subst (λ (m : ℕ). i < m) q.within.top l in
-      let n : length (cond (not (exists S s)) (creates i s ∷ []) [] ++ (passesRight i s o (Basic k g) ∷ [])) ≡ cond (not (exists S s)) 2 1 = pass-length i s o k g (not (exists S s)) in
-      reaches-leak (pass-untrusted trusted i s o k g (not (exists S s)) t)
-      (pass-runs f i s o k g (not (exists S s)) q.valid li q.subject q.object q.right h refl) (subst (λ (m : ℕ). m ≤ f.n + 2) (sym n) (few (not (exists S s))))
+      let n : length (cond (not (exists S s)) (creates i s ∷ []) [] ++ (passes_right i s o (Basic k g) ∷ [])) ≡ cond (not (exists S s)) 2 1 = pass_length i s o k g (not (exists S s)) in
+      reaches_leak (pass_untrusted trusted i s o k g (not (exists S s)) t)
+      (pass_runs f i s o k g (not (exists S s)) q.valid li q.subject q.object q.right h refl) (subst (λ (m : ℕ). m ≤ f.n + 2) (sym n) (few (not (exists S s))))
     where
       few : (t : Bool) → cond t 2 1 ≤ f.n + 2
       few true = omega arith
       few false = omega arith
 
   -- o is absent, and v creates it
-  module _ (x : Right) (v : ℕ) (q : Sought f S s o x) (l : v < S.top) (there : exists S v ≡ true) (t : trusted v ≡ false) (gone : existsName S o ≡ false) where
+  module _ (x : Right) (v : ℕ) (q : Sought f S s o x) (l : v < S.top) (there : exists S v ≡ true) (t : trusted v ≡ false) (gone : exists_name S o ≡ false) where
     lv : v < f.n
     lv = subst (λ (m : ℕ). v < m) q.within.top l
 
-    made-now : madeHeld v s o x ≡ true → Reaches f S (createsName v o ∷ []) s o x
-    made-now h = ⊎_elim (λ e. own-made e) (λ e. control-made x e) (or_cases (heldByOwn x && eqb s v) (isControl x && same_name (Subject s) o) h)
+    made_now : made_held v s o x ≡ true → Reaches f S (creates_name v o ∷ []) s o x
+    made_now h = ⊎_elim (λ e. own_made e) (λ e. control_made x e) (or_cases (held_by_own x && eqb s v) (is_control x && same_name (Subject s) o) h)
       where
-        own-made : (heldByOwn x && eqb s v) ≡ true → Reaches f S (createsName v o ∷ []) s o x
-        own-made e =
-            subst (λ (u : ℕ). Reaches f S (createsName v o ∷ []) u o x) (sym (eqb-true s v (and_right (heldByOwn x) (eqb s v) e)))
-            (absent-own-runs f v o x (and_left (heldByOwn x) (eqb s v) e) lv q.object there gone)
+        own_made : (held_by_own x && eqb s v) ≡ true → Reaches f S (creates_name v o ∷ []) s o x
+        own_made e =
+            subst (λ (u : ℕ). Reaches f S (creates_name v o ∷ []) u o x) (sym (eqb-true s v (and_right (held_by_own x) (eqb s v) e)))
+            (absent_own_runs f v o x (and_left (held_by_own x) (eqb s v) e) lv q.object there gone)
 
-        control-made : (x : Right) → (isControl x && same_name (Subject s) o) ≡ true → Reaches f S (createsName v o ∷ []) s o x
-        control-made Own e = absurd (false≢true e)
-        control-made Control e =
-            let p : Subject s ≡ o = sameName-eq (Subject s) o e in
-            subst (λ (y : Name). Reaches f S (createsName v y ∷ []) s y Control) p
-            (absent-control-runs f v s lv (subst (λ (y : Name). named f.n f.p y ≡ true) (sym p) q.object) there
-            (subst (λ (y : Name). existsName S y ≡ false) (sym p) gone))
-        control-made (Basic k g) e = absurd (false≢true e)
+        control_made : (x : Right) → (is_control x && same_name (Subject s) o) ≡ true → Reaches f S (creates_name v o ∷ []) s o x
+        control_made Own e = absurd (false≢true e)
+        control_made Control e =
+            let p : Subject s ≡ o = same_name_eq (Subject s) o e in
+            subst (λ (y : Name). Reaches f S (creates_name v y ∷ []) s y Control) p
+            (absent_control_runs f v s lv (subst (λ (y : Name). named f.n f.p y ≡ true) (sym p) q.object) there
+            (subst (λ (y : Name). exists_name S y ≡ false) (sym p) gone))
+        control_made (Basic k g) e = absurd (false≢true e)
 
-    pub creation-leaks : LeaksBy f S trusted s o x (createsName v o ∷ cond (madeHeld v s o x) [] (finish v s o x (not (same_name (Subject s) o || exists S s)) false))
-    creation-leaks =
-        ⊎_elim (λ h. at_once h) (λ h. later h) (way (madeHeld v s o x))
+    pub creation_leaks : LeaksBy f S trusted s o x (creates_name v o ∷ cond (made_held v s o x) [] (finish v s o x (not (same_name (Subject s) o || exists S s)) false))
+    creation_leaks =
+        ⊎_elim (λ h. at_once h) (λ h. later h) (way (made_held v s o x))
       where
         absent : Bool
         absent = not (same_name (Subject s) o || exists S s)
 
-        at_once : madeHeld v s o x ≡ true → LeaksBy f S trusted s o x (createsName v o ∷ cond (madeHeld v s o x) [] (finish v s o x absent false))
-        at_once h = rw h (reaches-leak (create-untrusted trusted v o t) (made-now h) (omega arith))
+        at_once : made_held v s o x ≡ true → LeaksBy f S trusted s o x (creates_name v o ∷ cond (made_held v s o x) [] (finish v s o x absent false))
+        at_once h = rw h (reaches_leak (create_untrusted trusted v o t) (made_now h) (omega arith))
 
         few : (t : Bool) → suc (0 + cond t 2 1) ≤ f.n + 2
         few true = let z : s < f.n = q.subject in omega arith
         few false = omega arith
 
-        later : madeHeld v s o x ≡ false → LeaksBy f S trusted s o x (createsName v o ∷ cond (madeHeld v s o x) [] (finish v s o x absent false))
+        later : made_held v s o x ≡ false → LeaksBy f S trusted s o x (creates_name v o ∷ cond (made_held v s o x) [] (finish v s o x absent false))
         later h =
             rw h
-            (reaches-leak (untrusted-append trusted (createsName v o ∷ []) (finish v s o x absent false) (create-untrusted trusted v o t) (finish-untrusted trusted v s o x absent false t))
-            (absent-runs f v s o x absent q.valid lv q.subject q.object q.right there gone refl (gainable s o x q.reachable))
-            (subst (λ (m : ℕ). suc m ≤ f.n + 2) (sym (finish-length v s o x absent false)) (few absent)))
+            (reaches_leak (untrusted_append trusted (creates_name v o ∷ []) (finish v s o x absent false) (create_untrusted trusted v o t) (finish_untrusted trusted v s o x absent false t))
+            (absent_runs f v s o x absent q.valid lv q.subject q.object q.right there gone refl (gainable s o x q.reachable))
+            (subst (λ (m : ℕ). suc m ≤ f.n + 2) (sym (finish_length v s o x absent false)) (few absent)))

@@ -11,11 +11,11 @@ use Rattle.matrix.specs.Names.{named}
 use Rattle.matrix.specs.State.{State, held, exists}
 use Rattle.matrix.specs.Owners.{walk, meets, Above, owner, higher}
 use Rattle.matrix.specs.Valid.{Valid}
-use Rattle.matrix.specs.Shape.{basicsOf}
+use Rattle.matrix.specs.Shape.{basics_of}
 use Rattle.matrix.specs.Shaped.{Within}
 use Rattle.laws.specs.Tests.{clash, fails, and_left}
-use Rattle.owners.specs.Walk.{walk-found}
-use Rattle.route.specs.Parts.{basicNumber}
+use Rattle.owners.specs.Walk.{walk_found}
+use Rattle.route.specs.Parts.{basic_number}
 use Rattle.safe.specs.Possible.{possible}
 use Rattle.finish.specs.Finish.{Gainable}
 
@@ -28,17 +28,17 @@ gainable s (Subject a) Control h = tt
 gainable s (Name.Plain a) (Basic k f) h = tt
 gainable s (Subject a) (Basic k f) h = tt
 
-pub not-both : (t u : Bool) → not (t && not u) ≡ (not t || u)
-not-both true true = refl
-not-both true false = refl
-not-both false u = refl
+pub not_both : (t u : Bool) → not (t && not u) ≡ (not t || u)
+not_both true true = refl
+not_both true false = refl
+not_both false u = refl
 
-pub subject-same : {a b : ℕ} → Subject a ≡ Subject b → a ≡ b
-subject-same e = cc
+pub subject_same : {a b : ℕ} → Subject a ≡ Subject b → a ≡ b
+subject_same e = cc
 
 -- the walk from an absent subject meets nobody else
-pub absent-walk : {S : State} → Valid S → (s : ℕ) (o : Name) → exists S s ≡ false → o ≢ Subject s → meets (walk S s o) ≡ false
-absent-walk {S} V₁ s o none apart = fails (meets (walk S s o)) (λ h. ⊎_elim (λ e. apart e) (λ w. unowned w.2) (walk-found S s o h))
+pub absent_walk : {S : State} → Valid S → (s : ℕ) (o : Name) → exists S s ≡ false → o ≢ Subject s → meets (walk S s o) ≡ false
+absent_walk {S} V₁ s o none apart = fails (meets (walk S s o)) (λ h. ⊎_elim (λ e. apart e) (λ w. unowned w.2) (walk_found S s o h))
   where
     unowned : {v : ℕ} → Above S.owns (Subject s) v → ⊥
     unowned (owner e) = clash (V₁.column Own _ (Subject s) e) none
@@ -50,6 +50,6 @@ pub record Sought (f : Shape) (S : State) (s : ℕ) (o : Name) (x : Right) : Typ
   pub within : Within f S
   pub subject : s < f.n
   pub object : named f.n f.p o ≡ true
-  pub right : basicNumber x < basicsOf f
+  pub right : basic_number x < basics_of f
   pub reachable : possible s o x ≡ true
   pub unheld : held S x s o ≡ false

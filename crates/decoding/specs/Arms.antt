@@ -11,37 +11,37 @@ use Rattle.matrix.specs.declared.Kind.TheVariants.{AnyName}
 use Rattle.matrix.specs.declared.Rule.{Rule}
 use Rattle.laws.specs.Tests.{way}
 use Rattle.decoding.specs.declared.Ruled.TheVariants.{Known, Unknown}
-use Rattle.decoding.specs.Decoded.{formFrom, ruledOf}
+use Rattle.decoding.specs.Decoded.{form_from, ruled_of}
 
 -- one code
-pub one-row : (j code k : ℕ) {r : Rule} → code ≡ j → Known r ≡ ruledOf j k → Known r ≡ ruledOf code k
-one-row j code k e h = h ∙ ap (λ (m : ℕ). ruledOf m k) (sym e)
+pub one_row : (j code k : ℕ) {r : Rule} → code ≡ j → Known r ≡ ruled_of j k → Known r ≡ ruled_of code k
+one_row j code k e h = h ∙ ap (λ (m : ℕ). ruled_of m k) (sym e)
 
 -- a basic right of the form that the code says
-abbrev pub basicRule : (Right → Act) → ℕ → Form → Rule
-basicRule act k f = record { s = true; o = true; k = true; kind = AnyName; act = act (Basic k f) }
+abbrev pub basic_rule : (Right → Act) → ℕ → Form → Rule
+basic_rule act k f = record { s = true; o = true; k = true; kind = AnyName; act = act (Basic k f) }
 
 -- what holds of the plain form and the first of two codes, and of the starred form and the second
-pub of_pair : {A : Type 0} (of-form : Form → A) (of_code : ℕ → A) (first code : ℕ) → first ≤ code → code < first + 2 → of-form Plain ≡ of_code first → of-form Starred ≡ of_code (first + 1) → of-form (formFrom code first) ≡ of_code code
-of_pair of-form of_code first code l u g h =
+pub of_pair : {A : Type 0} (of_form : Form → A) (of_code : ℕ → A) (first code : ℕ) → first ≤ code → code < first + 2 → of_form Plain ≡ of_code first → of_form Starred ≡ of_code (first + 1) → of_form (form_from code first) ≡ of_code code
+of_pair of_form of_code first code l u g h =
     ⊎_elim
-    (λ (t : eqb code first ≡ true). ap (λ (b : Bool). of-form (cond b Plain Starred)) t ∙ g ∙ ap of_code (sym (eqb-true code first t)))
+    (λ (t : eqb code first ≡ true). ap (λ (b : Bool). of_form (cond b Plain Starred)) t ∙ g ∙ ap of_code (sym (eqb-true code first t)))
     (λ (t : eqb code first ≡ false).
     let ne : code ≡ first → ⊥ = eqb-false code first t in
     let q : first + 1 ≡ code = omega arith in
-    ap (λ (b : Bool). of-form (cond b Plain Starred)) t ∙ h ∙ ap of_code q)
+    ap (λ (b : Bool). of_form (cond b Plain Starred)) t ∙ h ∙ ap of_code q)
     (way (eqb code first))
 
 -- two codes, the first plain and the second starred
-pub two-rows : (act : Right → Act) (first code k : ℕ) {f : Form} → first ≤ code → code < first + 2 → f ≡ formFrom code first → Known (basicRule act k Plain) ≡ ruledOf first k → Known (basicRule act k Starred) ≡ ruledOf (first + 1) k → Known (basicRule act k f) ≡ ruledOf code k
-two-rows act first code k l u e g h =
-    ap (λ (f : Form). Known (basicRule act k f)) e ∙ of_pair (λ (f : Form). Known (basicRule act k f)) (λ (m : ℕ). ruledOf m k) first code l u g h
+pub two_rows : (act : Right → Act) (first code k : ℕ) {f : Form} → first ≤ code → code < first + 2 → f ≡ form_from code first → Known (basic_rule act k Plain) ≡ ruled_of first k → Known (basic_rule act k Starred) ≡ ruled_of (first + 1) k → Known (basic_rule act k f) ≡ ruled_of code k
+two_rows act first code k l u e g h =
+    ap (λ (f : Form). Known (basic_rule act k f)) e ∙ of_pair (λ (f : Form). Known (basic_rule act k f)) (λ (m : ℕ). ruled_of m k) first code l u g h
 
 -- no code
-pub below-codes : (code k : ℕ) → code < 1 → Unknown ≡ ruledOf code k
-unfolding ruledOf
-below-codes code k h = rw (lt-leb 1 code h) refl
+pub below_codes : (code k : ℕ) → code < 1 → Unknown ≡ ruled_of code k
+unfolding ruled_of
+below_codes code k h = rw (lt-leb 1 code h) refl
 
-pub above-codes : (code k : ℕ) → 14 ≤ code → Unknown ≡ ruledOf code k
-unfolding ruledOf
-above-codes code k h = let l : leb 1 code ≡ true = le-leb 1 code (omega arith) in let u : leb code 13 ≡ false = lt-leb code 13 h in rw (l, u) refl
+pub above_codes : (code k : ℕ) → 14 ≤ code → Unknown ≡ ruled_of code k
+unfolding ruled_of
+above_codes code k h = let l : leb 1 code ≡ true = le-leb 1 code (omega arith) in let u : leb code 13 ≡ false = lt-leb code 13 h in rw (l, u) refl

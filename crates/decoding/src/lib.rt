@@ -1,22 +1,24 @@
 // Decoding of a command: its code's row of the table, and the tests 6 and 7.
 
+#![tactic(auto)]
+
 ghost use Rattle.std.specs.Prelude.{◌≡◌, ◌||◌, ◌≤◌, eqb};
-ghost use Rattle.matrix.specs.Commands.{fieldsFit};
-ghost use Rattle.matrix.specs.Calls.{namesFit};
+ghost use Rattle.matrix.specs.Commands.{fields_fit};
+ghost use Rattle.matrix.specs.Calls.{names_fit};
 ghost use Rattle.codec.specs.ShapeRight.{ShapeRight};
-ghost use Rattle.decoding.specs.Decoded.{formFrom, ruledOf, basicFits, decodedOf};
+ghost use Rattle.decoding.specs.Decoded.{form_from, ruled_of, basic_fits, decoded_of};
 
 use matrix::{Act, Command, Fields, Form, Kind, Right, Rule, Shape};
 
 // The row of a code in the table of commands, if there is one.
-#[derive(Drop)]
+#[derive(Clone, Copy)]
 pub enum Ruled {
     Known(Rule),
     Unknown,
 }
 
 // A decoded command with the kind that its o has to be of, or the refusal 6 or 7.
-#[derive(Drop)]
+#[derive(Clone, Copy)]
 pub enum Decoded {
     Ready(Command, Kind),
     Refused(usize),
@@ -24,7 +26,7 @@ pub enum Decoded {
 
 // The form of a basic right, by whether the code is the first of its pair.
 pub fn form_from(code: usize, first: usize) -> Form
-    ensures { result ≡ formFrom code first }
+    ensures { result ≡ form_from code first }
 {
     if code == first {
         return Form::Plain;
@@ -35,7 +37,7 @@ pub fn form_from(code: usize, first: usize) -> Form
 // The row of codes 6 and 7: control over a subject, own over a plain object.
 fn grant_rule(code: usize, k: usize) -> Ruled
     requires { (6 ≤ code) × (code ≤ 7) }
-    ensures { result ≡ ruledOf code k }
+    ensures { result ≡ ruled_of code k }
 {
     if code == 6 {
         return Ruled::Known(Rule {
@@ -58,7 +60,7 @@ fn grant_rule(code: usize, k: usize) -> Ruled
 // The row of codes 10 to 13: a name is created or destroyed.
 fn name_rule(code: usize, k: usize) -> Ruled
     requires { (10 ≤ code) × (code ≤ 13) }
-    ensures { result ≡ ruledOf code k }
+    ensures { result ≡ ruled_of code k }
 {
     if code <= 11 {
         let act = if code == 10 {
@@ -90,7 +92,7 @@ fn name_rule(code: usize, k: usize) -> Ruled
 
 // The row of a code: the fields used, the kind needed and the change.
 fn rule_of(code: usize, k: usize) -> Ruled
-    ensures { result ≡ ruledOf code k }
+    ensures { result ≡ ruled_of code k }
 {
     match code {
         1..=2 => Ruled::Known(Rule {
@@ -130,7 +132,7 @@ fn rule_of(code: usize, k: usize) -> Ruled
 // Whether a command's names are the record's.
 pub fn names_fit(f: Shape, c: Fields) -> bool
     requires { ShapeRight f }
-    ensures { result ≡ namesFit f c }
+    ensures { result ≡ names_fit f c }
 {
     if f.n <= c.i {
         return false;
@@ -153,7 +155,7 @@ fn used_or_zero(used: bool, v: usize) -> bool
 
 // Whether the number of the basic right is in range where it is used, and else 0.
 fn basic_fits(basics: usize, used: bool, k: usize) -> bool
-    ensures { result ≡ basicFits basics used k }
+    ensures { result ≡ basic_fits basics used k }
 {
     if used {
         return k < basics;
@@ -163,7 +165,7 @@ fn basic_fits(basics: usize, used: bool, k: usize) -> bool
 
 // Whether the fields are what the rule uses, for so many basic rights.
 fn fields_fit(basics: usize, r: Rule, c: Fields) -> bool
-    ensures { result ≡ fieldsFit basics r c.s c.o c.k }
+    ensures { result ≡ fields_fit basics r c.s c.o c.k }
 {
     if !used_or_zero(r.s, c.s) {
         return false;
@@ -177,7 +179,7 @@ fn fields_fit(basics: usize, r: Rule, c: Fields) -> bool
 // A command decoded for a record of a shape.
 pub fn decode(f: Shape, c: Fields) -> Decoded
     requires { ShapeRight f }
-    ensures { result ≡ decodedOf f c }
+    ensures { result ≡ decoded_of f c }
 {
     let ruled = rule_of(c.code, c.k);
     let Ruled::Known(r) = ruled else {

@@ -7,12 +7,12 @@ use Rattle.matrix.specs.declared.Form.{Form}
 use Rattle.matrix.specs.declared.Form.TheVariants.{Plain, Starred}
 use Rattle.matrix.specs.declared.Fields.{Fields}
 use Rattle.matrix.specs.declared.Answer.TheVariants.{Accepted}
-use Rattle.matrix.specs.State.{State, exists, existsName}
+use Rattle.matrix.specs.State.{State, exists, exists_name}
 use Rattle.matrix.specs.Commands.{Raw}
 use Rattle.matrix.specs.Step.{refusal, next}
 use Rattle.matrix.specs.Shape.{limits}
 use Rattle.matrix.specs.Shaped.{Octets}
-use Rattle.matrix.specs.Calls.{commandAnswer, commandBytes}
+use Rattle.matrix.specs.Calls.{command_answer, command_bytes}
 use Rattle.demands.specs.Row.{raw}
 use Rattle.demands.specs.Printed.{one_of}
 
@@ -26,10 +26,10 @@ pub record Deletes : Type 0 where
   pub number : (basics : ℕ) (names : Bool) (S : State) (i s : ℕ) (o : Name) (k : ℕ) (form : Form)
       → refusal basics names S (deletes i s o k form)
       ≡ cond (names && ltb k basics)
-      (cond (exists S i) (cond (exists S s && existsName S o) (cond (S.owns i o || S.controls i (Subject s)) (cond (S.basic k form s o) 0 19) 12) 10) 8) 7
+      (cond (exists S i) (cond (exists S s && exists_name S o) (cond (S.owns i o || S.controls i (Subject s)) (cond (S.basic k form s o) 0 19) 12) 10) 8) 7
   -- a delete that was accepted is refused by 19 when it is given again
   pub again : (basics : ℕ) (names : Bool) (S : State) (i s : ℕ) (o : Name) (k : ℕ) (form : Form) → refusal basics names S (deletes i s o k form) ≡ 0
       → refusal basics names (next basics names S (deletes i s o k form)) (deletes i s o k form) ≡ 19
   -- a delete that is accepted on a record changes it
-  pub changes : (b : List ℕ) (c : Fields) (followed : ℕ) → one_of c.code (8 ∷ 9 ∷ []) ≡ true → Octets b → commandAnswer limits b c ≡ Accepted followed
-      → commandBytes limits b c ≢ b
+  pub changes : (b : List ℕ) (c : Fields) (followed : ℕ) → one_of c.code (8 ∷ 9 ∷ []) ≡ true → Octets b → command_answer limits b c ≡ Accepted followed
+      → command_bytes limits b c ≢ b

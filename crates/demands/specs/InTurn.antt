@@ -2,11 +2,11 @@
 use Rattle.std.specs.Prelude.{ℕ, ◌+◌, ◌*◌, cond, List, [], ◌∷◌, eqb, take}
 use Rattle.matrix.specs.declared.Fields.{Fields}
 use Rattle.matrix.specs.declared.Outcome.{Outcome}
-use Rattle.matrix.specs.Numbers.{commandNumbers}
-use Rattle.matrix.specs.Bytes.{setNumber}
+use Rattle.matrix.specs.Numbers.{command_numbers}
+use Rattle.matrix.specs.Bytes.{set_number}
 use Rattle.matrix.specs.Shape.{limits}
-use Rattle.matrix.specs.CommandList.{recordBytes, commandPlace}
-use Rattle.matrix.specs.Calls.{commandAnswer, commandBytes}
+use Rattle.matrix.specs.CommandList.{record_bytes, command_place}
+use Rattle.matrix.specs.Calls.{command_answer, command_bytes}
 
 -- how many were accepted, the refusal that ended it, 0 if none, and the record after it
 pub record Ended : Type 0 where
@@ -17,13 +17,13 @@ abbrev pub ended : ℕ → ℕ → List ℕ → Ended
 ended accepted refusal bytes = record { outcome = record { accepted = accepted; refusal = refusal }; bytes = bytes }
 
 -- the number that the command call refuses with, 0 where it accepts
-abbrev pub refusalNumber : List ℕ → Fields → ℕ
-refusalNumber b c = (commandNumbers (commandAnswer limits b c)).refusal
+abbrev pub refusal_number : List ℕ → Fields → ℕ
+refusal_number b c = (command_numbers (command_answer limits b c)).refusal
 
 unfoldable pub in_turn : ℕ → List ℕ → List Fields → Ended
 in_turn accepted b [] = ended accepted 0 b
-in_turn accepted b (c ∷ cs) = cond (eqb (refusalNumber b c) 0) (in_turn (accepted + 1) (commandBytes limits b c) cs) (ended accepted (refusalNumber b c) b)
+in_turn accepted b (c ∷ cs) = cond (eqb (refusal_number b c) 0) (in_turn (accepted + 1) (command_bytes limits b c) cs) (ended accepted (refusal_number b c) b)
 
 -- the list of the first m commands of l: its L says so many, and it ends after them
-abbrev pub firstCommands : ℕ → List ℕ → List ℕ
-firstCommands m l = take (commandPlace m) (setNumber l 1 4 (recordBytes * m))
+abbrev pub first_commands : ℕ → List ℕ → List ℕ
+first_commands m l = take (command_place m) (set_number l 1 4 (record_bytes * m))

@@ -3,14 +3,14 @@
 use Rattle.std.specs.Prelude.{ℕ, ◌≤◌, ◌≡◌, ◌≢◌, ◌↔◌, List}
 use Rattle.matrix.specs.declared.Fields.{Fields}
 use Rattle.matrix.specs.Shape.{Limits, limits, shape_of}
-use Rattle.matrix.specs.Calls.{validAnswer, heldAnswer, heldResult, commandAnswer, commandResult, commandBytes, runAnswer, runResult, runBytes}
-use Rattle.matrix.specs.Converting.{convertResult, convertOutput}
-use Rattle.matrix.specs.FirstHeld.{firstHeldResult}
+use Rattle.matrix.specs.Calls.{valid_answer, held_answer, held_result, command_answer, command_result, command_bytes, run_answer, run_result, run_bytes}
+use Rattle.matrix.specs.Converting.{convert_result, convert_output}
+use Rattle.matrix.specs.FirstHeld.{first_held_result}
 use Rattle.question.specs.declared.Safety.{Safety}
-use Rattle.question.specs.Asked.{safetyRefusal, Answers}
+use Rattle.question.specs.Asked.{safety_refusal, Answers}
 
-abbrev pub limitsBefore : Limits
-limitsBefore = record { subjects = 64; plain = 192 }
+abbrev pub limits_before : Limits
+limits_before = record { subjects = 64; plain = 192 }
 
 -- n and p are not above limits
 pub record NotAbove (most : Limits) (b : List ℕ) : Type 0 where
@@ -22,18 +22,18 @@ pub record NotAbove (most : Limits) (b : List ℕ) : Type 0 where
 -- of these answers alone (`AnswersNumbers`, `AnswersInput`). What is left of a lent copy (`Lent`), and a window's calls, have no limits in their
 -- definitions.
 pub record SameCalls (most other : Limits) (b : List ℕ) : Type 0 where
-  pub valid : validAnswer most b ≡ validAnswer other b
-  pub held : (s o right : ℕ) → heldAnswer most b s o right ≡ heldAnswer other b s o right
-  pub held-result : (s o right : ℕ) → heldResult most b s o right ≡ heldResult other b s o right
-  pub command : (c : Fields) → commandAnswer most b c ≡ commandAnswer other b c
-  pub command-result : (c : Fields) → commandResult most b c ≡ commandResult other b c
-  pub command-bytes : (c : Fields) → commandBytes most b c ≡ commandBytes other b c
-  pub run : (l : List ℕ) → runAnswer most b l ≡ runAnswer other b l
-  pub run-result : (l : List ℕ) → runResult most b l ≡ runResult other b l
-  pub run-bytes : (l : List ℕ) → runBytes most b l ≡ runBytes other b l
-  pub convert-result : (v : ℕ) (out : List ℕ) → convertResult most v b out ≡ convertResult other v b out
-  pub convert-output : (v : ℕ) (out : List ℕ) → convertOutput most v b out ≡ convertOutput other v b out
-  pub first-held : (l : List ℕ) (s o right room : ℕ) → firstHeldResult most b l s o right room ≡ firstHeldResult other b l s o right room
+  pub valid : valid_answer most b ≡ valid_answer other b
+  pub held : (s o right : ℕ) → held_answer most b s o right ≡ held_answer other b s o right
+  pub held_result_lem : (s o right : ℕ) → held_result most b s o right ≡ held_result other b s o right
+  pub command : (c : Fields) → command_answer most b c ≡ command_answer other b c
+  pub command_result_lem : (c : Fields) → command_result most b c ≡ command_result other b c
+  pub command_bytes_lem : (c : Fields) → command_bytes most b c ≡ command_bytes other b c
+  pub run : (l : List ℕ) → run_answer most b l ≡ run_answer other b l
+  pub run_result_lem : (l : List ℕ) → run_result most b l ≡ run_result other b l
+  pub run_bytes_lem : (l : List ℕ) → run_bytes most b l ≡ run_bytes other b l
+  pub convert_result_lem : (v : ℕ) (out : List ℕ) → convert_result most v b out ≡ convert_result other v b out
+  pub convert_output_lem : (v : ℕ) (out : List ℕ) → convert_output most v b out ≡ convert_output other v b out
+  pub first_held : (l : List ℕ) (s o right room : ℕ) → first_held_result most b l s o right room ≡ first_held_result other b l s o right room
   pub safety : (mask s o right : ℕ) (out out' : List ℕ) (r : Safety)
       → Answers most b mask s o right out out' r ↔ Answers other b mask s o right out out' r
 
@@ -44,5 +44,5 @@ enough = 257
 -- Any two limits, and those before with those that hold; and under these no question with enough bytes of buffer is refused by 15.
 pub record LimitsMoved : Type 0 where
   pub any : (most other : Limits) (b : List ℕ) → NotAbove most b → NotAbove other b → SameCalls most other b
-  pub before : (b : List ℕ) → NotAbove limits b → SameCalls limitsBefore limits b
-  pub room : (b : List ℕ) (mask s o right bytes : ℕ) → enough ≤ bytes → safetyRefusal limits b mask s o right bytes ≢ 15
+  pub before : (b : List ℕ) → NotAbove limits b → SameCalls limits_before limits b
+  pub room : (b : List ℕ) (mask s o right bytes : ℕ) → enough ≤ bytes → safety_refusal limits b mask s o right bytes ≢ 15

@@ -7,11 +7,11 @@ use Rattle.matrix.specs.declared.Right.TheVariants.{Own, Control, Basic}
 use Rattle.matrix.specs.declared.Holding.{Holding}
 use Rattle.matrix.specs.State.{State, held}
 use Rattle.matrix.specs.Shape.{limits, shape_of, bits_of}
-use Rattle.matrix.specs.Calls.{heldAnswer}
+use Rattle.matrix.specs.Calls.{held_answer}
 use Rattle.question.specs.declared.Safety.{Safety}
 use Rattle.question.specs.Asked.{LeaksRecord, Answers}
 use Rattle.demands.specs.First.{NoneHolds}
-use Rattle.demands.specs.Printed.{safetyConditions}
+use Rattle.demands.specs.Printed.{safety_conditions}
 
 pub record OwnersRead : Type 0 where
   -- which bits make a right held, in any state
@@ -20,10 +20,10 @@ pub record OwnersRead : Type 0 where
   pub plain : (S : State) (k s : ℕ) (o : Name) → held S (Basic k Plain) s o ≡ (S.owns s o || (S.basic k Plain s o || S.basic k Starred s o))
   pub starred : (S : State) (k s : ℕ) (o : Name) → held S (Basic k Starred) s o ≡ (S.owns s o || S.basic k Starred s o)
   -- whoever the held call says to own o holds by that call every other right but control, which is code 1
-  pub called : (b : List ℕ) (s o right : ℕ) → heldAnswer limits b s o 0 ≡ Holding.Yes → 1 < right → right < bits_of (shape_of b)
-      → heldAnswer limits b s o right ≡ Holding.Yes
+  pub called : (b : List ℕ) (s o right : ℕ) → held_answer limits b s o 0 ≡ Holding.Yes → 1 < right → right < bits_of (shape_of b)
+      → held_answer limits b s o right ≡ Holding.Yes
   -- A question for such a right leaks then by the empty list, whoever is trusted ..
-  pub at_once : (b : List ℕ) (mask s o right : ℕ) → heldAnswer limits b s o 0 ≡ Holding.Yes → 1 < right → LeaksRecord b mask s o right []
+  pub at_once : (b : List ℕ) (mask s o right : ℕ) → held_answer limits b s o 0 ≡ Holding.Yes → 1 < right → LeaksRecord b mask s o right []
   -- .. so that where it is not turned down the answer is "leaks"
-  pub never-safe : (b : List ℕ) (mask s o right : ℕ) (out out' : List ℕ) (r : Safety) → heldAnswer limits b s o 0 ≡ Holding.Yes → 1 < right
-      → Answers limits b mask s o right out out' r → NoneHolds (safetyConditions b mask s o right (length out)) → (commands : ℕ) × (r ≡ Safety.Leaks commands)
+  pub never_safe : (b : List ℕ) (mask s o right : ℕ) (out out' : List ℕ) (r : Safety) → held_answer limits b s o 0 ≡ Holding.Yes → 1 < right
+      → Answers limits b mask s o right out out' r → NoneHolds (safety_conditions b mask s o right (length out)) → (commands : ℕ) × (r ≡ Safety.Leaks commands)

@@ -2,6 +2,9 @@
 // A line begins with the row of the table, 0 where nothing is turned down. A command is printed as code, i, s, o and k, and a held
 // question as s, o and the right's code. Among them are the first command after which a right is held (Manual 6.3), the conversions
 // (Manual 2.4), the largest record (Manual 2.3) and what a window shows (Manual 9). The file stdout has what the manual says of each.
+
+#![tactic(auto)]
+
 mod conversions;
 mod first_held;
 mod largest;

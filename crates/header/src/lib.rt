@@ -1,14 +1,17 @@
 // The header of a record: its version, the numbers of its names, and its size, as the tests 2 to 4 ask for them.
+
+#![tactic(auto)]
+
 ghost use Rattle.std.specs.Prelude.{◌≡◌, ◌≤◌, length};
 ghost use Rattle.matrix.specs.Bytes.{number_at};
-ghost use Rattle.matrix.specs.Shape.{limits, headerBytes, knownVersion, in_range, sized};
+ghost use Rattle.matrix.specs.Shape.{limits, header_bytes, known_version, in_range, sized};
 ghost use Rattle.header.specs.Headed.{Headed};
 
 use matrix::{MOST_PLAIN, MOST_SUBJECTS, Shape};
 
 // The version is one that is read.
 pub fn known_version(version: usize) -> bool
-    ensures { result ≡ knownVersion version }
+    ensures { result ≡ known_version version }
 {
     if version == 1 { true } else { version == 2 }
 }
@@ -29,7 +32,7 @@ pub fn in_range(f: Shape) -> bool
 
 // The four bytes of L.
 fn count(b: &[u8]) -> usize
-    requires { headerBytes ≤ length b.now }
+    requires { header_bytes ≤ length b.now }
     ensures { result ≡ number_at b.now 1 4 }
 {
     ((b[1] as usize * 256 + b[2] as usize) * 256 + b[3] as usize) * 256 + b[4] as usize

@@ -1,5 +1,7 @@
 // The sizes of a window for the code, each the same as the definitions' number. The definitions are in specs/.
 
+#![tactic(auto)]
+
 // The subject numbers that have a count, and the entries that are counted.
 pub const WINDOW_NUMBERS: usize = 64;
 

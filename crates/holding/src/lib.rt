@@ -1,12 +1,14 @@
 // Whether a right is held, on a record that is of the right form.
 
+#![tactic(auto)]
+
 ghost use Rattle.std.specs.Prelude.{◌≡◌, ◌<◌};
 ghost use Rattle.matrix.specs.Shape.{bits_of};
-ghost use Rattle.matrix.specs.Calls.{questionFits, holdsOn};
-ghost use Rattle.codec.specs.Bits.{wordBits};
+ghost use Rattle.matrix.specs.Calls.{question_fits, holds_on};
+ghost use Rattle.codec.specs.Bits.{word_bits};
 ghost use Rattle.codec.specs.ShapeRight.{ShapeRight};
 ghost use Rattle.cells.specs.Station.{Cell, Station};
-ghost use Rattle.holding.specs.Held.{heldOn};
+ghost use Rattle.holding.specs.Held.{held_on};
 ghost use Rattle.holding.specs.Mask.{mask_of};
 
 use matrix::{Holding, Shape};
@@ -14,7 +16,7 @@ use matrix::{Holding, Shape};
 // The mask of a right's code: the bits by which that right is held (Manual 1.3). A basic right is held by the bit of its starred form too, of
 // which the code is odd, and by that of own, which is bit 0. The kind of the right makes no branch here: it is a digit, 1 or 0.
 fn mask_of(code: usize) -> usize
-    requires { code < wordBits }
+    requires { code < word_bits }
     ensures { result ≡ mask_of code }
 {
     let basic = (1 < code) as usize;
@@ -24,7 +26,7 @@ fn mask_of(code: usize) -> usize
 // Whether s holds the right of a code over the name of column o: one of the mask's bits is set in the cell.
 pub fn is_held(b: &[u8], f: Shape, s: usize, o: usize, right: usize) -> bool
     requires { Cell b.now f s o × (right < bits_of f) }
-    ensures { result ≡ holdsOn b.now s o right }
+    ensures { result ≡ holds_on b.now s o right }
 {
     cells::cell(b, f, s, o) & mask_of(right) != 0
 }
@@ -32,7 +34,7 @@ pub fn is_held(b: &[u8], f: Shape, s: usize, o: usize, right: usize) -> bool
 // Whether the numbers of a question are those of a row, a column and a right of the record.
 pub fn question_fits(f: Shape, s: usize, o: usize, right: usize) -> bool
     requires { ShapeRight f }
-    ensures { result ≡ questionFits f s o right }
+    ensures { result ≡ question_fits f s o right }
 {
     if f.n <= s {
         return false;
@@ -46,7 +48,7 @@ pub fn question_fits(f: Shape, s: usize, o: usize, right: usize) -> bool
 // Whether s holds a right over the name of column o, numbers as given: refusal 7, or yes or no.
 pub fn held_on(b: &[u8], f: Shape, s: usize, o: usize, right: usize) -> Holding
     requires { Station b.now f }
-    ensures { result ≡ heldOn b.now s o right }
+    ensures { result ≡ held_on b.now s o right }
 {
     if !question_fits(f, s, o, right) {
         return Holding::Refused(7);

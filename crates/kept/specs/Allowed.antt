@@ -4,14 +4,14 @@ use Rattle.matrix.specs.declared.Act.{Act}
 use Rattle.matrix.specs.declared.Command.{Command}
 use Rattle.matrix.specs.State.{State, exists}
 use Rattle.matrix.specs.Commands.{kind_of}
-use Rattle.matrix.specs.Tests.{kindFits, present, free, permitted, deletable, apart, uncontrolled}
-use Rattle.matrix.specs.Step.{refusalOf}
-use Rattle.laws.specs.Passed.{tests-passed}
+use Rattle.matrix.specs.Tests.{kind_fits, present, free, permitted, deletable, apart, uncontrolled}
+use Rattle.matrix.specs.Step.{refusal_of}
+use Rattle.laws.specs.Passed.{tests_passed}
 
 -- the tests of a decoded command that does `a`
 pub record Allowed (S : State) (c : Command) (a : Act) : Type 0 where
   pub initiator : exists S c.i ≡ true
-  pub kind : kindFits (kind_of a) c.o ≡ true
+  pub kind : kind_fits (kind_of a) c.o ≡ true
   pub there : present S c a ≡ true
   pub absent : free S c a ≡ true
   pub entitled : permitted S c a ≡ true
@@ -19,9 +19,9 @@ pub record Allowed (S : State) (c : Command) (a : Act) : Type 0 where
   pub unmet : apart S c a ≡ true
   pub alone : uncontrolled S c a ≡ true
 
-pub allowed : (S : State) (c : Command) → refusalOf S c ≡ 0 → Allowed S c c.act
+pub allowed : (S : State) (c : Command) → refusal_of S c ≡ 0 → Allowed S c c.act
 allowed S c h =
-    let p = tests-passed S c h in
+    let p = tests_passed S c h in
     record {
       initiator = p.0;
       kind = p.1.0;

@@ -6,35 +6,35 @@ use Rattle.matrix.specs.declared.Name.{Name}
 use Rattle.matrix.specs.declared.Name.TheVariants.{Subject, Plain}
 use Rattle.matrix.specs.declared.Right.{Right}
 use Rattle.matrix.specs.declared.Right.TheVariants.{Own, Control}
-use Rattle.matrix.specs.Names.{U, same_name, columnOf}
-use Rattle.matrix.specs.State.{State, has, exists, existsName, put, clear}
+use Rattle.matrix.specs.Names.{U, same_name, column_of}
+use Rattle.matrix.specs.State.{State, has, exists, exists_name, put, clear}
 use Rattle.matrix.specs.Owners.{owner}
-use Rattle.matrix.specs.Changes.{admit, inherit, inCross}
+use Rattle.matrix.specs.Changes.{admit, inherit, in_cross}
 use Rattle.matrix.specs.Valid.{Valid}
-use Rattle.laws.specs.Tests.{way, clash, fails, and_both, or_cases, or_left, or_right, or-none-left, or-none-right}
-use Rattle.laws.specs.Same.{eqb_same, sameName-eq}
-use Rattle.laws.specs.Changed.{put-bit, clear-bit, inherit-bit, has-admit}
-use Rattle.kept.specs.Cells.{put-found, put-new, put_keeps, clear-found, clear-other}
-use Rattle.kept.specs.Parts.{four-cases, Lives, AllLive, Reowned, Up, join, controllers-of, tree_of, grown, lives_at, controllers-fewer, controllers-put, tree-reowned, reowned-owned, above-owns, above-heir, not_root}
-use Rattle.kept.specs.Bits.{object-kept}
+use Rattle.laws.specs.Tests.{way, clash, fails, and_both, or_cases, or_left, or_right, or_none_left, or_none_right}
+use Rattle.laws.specs.Same.{eqb_same, same_name_eq}
+use Rattle.laws.specs.Changed.{put_bit, clear_bit, inherit_bit, has_admit}
+use Rattle.kept.specs.Cells.{put_found, put_new, put_keeps, clear_found, clear_other}
+use Rattle.kept.specs.Parts.{four_cases, Lives, AllLive, Reowned, Up, join, controllers_of, tree_of, grown, lives_at, controllers_fewer, controllers_put, tree_reowned, reowned_owned, above_owns, above_heir, not_root}
+use Rattle.kept.specs.Bits.{object_kept}
 
 -- The two changes: i creates s; i destroys c.
 abbrev created : State → ℕ → ℕ → State
 created S i s = put Control s (Subject s) true (put Own i (Subject s) true (admit s S))
 
 abbrev destroyed : State → ℕ → ℕ → State
-destroyed S i c = clear (inCross c) (inherit i c S)
+destroyed S i c = clear (in_cross c) (inherit i c S)
 
 -- s was absent
-pub created-keeps : (S : State) (i s : ℕ) → Valid S → exists S i ≡ true → exists S s ≡ false → Valid (created S i s)
-created-keeps S i s h ei absent =
+pub created_keeps : (S : State) (i s : ℕ) → Valid S → exists S i ≡ true → exists S s ≡ false → Valid (created S i s)
+created_keeps S i s h ei absent =
     join S'
     (record {
       live = grown S S' h rows names bits;
-      controllers = controllers-put S.controls s s (controllers-of S h) (λ e. e) (λ d. absurd (d refl));
-      tree = tree-reowned S.owns S'.owns i s (tree_of S h) reowned
+      controllers = controllers_put S.controls s s (controllers_of S h) (λ e. e) (λ d. absurd (d refl));
+      tree = tree_reowned S.owns S'.owns i s (tree_of S h) reowned
           (λ e. clash h.root (subst (λ (n : ℕ). exists S n ≡ false) e absent)) below;
-      owned = λ c cu e. reowned-owned S.owns S'.owns i s reowned c
+      owned = λ c cu e. reowned_owned S.owns S'.owns i s reowned c
           (λ d. h.owned c cu (⊎_elim (λ old. old) (λ q. absurd (d q)) (before c e)));
       bound = λ c e. ⊎_elim (λ old. let l : c < S.top = h.bound c old in omega arith) (λ q. omega arith) (before c e);
     })
@@ -48,21 +48,21 @@ created-keeps S i s h ei absent =
     rows : (w : ℕ) → exists S w ≡ true → exists S' w ≡ true
     rows w e = put_keeps s (Subject s) S.controls w (Subject w) e
 
-    names : (x : Name) → existsName S x ≡ true → existsName S' x ≡ true
+    names : (x : Name) → exists_name S x ≡ true → exists_name S' x ≡ true
     names (Subject c) e = rows c e
-    names (Plain c) e = object-kept S S' c (λ w l o. (w, omega arith, o)) e
+    names (Plain c) e = object_kept S S' c (λ w l o. (w, omega arith, o)) e
 
     here : exists S' s ≡ true
-    here = put-new s (Subject s) S.controls
+    here = put_new s (Subject s) S.controls
 
     bits : (y : Right) (w : ℕ) (x : Name) → has S' y w x ≡ true → (has S y w x ≡ true) ⊎ Lives S' w x
     bits y w x b =
-        ⊎_elim (λ b₁. ⊎_elim (λ old. inl (sym (has-admit s S y w x) ∙ old)) (λ p. inr (lives_at S' i (Subject s) (rows i ei) here w x (p.1, p.2)))
-        (put-bit Own i (Subject s) true (admit s S) y w x b₁))
-        (λ p. inr (lives_at S' s (Subject s) here here w x (p.1, p.2))) (put-bit Control s (Subject s) true owning y w x b)
+        ⊎_elim (λ b₁. ⊎_elim (λ old. inl (sym (has_admit s S y w x) ∙ old)) (λ p. inr (lives_at S' i (Subject s) (rows i ei) here w x (p.1, p.2)))
+        (put_bit Own i (Subject s) true (admit s S) y w x b₁))
+        (λ p. inr (lives_at S' s (Subject s) here here w x (p.1, p.2))) (put_bit Control s (Subject s) true owning y w x b)
 
     before : (c : ℕ) → exists S' c ≡ true → (exists S c ≡ true) ⊎ (c ≡ s)
-    before c e = ⊎_elim (λ old. inl old) (λ p. inr p.0) (put-found s (Subject s) true S.controls c (Subject c) e)
+    before c e = ⊎_elim (λ old. inl old) (λ p. inr p.0) (put_found s (Subject s) true S.controls c (Subject c) e)
 
     unowned : (w c : ℕ) → S.owns w (Subject c) ≡ true → c ≢ s
     unowned w c e q = clash (subst (λ (n : ℕ). exists S n ≡ true) q (h.column Own w (Subject c) e)) absent
@@ -70,34 +70,34 @@ created-keeps S i s h ei absent =
     reowned : Reowned S.owns S'.owns i s
     reowned =
         record {
-          links = λ w c e. ⊎_elim (λ old. inl (old, unowned w c old)) (λ p. inr (p.0, ap columnOf p.1))
-              (put-found i (Subject s) true S.owns w (Subject c) e);
+          links = λ w c e. ⊎_elim (λ old. inl (old, unowned w c old)) (λ p. inr (p.0, ap column_of p.1))
+              (put_found i (Subject s) true S.owns w (Subject c) e);
           stays = λ w c d e. put_keeps i (Subject s) S.owns w (Subject c) e;
-          gained = put-new i (Subject s) S.owns;
+          gained = put_new i (Subject s) S.owns;
         }
 
     -- s owns nothing yet
     below : Up S.owns i s → ⊥
     below u =
         ⊎_elim (λ e. clash (subst (λ (n : ℕ). exists S n ≡ true) e ei) absent)
-        (λ up. let y = above-owns S.owns (Subject i) s up in clash (h.row Own s y.0 y.1) absent) u
+        (λ up. let y = above_owns S.owns (Subject i) s up in clash (h.row Own s y.0 y.1) absent) u
 
 -- i owned c
-pub destroyed-keeps : (S : State) (i c : ℕ) → Valid S → exists S i ≡ true → S.owns i (Subject c) ≡ true → Valid (destroyed S i c)
-destroyed-keeps S i c h ei own =
+pub destroyed_keeps : (S : State) (i c : ℕ) → Valid S → exists S i ≡ true → S.owns i (Subject c) ≡ true → Valid (destroyed S i c)
+destroyed_keeps S i c h ei own =
     join S'
     (record {
       live = live;
-      controllers = controllers-fewer S.controls S'.controls (controllers-of S h)
-          (λ w x e. (clear-found (inCross c) S.controls w x e).1) (rows U (λ e. not_root S h i c own (sym e)) h.root);
+      controllers = controllers_fewer S.controls S'.controls (controllers_of S h)
+          (λ w x e. (clear_found (in_cross c) S.controls w x e).1) (rows U (λ e. not_root S h i c own (sym e)) h.root);
       tree =
           record {
-            root-owner = λ w. fails (S'.owns w (Subject U)) (λ e. let o = owned-before U (w, e) in clash o.1 (h.root-owner o.0));
-            one-owner = one;
-            no-cycle = λ a up. h.no-cycle a (above-heir S.owns S'.owns i c own (λ w d e. (links w (Subject d) e).1) a a up);
+            root_owner = λ w. fails (S'.owns w (Subject U)) (λ e. let o = owned_before U (w, e) in clash o.1 (h.root_owner o.0));
+            one_owner = one;
+            no_cycle = λ a up. h.no_cycle a (above_heir S.owns S'.owns i c own (λ w d e. (links w (Subject d) e).1) a a up);
           };
       owned = λ d du e. let w = h.owned d du (before d e).1 in let v = heir (Subject d)
-          (λ q. (before d e).0 (ap columnOf q)) w.0 w.1 in (v.0, v.1);
+          (λ q. (before d e).0 (ap column_of q)) w.0 w.1 in (v.0, v.1);
       bound = λ d e. h.bound d (before d e).1;
     })
   where
@@ -105,66 +105,66 @@ destroyed-keeps S i c h ei own =
     S' = destroyed S i c
 
     i≢c : i ≢ c
-    i≢c e = h.no-cycle c (owner (subst (λ (n : ℕ). S.owns n (Subject c) ≡ true) e own))
+    i≢c e = h.no_cycle c (owner (subst (λ (n : ℕ). S.owns n (Subject c) ≡ true) e own))
 
-    outside : (w : ℕ) (x : Name) → w ≢ c → x ≢ Subject c → inCross c w x ≡ false
-    outside w x d q = fails (inCross c w x) (λ e. ⊎_elim (λ a. q (sameName-eq x (Subject c) a)) (λ b. d (eqb-true w c b))
+    outside : (w : ℕ) (x : Name) → w ≢ c → x ≢ Subject c → in_cross c w x ≡ false
+    outside w x d q = fails (in_cross c w x) (λ e. ⊎_elim (λ a. q (same_name_eq x (Subject c) a)) (λ b. d (eqb-true w c b))
         (or_cases (same_name x (Subject c)) (eqb w c) e))
 
-    off-row : (w : ℕ) (x : Name) → inCross c w x ≡ false → w ≢ c
-    off-row w x e = eqb-false w c (or-none-right (same_name x (Subject c)) (eqb w c) e)
+    off_row : (w : ℕ) (x : Name) → in_cross c w x ≡ false → w ≢ c
+    off_row w x e = eqb-false w c (or_none_right (same_name x (Subject c)) (eqb w c) e)
 
-    off-column : (w : ℕ) (x : Name) → inCross c w x ≡ false → x ≢ Subject c
-    off-column w x e q = clash (subst (λ (n : Name). same_name n (Subject c) ≡ true) (sym q) (eqb_same c))
-        (or-none-left (same_name x (Subject c)) (eqb w c) e)
+    off_column : (w : ℕ) (x : Name) → in_cross c w x ≡ false → x ≢ Subject c
+    off_column w x e q = clash (subst (λ (n : Name). same_name n (Subject c) ≡ true) (sym q) (eqb_same c))
+        (or_none_left (same_name x (Subject c)) (eqb w c) e)
 
     rows : (w : ℕ) → w ≢ c → exists S w ≡ true → exists S' w ≡ true
-    rows w d e = clear-other (inCross c) S.controls w (Subject w) (outside w (Subject w) d (λ q. d (ap columnOf q))) e
+    rows w d e = clear_other (in_cross c) S.controls w (Subject w) (outside w (Subject w) d (λ q. d (ap column_of q))) e
 
     before : (d : ℕ) → exists S' d ≡ true → (d ≢ c) × (exists S d ≡ true)
-    before d e = let p = clear-found (inCross c) S.controls d (Subject d) e in (off-row d (Subject d) p.0, p.1)
+    before d e = let p = clear_found (in_cross c) S.controls d (Subject d) e in (off_row d (Subject d) p.0, p.1)
 
     -- whoever owned a name that stays has an heir
     heir : (x : Name) → x ≢ Subject c → (w : ℕ) → S.owns w x ≡ true → (v : ℕ) × (S'.owns v x ≡ true) × (exists S v ≡ true)
     heir x q w e =
         ⊎_elim (λ a. (
           i,
-          clear-other (inCross c) (inherit i c S).owns i x (outside i x i≢c q)
+          clear_other (in_cross c) (inherit i c S).owns i x (outside i x i≢c q)
               (or_right (S.owns i x) (and_both (eqb_same i) (subst (λ (n : ℕ). S.owns n x ≡ true) (eqb-true w c a) e))),
           ei,
         ))
         (λ a. (
           w,
-          clear-other (inCross c) (inherit i c S).owns w x (outside w x (eqb-false w c a) q)
+          clear_other (in_cross c) (inherit i c S).owns w x (outside w x (eqb-false w c a) q)
               (or_left (eqb w i && S.owns c x) e),
           h.row Own w x e,
         )) (way (eqb w c))
 
-    names : (x : Name) → x ≢ Subject c → existsName S x ≡ true → existsName S' x ≡ true
+    names : (x : Name) → x ≢ Subject c → exists_name S x ≡ true → exists_name S' x ≡ true
     names (Subject d) q e = rows d (λ a. q (ap (λ (n : ℕ). Subject n) a)) e
-    names (Plain d) q e = object-kept S S' d (λ w l o. let v = heir (Plain d) q w o in (v.0, h.bound v.0 v.2, v.1)) e
+    names (Plain d) q e = object_kept S S' d (λ w l o. let v = heir (Plain d) q w o in (v.0, h.bound v.0 v.2, v.1)) e
 
     live : AllLive S'
     live y w x b =
-        let p = clear-bit (inCross c) (inherit i c S) y w x b in
-        let r = off-row w x p.0 in
-        let q = off-column w x p.0 in
+        let p = clear_bit (in_cross c) (inherit i c S) y w x b in
+        let r = off_row w x p.0 in
+        let q = off_column w x p.0 in
         ⊎_elim (λ old. (rows w r (h.row y w x old), names x q (h.column y w x old)))
         (λ k. (rows w r (subst (λ (n : ℕ). exists S n ≡ true) (sym k.1) ei), names x q (h.column Own c x k.2)))
-        (inherit-bit i c S y w x p.1)
+        (inherit_bit i c S y w x p.1)
 
     links : (w : ℕ) (x : Name) → S'.owns w x ≡ true → (w ≢ c) × ((S.owns w x ≡ true) ⊎ ((w ≡ i) × (S.owns c x ≡ true)))
-    links w x e = let p = clear-found (inCross c) (inherit i c S).owns w x e in (
-      off-row w x p.0,
-      ⊎_elim (λ old. inl old) (λ k. inr (k.1, k.2)) (inherit-bit i c S Own w x p.1),
+    links w x e = let p = clear_found (in_cross c) (inherit i c S).owns w x e in (
+      off_row w x p.0,
+      ⊎_elim (λ old. inl old) (λ k. inr (k.1, k.2)) (inherit_bit i c S Own w x p.1),
     )
 
-    owned-before : (d : ℕ) → (w : ℕ) × (S'.owns w (Subject d) ≡ true) → (v : ℕ) × (S.owns v (Subject d) ≡ true)
-    owned-before d e = ⊎_elim (λ old. (e.0, old)) (λ k. (c, k.1)) (links e.0 (Subject d) e.1).1
+    owned_before : (d : ℕ) → (w : ℕ) × (S'.owns w (Subject d) ≡ true) → (v : ℕ) × (S.owns v (Subject d) ≡ true)
+    owned_before d e = ⊎_elim (λ old. (e.0, old)) (λ k. (c, k.1)) (links e.0 (Subject d) e.1).1
 
     one : (d w v : ℕ) → S'.owns w (Subject d) ≡ true → S'.owns v (Subject d) ≡ true → w ≡ v
     one d w v e g =
         let p = links w (Subject d) e in
         let q = links v (Subject d) g in
-        four-cases (λ a b. h.one-owner d w v a b) (λ a b. absurd (p.0 (h.one-owner d w c a b.1)))
-        (λ a b. absurd (q.0 (h.one-owner d v c b a.1))) (λ a b. a.0 ∙ sym b.0) p.1 q.1
+        four_cases (λ a b. h.one_owner d w v a b) (λ a b. absurd (p.0 (h.one_owner d w c a b.1)))
+        (λ a b. absurd (q.0 (h.one_owner d v c b a.1))) (λ a b. a.0 ∙ sym b.0) p.1 q.1

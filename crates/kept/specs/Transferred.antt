@@ -6,25 +6,25 @@ use Rattle.matrix.specs.declared.Name.{Name}
 use Rattle.matrix.specs.declared.Name.TheVariants.{Subject, Plain}
 use Rattle.matrix.specs.declared.Right.{Right}
 use Rattle.matrix.specs.declared.Right.TheVariants.{Own}
-use Rattle.matrix.specs.Names.{isSubject, columnOf}
-use Rattle.matrix.specs.State.{State, has, exists, existsName, isCell, put}
+use Rattle.matrix.specs.Names.{is_subject, column_of}
+use Rattle.matrix.specs.State.{State, has, exists, exists_name, is_cell, put}
 use Rattle.matrix.specs.Owners.{walk, meets}
 use Rattle.matrix.specs.Valid.{Valid}
 use Rattle.laws.specs.Tests.{way, clash}
-use Rattle.laws.specs.Same.{isCell-same, isCell-at, isCell-row, isCell-column, isCell-apart}
-use Rattle.laws.specs.Changed.{put-bit}
-use Rattle.owners.specs.Walk.{walk-self, walk-finds}
-use Rattle.kept.specs.Cells.{put-cases, put_other, put_keeps}
-use Rattle.kept.specs.Parts.{Lives, AllLive, Reowned, Up, join, controllers-of, tree_of, grown, lives_at, tree-fewer, tree-reowned, reowned-owned, not_root}
-use Rattle.kept.specs.Bits.{object-kept}
+use Rattle.laws.specs.Same.{is_cell_same, is_cell_at, is_cell_row, is_cell_column, is_cell_apart}
+use Rattle.laws.specs.Changed.{put_bit}
+use Rattle.owners.specs.Walk.{walk_self, walk_finds}
+use Rattle.kept.specs.Cells.{put_cases, put_other, put_keeps}
+use Rattle.kept.specs.Parts.{Lives, AllLive, Reowned, Up, join, controllers_of, tree_of, grown, lives_at, tree_fewer, tree_reowned, reowned_owned, not_root}
+use Rattle.kept.specs.Bits.{object_kept}
 
 -- i hands its ownership of o to s
 abbrev pub handed : State → ℕ → ℕ → Name → State
 handed S i s o = put Own s o true (put Own i o false S)
 
 -- s owns it then
-handed-owned : (i s : ℕ) (o : Name) (S : State) → (handed S i s o).owns s o ≡ true
-handed-owned i s o S = rw (isCell-same s o) refl
+handed_owned : (i s : ℕ) (o : Name) (S : State) → (handed S i s o).owns s o ≡ true
+handed_owned i s o S = rw (is_cell_same s o) refl
 
 -- Where o is a subject, s is its one owner now, which has not o above it.
 module _ (S : State) (i s : ℕ) (h : Valid S) (es : exists S s ≡ true) (a : ℕ) (own : S.owns i (Subject a) ≡ true) (unmet : meets (walk S s (Subject a)) ≡ false) where
@@ -35,90 +35,90 @@ module _ (S : State) (i s : ℕ) (h : Valid S) (es : exists S s ≡ true) (a : �
   without = put Own i (Subject a) false S
 
   -- the only owner before was i
-  old-link : (w c : ℕ) → without.owns w (Subject c) ≡ true → (S.owns w (Subject c) ≡ true) × (c ≢ a)
-  old-link w c e =
+  old_link : (w c : ℕ) → without.owns w (Subject c) ≡ true → (S.owns w (Subject c) ≡ true) × (c ≢ a)
+  old_link w c e =
       ⊎_elim (λ p. absurd (false≢true p.1))
       (λ p. (
         p.1,
-        λ q. clash (isCell-at i (Subject a) w (Subject c)
-            (h.one-owner a w i (subst (λ (n : ℕ). S.owns w (Subject n) ≡ true) q p.1) own)
+        λ q. clash (is_cell_at i (Subject a) w (Subject c)
+            (h.one_owner a w i (subst (λ (n : ℕ). S.owns w (Subject n) ≡ true) q p.1) own)
             (ap (λ (n : ℕ). Subject n) q)) p.0,
       ))
-      (put-cases i (Subject a) false S.owns w (Subject c) e)
+      (put_cases i (Subject a) false S.owns w (Subject c) e)
 
-  same-cell : (w c : ℕ) → isCell s (Subject a) w (Subject c) ≡ true → (w ≡ s) × (c ≡ a)
-  same-cell w c e = (isCell-row s (Subject a) w (Subject c) e, ap columnOf (isCell-column s (Subject a) w (Subject c) e))
+  same_cell : (w c : ℕ) → is_cell s (Subject a) w (Subject c) ≡ true → (w ≡ s) × (c ≡ a)
+  same_cell w c e = (is_cell_row s (Subject a) w (Subject c) e, ap column_of (is_cell_column s (Subject a) w (Subject c) e))
 
   reowned : Reowned S.owns S'.owns s a
   reowned =
       record {
-        links = λ w c e. ⊎_elim (λ p. inr (same-cell w c p.0)) (λ p. inl (old-link w c p.1))
-            (put-cases s (Subject a) true without.owns w (Subject c) e);
+        links = λ w c e. ⊎_elim (λ p. inr (same_cell w c p.0)) (λ p. inl (old_link w c p.1))
+            (put_cases s (Subject a) true without.owns w (Subject c) e);
         stays = λ w c d e. put_keeps s (Subject a) without.owns w (Subject c)
-            (put_other i (Subject a) false S.owns w (Subject c) (isCell-apart i (Subject a) w (Subject c)
-            (λ q. d (ap columnOf q))) e);
-        gained = handed-owned i s (Subject a) S;
+            (put_other i (Subject a) false S.owns w (Subject c) (is_cell_apart i (Subject a) w (Subject c)
+            (λ q. d (ap column_of q))) e);
+        gained = handed_owned i s (Subject a) S;
       }
 
   below : Up S.owns s a → ⊥
   below u =
-      ⊎_elim (λ e. clash (subst (λ (n : ℕ). meets (walk S s (Subject n)) ≡ true) e (ap meets (walk-self S h s))) unmet)
-      (λ up. clash (walk-finds S h s a es up) unmet) u
+      ⊎_elim (λ e. clash (subst (λ (n : ℕ). meets (walk S s (Subject n)) ≡ true) e (ap meets (walk_self S h s))) unmet)
+      (λ up. clash (walk_finds S h s a es up) unmet) u
 
 -- Every name that existed still exists: where i was the last owner of a plain object, s owns it now.
-pub handed-lasts : (i s : ℕ) (o : Name) (S : State) → s < S.top → (x : Name) → existsName S x ≡ true → existsName (handed S i s o) x ≡ true
-handed-lasts i s o S room (Subject d) e = e
-handed-lasts i s o S room (Plain d) e = object-kept S (handed S i s o) d heir e
+pub handed_lasts : (i s : ℕ) (o : Name) (S : State) → s < S.top → (x : Name) → exists_name S x ≡ true → exists_name (handed S i s o) x ≡ true
+handed_lasts i s o S room (Subject d) e = e
+handed_lasts i s o S room (Plain d) e = object_kept S (handed S i s o) d heir e
   where
     heir : (w : ℕ) → w < S.top → S.owns w (Plain d) ≡ true → (v : ℕ) × (v < S.top) × ((handed S i s o).owns v (Plain d) ≡ true)
     heir w l own =
-        ⊎_elim (λ q. (s, room, subst (λ (x : Name). (handed S i s o).owns s x ≡ true) (sym (isCell-column i o w (Plain d) q)) (handed-owned i s o S)))
+        ⊎_elim (λ q. (s, room, subst (λ (x : Name). (handed S i s o).owns s x ≡ true) (sym (is_cell_column i o w (Plain d) q)) (handed_owned i s o S)))
         (λ q. (w, l, put_keeps s o (put Own i o false S).owns w (Plain d) (put_other i o false S.owns w (Plain d) q own)))
-        (way (isCell i o w (Plain d)))
+        (way (is_cell i o w (Plain d)))
 
 module _ (S : State) (i s : ℕ) (h : Valid S) (es : exists S s ≡ true) where
   -- the set bits are old ones, or those of existing names
-  handed-live : (o : Name) → S.owns i o ≡ true → AllLive (handed S i s o)
-  handed-live o own = grown S (handed S i s o) h (λ w e. e) names bits
+  handed_live : (o : Name) → S.owns i o ≡ true → AllLive (handed S i s o)
+  handed_live o own = grown S (handed S i s o) h (λ w e. e) names bits
     where
-      names : (x : Name) → existsName S x ≡ true → existsName (handed S i s o) x ≡ true
-      names = handed-lasts i s o S (h.bound s es)
+      names : (x : Name) → exists_name S x ≡ true → exists_name (handed S i s o) x ≡ true
+      names = handed_lasts i s o S (h.bound s es)
 
-      there : existsName (handed S i s o) o ≡ true
+      there : exists_name (handed S i s o) o ≡ true
       there = names o (h.column Own i o own)
 
       bits : (y : Right) (w : ℕ) (x : Name) → has (handed S i s o) y w x ≡ true → (has S y w x ≡ true) ⊎ Lives (handed S i s o) w x
       bits y w x b =
           ⊎_elim (λ b₁. ⊎_elim (λ old. inl old) (λ p. inr (lives_at (handed S i s o) i o (h.row Own i o own) there w x (p.1, p.2)))
-          (put-bit Own i o false S y w x b₁))
-          (λ p. inr (lives_at (handed S i s o) s o es there w x (p.1, p.2))) (put-bit Own s o true (put Own i o false S) y w x b)
+          (put_bit Own i o false S y w x b₁))
+          (λ p. inr (lives_at (handed S i s o) s o es there w x (p.1, p.2))) (put_bit Own s o true (put Own i o false S) y w x b)
 
   -- the owners of subjects: where o is a plain object they are as they were
-  object-handed : (a : ℕ) → S.owns i (Plain a) ≡ true → Valid (handed S i s (Plain a))
-  object-handed a own =
+  object_handed : (a : ℕ) → S.owns i (Plain a) ≡ true → Valid (handed S i s (Plain a))
+  object_handed a own =
       join (handed S i s (Plain a))
       (record {
-        live = handed-live (Plain a) own;
-        controllers = controllers-of S h;
-        tree = tree-fewer S.owns (handed S i s (Plain a)).owns (tree_of S h) (λ w c e. e);
+        live = handed_live (Plain a) own;
+        controllers = controllers_of S h;
+        tree = tree_fewer S.owns (handed S i s (Plain a)).owns (tree_of S h) (λ w c e. e);
         owned = h.owned;
         bound = h.bound;
       })
 
-  subject-handed : (a : ℕ) → S.owns i (Subject a) ≡ true → meets (walk S s (Subject a)) ≡ false → Valid (handed S i s (Subject a))
-  subject-handed a own unmet =
+  subject_handed : (a : ℕ) → S.owns i (Subject a) ≡ true → meets (walk S s (Subject a)) ≡ false → Valid (handed S i s (Subject a))
+  subject_handed a own unmet =
       let r = reowned S i s h es a own unmet in
       join (handed S i s (Subject a))
       (record {
-        live = handed-live (Subject a) own;
-        controllers = controllers-of S h;
-        tree = tree-reowned S.owns (handed S i s (Subject a)).owns s a (tree_of S h) r (not_root S h i a own) (below S i s h es a own unmet);
-        owned = λ c cu e. reowned-owned S.owns (handed S i s (Subject a)).owns s a r c (λ _. h.owned c cu e);
+        live = handed_live (Subject a) own;
+        controllers = controllers_of S h;
+        tree = tree_reowned S.owns (handed S i s (Subject a)).owns s a (tree_of S h) r (not_root S h i a own) (below S i s h es a own unmet);
+        owned = λ c cu e. reowned_owned S.owns (handed S i s (Subject a)).owns s a r c (λ _. h.owned c cu e);
         bound = h.bound;
       })
 
 -- i owned o, and s has not o above it where o is a subject
-pub transfer-keeps : (S : State) (i s : ℕ) (o : Name) → Valid S → exists S s ≡ true → S.owns i o ≡ true
-    → (isSubject o && meets (walk S s o)) ≡ false → Valid (handed S i s o)
-transfer-keeps S i s (Plain a) h es own unmet = object-handed S i s h es a own
-transfer-keeps S i s (Subject a) h es own unmet = subject-handed S i s h es a own unmet
+pub transfer_keeps : (S : State) (i s : ℕ) (o : Name) → Valid S → exists S s ≡ true → S.owns i o ≡ true
+    → (is_subject o && meets (walk S s o)) ≡ false → Valid (handed S i s o)
+transfer_keeps S i s (Plain a) h es own unmet = object_handed S i s h es a own
+transfer_keeps S i s (Subject a) h es own unmet = subject_handed S i s h es a own unmet

@@ -8,41 +8,41 @@ use Rattle.laws.specs.Tests.{way}
 use Rattle.matrix.specs.Bounded.{count}
 use Rattle.matrix.specs.Bytes.{bit}
 use Rattle.matrix.specs.Shaped.{Octets}
-use Rattle.laws.specs.BitOps.{bit-count}
+use Rattle.laws.specs.BitOps.{bit_count}
 use Rattle.lanes.specs.declared.Matrix.{Matrix}
-use Rattle.lanes.specs.Lanes.{merged, lows, paired, since, rowBytes, rowPlace, laneAt, upperAt, bitIn, Laid}
+use Rattle.lanes.specs.Lanes.{merged, lows, paired, since, row_bytes, row_place, lane_at, upper_at, bit_in, Laid}
 
 -- one row more
-pub merged-step : (r : ℕ) (f : ℕ → ℕ) → bit_or (merged r f) (f r) ≡ merged (r + 1) f
+pub merged_step : (r : ℕ) (f : ℕ → ℕ) → bit_or (merged r f) (f r) ≡ merged (r + 1) f
 unfolding merged
-merged-step r f = rw add-one refl
+merged_step r f = rw add-one refl
 
-pub lows-step : (r : ℕ) (f : ℕ → ℕ) → lows r f + f r % 4 ≡ lows (r + 1) f
+pub lows_step : (r : ℕ) (f : ℕ → ℕ) → lows r f + f r % 4 ≡ lows (r + 1) f
 unfolding lows
-lows-step r f = rw add-one refl
+lows_step r f = rw add-one refl
 
-pub paired-step : (r : ℕ) (f : ℕ → ℕ) → bit_xor (paired r f) (f r) ≡ paired (r + 1) f
+pub paired_step : (r : ℕ) (f : ℕ → ℕ) → bit_xor (paired r f) (f r) ≡ paired (r + 1) f
 unfolding paired
-paired-step r f = rw add-one refl
+paired_step r f = rw add-one refl
 
-pub count-le : (n : ℕ) (f : ℕ → Bool) → count n f ≤ n
+pub count_le : (n : ℕ) (f : ℕ → Bool) → count n f ≤ n
 unfolding count
-count-le zero f = omega arith
-count-le (suc n) f = let h : count n f ≤ n = count-le n f in ⊎_elim (λ e. rw e (omega arith)) (λ e. rw e (omega arith)) (way (f n))
+count_le zero f = omega arith
+count_le (suc n) f = let h : count n f ≤ n = count_le n f in ⊎_elim (λ e. rw e (omega arith)) (λ e. rw e (omega arith)) (way (f n))
 
-pub lows-le : (n : ℕ) (f : ℕ → ℕ) → lows n f ≤ 3 * n
+pub lows_le : (n : ℕ) (f : ℕ → ℕ) → lows n f ≤ 3 * n
 unfolding lows
-lows-le zero f = omega arith
-lows-le (suc n) f = let h : lows n f ≤ 3 * n = lows-le n f in omega arith
+lows_le zero f = omega arith
+lows_le (suc n) f = let h : lows n f ≤ 3 * n = lows_le n f in omega arith
 
 -- the low bits added up: how many numbers have bit 0, and twice how many have bit 1
-pub lows-counts : (n : ℕ) (f : ℕ → ℕ) → lows n f ≡ count n (λ i. bit 0 (f i)) + 2 * count n (λ i. bit 1 (f i))
+pub lows_counts : (n : ℕ) (f : ℕ → ℕ) → lows n f ≡ count n (λ i. bit 0 (f i)) + 2 * count n (λ i. bit 1 (f i))
 unfolding lows count
-lows-counts zero f = omega arith
-lows-counts (suc n) f =
-    let h : lows n f ≡ count n (λ i. bit 0 (f i)) + 2 * count n (λ i. bit 1 (f i)) = lows-counts n f in
-    let p : f n / 1 % 2 ≡ cond (bit 0 (f n)) 1 0 = bit-count 0 (f n) in
-    let q : f n / 2 % 2 ≡ cond (bit 1 (f n)) 1 0 = bit-count 1 (f n) in
+lows_counts zero f = omega arith
+lows_counts (suc n) f =
+    let h : lows n f ≡ count n (λ i. bit 0 (f i)) + 2 * count n (λ i. bit 1 (f i)) = lows_counts n f in
+    let p : f n / 1 % 2 ≡ cond (bit 0 (f n)) 1 0 = bit_count 0 (f n) in
+    let q : f n / 2 % 2 ≡ cond (bit 1 (f n)) 1 0 = bit_count 1 (f n) in
     omega arith
 
 -- the two low bits of a number are bits 0 and 1
@@ -54,64 +54,64 @@ low_bits x =
     (ap (λ (y : ℕ). eqb y 1) e, ap (λ (y : ℕ). eqb y 1) f)
 
 -- whether an odd number of them have a bit, as a number and as a test
-paired-digit : (k n : ℕ) (f : ℕ → ℕ) → paired n f / 2 ^ k % 2 ≡ count n (λ i. bit k (f i)) % 2
+paired_digit : (k n : ℕ) (f : ℕ → ℕ) → paired n f / 2 ^ k % 2 ≡ count n (λ i. bit k (f i)) % 2
 unfolding paired count
-paired-digit k zero f = ap (λ (x : ℕ). x % 2) (zero-div (2 ^ k))
-paired-digit k (suc n) f =
-    let h : paired n f / 2 ^ k % 2 ≡ count n (λ i. bit k (f i)) % 2 = paired-digit k n f in
-    let q : f n / 2 ^ k % 2 ≡ cond (bit k (f n)) 1 0 = bit-count k (f n) in
+paired_digit k zero f = ap (λ (x : ℕ). x % 2) (zero-div (2 ^ k))
+paired_digit k (suc n) f =
+    let h : paired n f / 2 ^ k % 2 ≡ count n (λ i. bit k (f i)) % 2 = paired_digit k n f in
+    let q : f n / 2 ^ k % 2 ≡ cond (bit k (f n)) 1 0 = bit_count k (f n) in
     ap (λ (x : ℕ). x % 2) (xor_shr (paired n f) (f n) k) ∙ odd (paired n f / 2 ^ k) (f n / 2 ^ k) ∙ omega arith
   where
     odd : (a b : ℕ) → bit_xor a b % 2 ≡ (a + b) % 2
     odd a b = omega (arith, xor_add_and a b)
 
-pub paired-bit : (k n : ℕ) (f : ℕ → ℕ) → bit k (paired n f) ≡ eqb (count n (λ i. bit k (f i)) % 2) 1
+pub paired_bit : (k n : ℕ) (f : ℕ → ℕ) → bit k (paired n f) ≡ eqb (count n (λ i. bit k (f i)) % 2) 1
 unfolding bit
-paired-bit k n f = ap (λ (x : ℕ). eqb x 1) (paired-digit k n f)
+paired_bit k n f = ap (λ (x : ℕ). eqb x 1) (paired_digit k n f)
 
-pub paired-odd : (n : ℕ) (f : ℕ → ℕ) → paired n f % 2 ≡ count n (λ i. bit 0 (f i)) % 2
-paired-odd n f = ap (λ (x : ℕ). x % 2) (sym (div-one (paired n f))) ∙ paired-digit 0 n f
+pub paired_odd : (n : ℕ) (f : ℕ → ℕ) → paired n f % 2 ≡ count n (λ i. bit 0 (f i)) % 2
+paired_odd n f = ap (λ (x : ℕ). x % 2) (sym (div-one (paired n f))) ∙ paired_digit 0 n f
 
 -- one row more of those from the one that passes on
-pub since-step : (r : ℕ) (f : ℕ → ℕ) → since r (λ v. bit 0 (f v)) + paired (r + 1) f % 2 ≡ since (r + 1) (λ v. bit 0 (f v))
+pub since_step : (r : ℕ) (f : ℕ → ℕ) → since r (λ v. bit 0 (f v)) + paired (r + 1) f % 2 ≡ since (r + 1) (λ v. bit 0 (f v))
 unfolding since
-since-step r f = rw add-one (ap (λ (x : ℕ). since r (λ v. bit 0 (f v)) + x) (paired-odd (suc r) f))
+since_step r f = rw add-one (ap (λ (x : ℕ). since r (λ v. bit 0 (f v)) + x) (paired_odd (suc r) f))
 
-pub since-le : (n : ℕ) (f : ℕ → Bool) → since n f ≤ n
+pub since_le : (n : ℕ) (f : ℕ → Bool) → since n f ≤ n
 unfolding since
-since-le zero f = omega arith
-since-le (suc n) f = let h : since n f ≤ n = since-le n f in omega arith
+since_le zero f = omega arith
+since_le (suc n) f = let h : since n f ≤ n = since_le n f in omega arith
 
 -- a lane's upper byte is its second one
-pub upper-byte : (b : List ℕ) (m : Matrix) (r j : ℕ) → get_or b (rowPlace m r + 2 * j + 1) 0 ≡ upperAt b m r j
-upper-byte b m r j = ap (λ (i : ℕ). get_or b i 0) (omega arith)
+pub upper_byte : (b : List ℕ) (m : Matrix) (r j : ℕ) → get_or b (row_place m r + 2 * j + 1) 0 ≡ upper_at b m r j
+upper_byte b m r j = ap (λ (i : ℕ). get_or b i 0) (omega arith)
 
 -- the place of the next row, and that a row lies in the bytes
-pub next_place : (m : Matrix) (r at : ℕ) → at ≡ rowPlace m r → at + rowBytes m ≡ rowPlace m (r + 1)
+pub next_place : (m : Matrix) (r at : ℕ) → at ≡ row_place m r → at + row_bytes m ≡ row_place m (r + 1)
 next_place m r at e =
-    let q : (r + 1) * rowBytes m ≡ r * rowBytes m + 1 * rowBytes m = add-mul r 1 (rowBytes m) in
-    let u : 1 * rowBytes m ≡ rowBytes m = one-mul (rowBytes m) in
+    let q : (r + 1) * row_bytes m ≡ r * row_bytes m + 1 * row_bytes m = add-mul r 1 (row_bytes m) in
+    let u : 1 * row_bytes m ≡ row_bytes m = one-mul (row_bytes m) in
     omega arith
 
-pub row_room : (b : List ℕ) (m : Matrix) (r : ℕ) → Laid b m → r < m.rows → rowPlace m r + rowBytes m ≤ length b
+pub row_room : (b : List ℕ) (m : Matrix) (r : ℕ) → Laid b m → r < m.rows → row_place m r + row_bytes m ≤ length b
 row_room b m r h l =
-    let p : rowPlace m r + rowBytes m ≡ rowPlace m (r + 1) = next_place m r (rowPlace m r) refl in
-    let q : (r + 1) * rowBytes m ≤ m.rows * rowBytes m = mul-le-mul_right (rowBytes m) (omega arith) in
+    let p : row_place m r + row_bytes m ≡ row_place m (r + 1) = next_place m r (row_place m r) refl in
+    let q : (r + 1) * row_bytes m ≤ m.rows * row_bytes m = mul-le-mul_right (row_bytes m) (omega arith) in
     omega (arith, h.holds)
 
 -- the first row
-pub first-place : (m : Matrix) → m.first ≡ rowPlace m 0
-first-place m = omega (arith, zero-mul (rowBytes m))
+pub first_place : (m : Matrix) → m.first ≡ row_place m 0
+first_place m = omega (arith, zero-mul (row_bytes m))
 
-pub first-room : (b : List ℕ) (m : Matrix) → Laid b m → m.first + rowBytes m ≤ length b
-first-room b m h = omega (arith, row_room b m 0 h h.some, zero-mul (rowBytes m))
+pub first_room : (b : List ℕ) (m : Matrix) → Laid b m → m.first + row_bytes m ≤ length b
+first_room b m h = omega (arith, row_room b m 0 h h.some, zero-mul (row_bytes m))
 
 -- bit i of the upper byte, in the lane as the code reads it
-pub lane-bit : (b : List ℕ) → Octets b → (m : Matrix) (i r j : ℕ) → bit (8 + i) (laneAt b m r j) ≡ bitIn b m i j r
+pub lane_bit : (b : List ℕ) → Octets b → (m : Matrix) (i r j : ℕ) → bit (8 + i) (lane_at b m r j) ≡ bit_in b m i j r
 unfolding bit
-lane-bit b octets m i r j =
-    let h : get_or b (rowPlace m r + 2 * j) 0 < 256 = octets.octet (rowPlace m r + 2 * j) in
-    let e : get_or b (rowPlace m r + 2 * j + 1) 0 ≡ upperAt b m r j = upper-byte b m r j in
-    let q : laneAt b m r j / 256 ≡ upperAt b m r j = omega arith in
-    ap (λ (x : ℕ). eqb (laneAt b m r j / x % 2) 1) (pow-add 2 8 i) ∙ ap (λ (x : ℕ). eqb (x % 2) 1) (sym (div-div-eq-div-mul (laneAt b m r j) 256 (2 ^ i)))
+lane_bit b octets m i r j =
+    let h : get_or b (row_place m r + 2 * j) 0 < 256 = octets.octet (row_place m r + 2 * j) in
+    let e : get_or b (row_place m r + 2 * j + 1) 0 ≡ upper_at b m r j = upper_byte b m r j in
+    let q : lane_at b m r j / 256 ≡ upper_at b m r j = omega arith in
+    ap (λ (x : ℕ). eqb (lane_at b m r j / x % 2) 1) (pow-add 2 8 i) ∙ ap (λ (x : ℕ). eqb (x % 2) 1) (sym (div-div-eq-div-mul (lane_at b m r j) 256 (2 ^ i)))
     ∙ ap (λ (x : ℕ). eqb (x / 2 ^ i % 2) 1) q

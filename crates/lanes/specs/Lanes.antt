@@ -34,42 +34,42 @@ abbrev pub mark_of : ℕ → (ℕ → Bool) → ℕ
 mark_of n f = place_of n (since n f)
 
 -- 1 where a test fails, else 0
-abbrev pub faultOf : Bool → ℕ
-faultOf t = cond t 0 1
+abbrev pub fault_of : Bool → ℕ
+fault_of t = cond t 0 1
 
 -- the bytes of a row, two for each lane, and the first byte of row r
-abbrev pub rowBytes : Matrix → ℕ
-rowBytes m = 2 * m.lanes
+abbrev pub row_bytes : Matrix → ℕ
+row_bytes m = 2 * m.lanes
 
-abbrev pub rowPlace : Matrix → ℕ → ℕ
-rowPlace m r = m.first + r * rowBytes m
+abbrev pub row_place : Matrix → ℕ → ℕ
+row_place m r = m.first + r * row_bytes m
 
 -- byte j of row r
 abbrev pub byte_at : List ℕ → Matrix → ℕ → ℕ → ℕ
-byte_at b m r j = get_or b (rowPlace m r + j) 0
+byte_at b m r j = get_or b (row_place m r + j) 0
 
 -- the lane from byte `at` on, as the code reads it: the first byte is the lower one
-abbrev pub laneIn : List ℕ → ℕ → ℕ
-laneIn b at = get_or b at 0 + get_or b (at + 1) 0 * 256
+abbrev pub lane_in : List ℕ → ℕ → ℕ
+lane_in b at = get_or b at 0 + get_or b (at + 1) 0 * 256
 
 -- lane j of row r, its upper byte, and a bit of that
-abbrev pub laneAt : List ℕ → Matrix → ℕ → ℕ → ℕ
-laneAt b m r j = laneIn b (rowPlace m r + 2 * j)
+abbrev pub lane_at : List ℕ → Matrix → ℕ → ℕ → ℕ
+lane_at b m r j = lane_in b (row_place m r + 2 * j)
 
-abbrev pub upperAt : List ℕ → Matrix → ℕ → ℕ → ℕ
-upperAt b m r j = byte_at b m r (2 * j + 1)
+abbrev pub upper_at : List ℕ → Matrix → ℕ → ℕ → ℕ
+upper_at b m r j = byte_at b m r (2 * j + 1)
 
-abbrev pub bitIn : List ℕ → Matrix → ℕ → ℕ → ℕ → Bool
-bitIn b m i j r = bit i (upperAt b m r j)
+abbrev pub bit_in : List ℕ → Matrix → ℕ → ℕ → ℕ → Bool
+bit_in b m i j r = bit i (upper_at b m r j)
 
 -- bytes that hold a row or more
 pub record Laid (b : List ℕ) (m : Matrix) : Type 0 where
   pub some : 1 ≤ m.rows
-  pub holds : rowPlace m m.rows ≤ length b
+  pub holds : row_place m m.rows ≤ length b
 
 -- the bits that are seen in lane j, over all rows
 abbrev pub seen_at : List ℕ → Matrix → ℕ → ℕ
-seen_at b m j = merged m.rows (λ v. laneAt b m v j)
+seen_at b m j = merged m.rows (λ v. lane_at b m v j)
 
 -- a list of `room` places of which the first k have what is seen in k lanes from lane c on
 pub record Seen (b : List ℕ) (m : Matrix) (c k room : ℕ) (seen : List ℕ) : Type 0 where
@@ -80,6 +80,6 @@ pub record Seen (b : List ℕ) (m : Matrix) (c k room : ℕ) (seen : List ℕ) :
 -- and twice how many have the other; which of these two bits an odd number of rows have; and the row that has the lowest bit, where just one has
 -- it, or 0 where none has.
 pub record Counted (room : ℕ) (b : List ℕ) (m : Matrix) (upto : ℕ) (tally odd marks : List ℕ) : Type 0 where
-  pub sums : Holds room upto (λ j. lows m.rows (λ v. upperAt b m v j)) tally
-  pub parity : Holds room upto (λ j. paired m.rows (λ v. upperAt b m v j) % 4) odd
-  pub owner : Holds room upto (λ j. mark_of m.rows (bitIn b m 0 j)) marks
+  pub sums : Holds room upto (λ j. lows m.rows (λ v. upper_at b m v j)) tally
+  pub parity : Holds room upto (λ j. paired m.rows (λ v. upper_at b m v j) % 4) odd
+  pub owner : Holds room upto (λ j. mark_of m.rows (bit_in b m 0 j)) marks

@@ -6,24 +6,24 @@ use Rattle.std.proofs.lemmas.Nat.{and_le_l, and_le_r}
 use Rattle.std.proofs.lemmas.Bool.{eqb-false}
 use Rattle.matrix.specs.Bounded.{all}
 use Rattle.laws.specs.Tests.{way, same_test, and_left, and_right, and_both}
-use Rattle.laws.specs.Bounded.{all_same, all-each, each_all}
+use Rattle.laws.specs.Bounded.{all_same, all_each, each_all}
 use Rattle.lanes.specs.declared.Matrix.{Matrix}
-use Rattle.lanes.specs.Lanes.{merged, faultOf, rowBytes, byte_at, laneAt, upperAt}
-use Rattle.lanes.specs.LaneLaws.{merged-step, upper-byte}
+use Rattle.lanes.specs.Lanes.{merged, fault_of, row_bytes, byte_at, lane_at, upper_at}
+use Rattle.lanes.specs.LaneLaws.{merged_step, upper_byte}
 
 -- bytes merged one after another
-pub merged-none : (f : ℕ → ℕ) → 0 ≡ merged 0 f
+pub merged_none : (f : ℕ → ℕ) → 0 ≡ merged 0 f
 unfolding merged
-merged-none f = refl
+merged_none f = refl
 
-pub merged-more : (i : ℕ) (f : ℕ → ℕ) (v : ℕ) → v ≡ merged i f → bit_or v (f i) ≡ merged (i + 1) f
-merged-more i f v e = ap (λ (x : ℕ). bit_or x (f i)) e ∙ merged-step i f
+pub merged_more : (i : ℕ) (f : ℕ → ℕ) (v : ℕ) → v ≡ merged i f → bit_or v (f i) ≡ merged (i + 1) f
+merged_more i f v e = ap (λ (x : ℕ). bit_or x (f i)) e ∙ merged_step i f
 
-pub merged-done : (i m : ℕ) (f : ℕ → ℕ) (v : ℕ) → i ≤ m → m ≤ i → v ≡ merged i f → eqb v 0 ≡ eqb (merged m f) 0
-merged-done i m f v h l e = subst (λ (j : ℕ). eqb v 0 ≡ eqb (merged j f) 0) (omega arith) (ap (λ (x : ℕ). eqb x 0) e)
+pub merged_done : (i m : ℕ) (f : ℕ → ℕ) (v : ℕ) → i ≤ m → m ≤ i → v ≡ merged i f → eqb v 0 ≡ eqb (merged m f) 0
+merged_done i m f v h l e = subst (λ (j : ℕ). eqb v 0 ≡ eqb (merged j f) 0) (omega arith) (ap (λ (x : ℕ). eqb x 0) e)
 
-pub or-zero : (a b : ℕ) → eqb (bit_or a b) 0 ≡ (eqb a 0 && eqb b 0)
-or-zero a b = same_test _ _ forth back
+pub or_zero : (a b : ℕ) → eqb (bit_or a b) 0 ≡ (eqb a 0 && eqb b 0)
+or_zero a b = same_test _ _ forth back
   where
     total : bit_or a b + bit_and a b ≡ a + b
     total = or_add_and a b
@@ -40,33 +40,33 @@ or-zero a b = same_test _ _ forth back
         eq-eqb (bit_or a b) 0 (omega (arith, total))
 
 -- all of them are zero
-pub merged-zero : (n : ℕ) (f : ℕ → ℕ) → eqb (merged n f) 0 ≡ all n (λ i. eqb (f i) 0)
+pub merged_zero : (n : ℕ) (f : ℕ → ℕ) → eqb (merged n f) 0 ≡ all n (λ i. eqb (f i) 0)
 unfolding merged all
-merged-zero zero f = refl
-merged-zero (suc n) f = or-zero (merged n f) (f n) ∙ ap (λ (t : Bool). t && eqb (f n) 0) (merged-zero n f)
+merged_zero zero f = refl
+merged_zero (suc n) f = or_zero (merged n f) (f n) ∙ ap (λ (t : Bool). t && eqb (f n) 0) (merged_zero n f)
 
 -- where the first test passes, there is no fault yet
-pub first-fault : (f : ℕ → Bool) → f 0 ≡ true → 0 ≡ merged 1 (λ i. faultOf (f i))
+pub first_fault : (f : ℕ → Bool) → f 0 ≡ true → 0 ≡ merged 1 (λ i. fault_of (f i))
 unfolding merged
-first-fault f e = rw e refl
+first_fault f e = rw e refl
 
 -- no test has a fault
-pub no-fault : (n : ℕ) (f : ℕ → Bool) → eqb (merged n (λ i. faultOf (f i))) 0 ≡ all n f
-no-fault n f = merged-zero n (λ i. faultOf (f i)) ∙ all_same n _ _ (λ i l. one (f i))
+pub no_fault : (n : ℕ) (f : ℕ → Bool) → eqb (merged n (λ i. fault_of (f i))) 0 ≡ all n f
+no_fault n f = merged_zero n (λ i. fault_of (f i)) ∙ all_same n _ _ (λ i l. one (f i))
   where
-    one : (t : Bool) → eqb (faultOf t) 0 ≡ t
+    one : (t : Bool) → eqb (fault_of t) 0 ≡ t
     one true = refl
     one false = refl
 
 -- what holds of 2 k bytes holds of each pair of them
-all-pairs : (k : ℕ) (t : ℕ → Bool) → all (2 * k) t ≡ all k (λ c. t (2 * c) && t (2 * c + 1))
-all-pairs k t =
+all_pairs : (k : ℕ) (t : ℕ → Bool) → all (2 * k) t ≡ all k (λ c. t (2 * c) && t (2 * c + 1))
+all_pairs k t =
     same_test _ _
-    (λ h. each_all k _ (λ c l. and_both (all-each (2 * k) t h (2 * c) (omega arith)) (all-each (2 * k) t h (2 * c + 1) (omega arith))))
+    (λ h. each_all k _ (λ c l. and_both (all_each (2 * k) t h (2 * c) (omega arith)) (all_each (2 * k) t h (2 * c + 1) (omega arith))))
     (λ h. each_all (2 * k) t (λ j l. pair h j l (way (eqb (j % 2) 0))))
   where
     at : all k (λ c. t (2 * c) && t (2 * c + 1)) ≡ true → (j : ℕ) → j < 2 * k → (t (2 * (j / 2)) && t (2 * (j / 2) + 1)) ≡ true
-    at h j l = all-each k (λ c. t (2 * c) && t (2 * c + 1)) h (j / 2) (omega arith)
+    at h j l = all_each k (λ c. t (2 * c) && t (2 * c + 1)) h (j / 2) (omega arith)
 
     pair : all k (λ c. t (2 * c) && t (2 * c + 1)) ≡ true → (j : ℕ) → j < 2 * k → (eqb (j % 2) 0 ≡ true) ⊎ (eqb (j % 2) 0 ≡ false) → t j ≡ true
     pair h j l (inl e) =
@@ -79,18 +79,18 @@ all-pairs k t =
         subst (λ (i : ℕ). t i ≡ true) q (and_right (t (2 * (j / 2))) _ (at h j l))
 
 -- a lane is zero where both its bytes are, and a row of bytes where each of its lanes is
-lane-zero : (b : List ℕ) (m : Matrix) (r j : ℕ) → (eqb (byte_at b m r (2 * j)) 0 && eqb (byte_at b m r (2 * j + 1)) 0) ≡ eqb (laneAt b m r j) 0
-lane-zero b m r j = same_test _ _ forth back
+lane_zero : (b : List ℕ) (m : Matrix) (r j : ℕ) → (eqb (byte_at b m r (2 * j)) 0 && eqb (byte_at b m r (2 * j + 1)) 0) ≡ eqb (lane_at b m r j) 0
+lane_zero b m r j = same_test _ _ forth back
   where
-    forth : (eqb (byte_at b m r (2 * j)) 0 && eqb (byte_at b m r (2 * j + 1)) 0) ≡ true → eqb (laneAt b m r j) 0 ≡ true
+    forth : (eqb (byte_at b m r (2 * j)) 0 && eqb (byte_at b m r (2 * j + 1)) 0) ≡ true → eqb (lane_at b m r j) 0 ≡ true
     forth h =
         let p : byte_at b m r (2 * j) ≡ 0 = eqb-true _ 0 (and_left _ _ h) in
-        let q : upperAt b m r j ≡ 0 = eqb-true _ 0 (and_right (eqb (byte_at b m r (2 * j)) 0) _ h) in
-        eq-eqb (laneAt b m r j) 0 (omega (arith, upper-byte b m r j))
+        let q : upper_at b m r j ≡ 0 = eqb-true _ 0 (and_right (eqb (byte_at b m r (2 * j)) 0) _ h) in
+        eq-eqb (lane_at b m r j) 0 (omega (arith, upper_byte b m r j))
 
-    back : eqb (laneAt b m r j) 0 ≡ true → (eqb (byte_at b m r (2 * j)) 0 && eqb (byte_at b m r (2 * j + 1)) 0) ≡ true
-    back h = let e : laneAt b m r j ≡ 0 = eqb-true _ 0 h in and_both (eq-eqb (byte_at b m r (2 * j)) 0 (omega arith)) (eq-eqb (upperAt b m r j) 0 (omega (arith, upper-byte b m r j)))
+    back : eqb (lane_at b m r j) 0 ≡ true → (eqb (byte_at b m r (2 * j)) 0 && eqb (byte_at b m r (2 * j + 1)) 0) ≡ true
+    back h = let e : lane_at b m r j ≡ 0 = eqb-true _ 0 h in and_both (eq-eqb (byte_at b m r (2 * j)) 0 (omega arith)) (eq-eqb (upper_at b m r j) 0 (omega (arith, upper_byte b m r j)))
 
-pub row_zero : (b : List ℕ) (m : Matrix) (r : ℕ) → eqb (merged (rowBytes m) (λ j. byte_at b m r j)) 0 ≡ all m.lanes (λ j. eqb (laneAt b m r j) 0)
+pub row_zero : (b : List ℕ) (m : Matrix) (r : ℕ) → eqb (merged (row_bytes m) (λ j. byte_at b m r j)) 0 ≡ all m.lanes (λ j. eqb (lane_at b m r j) 0)
 row_zero b m r =
-    merged-zero (rowBytes m) (λ j. byte_at b m r j) ∙ all-pairs m.lanes (λ j. eqb (byte_at b m r j) 0) ∙ all_same m.lanes _ _ (λ j l. lane-zero b m r j)
+    merged_zero (row_bytes m) (λ j. byte_at b m r j) ∙ all_pairs m.lanes (λ j. eqb (byte_at b m r j) 0) ∙ all_same m.lanes _ _ (λ j l. lane_zero b m r j)

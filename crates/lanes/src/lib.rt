@@ -1,13 +1,16 @@
 // Lanes of 16 bits, row after row, as the passes over a record read them.
+
+#![tactic(auto)]
+
 ghost use Rattle.std.specs.Prelude.{◌≡◌, ◌+◌, ◌/◌, ◌≤◌, ◌<◌, length, get_or};
 ghost use Rattle.lanes.specs.Lists.{Part};
-ghost use Rattle.lanes.specs.Lanes.{faultOf, laneIn};
+ghost use Rattle.lanes.specs.Lanes.{fault_of, lane_in};
 
 // What the upper byte of a lane counts.
 pub const UPPER: u16 = 256;
 
 // Where lanes lie: `rows` rows of `lanes` lanes each, the first lane at byte `first`.
-#[derive(Drop)]
+#[derive(Clone, Copy)]
 pub struct Matrix {
     pub first: usize,
     pub rows: usize,
@@ -17,7 +20,7 @@ pub struct Matrix {
 // The lane from byte `at` on. Its first byte is the lower one, so that the compiler may read both at once.
 pub fn lane(b: &[u8], at: usize) -> u16
     requires { at + 1 < length b.now }
-    ensures word { result ≡ laneIn b.now at }
+    ensures word { result ≡ lane_in b.now at }
     ensures low { result / 256 ≡ get_or b.now (at + 1) 0 }
 {
     b[at] as u16 + b[at + 1] as u16 * UPPER
@@ -33,7 +36,7 @@ pub fn part(c: usize, w: usize, lanes: usize) -> usize
 
 // 1 where a test fails, else 0: for loops that make all tests before they answer, so that the compiler may make many at once.
 pub fn fault(passes: bool) -> u8
-    ensures { result ≡ faultOf passes }
+    ensures { result ≡ fault_of passes }
 {
     if passes { 0 } else { 1 }
 }

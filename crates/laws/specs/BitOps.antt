@@ -23,23 +23,23 @@ two_digits P a b c d (suc (suc x)) y h l = absurd (omega arith)
 module _ (op : ℕ → ℕ → ℕ) (t : Bool → Bool → Bool) (shr : (a b k : ℕ) → op a b / 2 ^ k ≡ op (a / 2 ^ k) (b / 2 ^ k))
     (rest : (a b k : ℕ) → op a b % 2 ^ k ≡ op (a % 2 ^ k) (b % 2 ^ k))
     (digits : (x y : ℕ) → x < 2 → y < 2 → eqb (op x y) 1 ≡ t (eqb x 1) (eqb y 1)) where
-  bit-joined : (k a b : ℕ) → bit k (op a b) ≡ t (bit k a) (bit k b)
+  bit_joined : (k a b : ℕ) → bit k (op a b) ≡ t (bit k a) (bit k b)
   unfolding bit
-  bit-joined k a b =
+  bit_joined k a b =
       ap (λ (x : ℕ). eqb (x % 2) 1) (shr a b k) ∙ ap (λ (x : ℕ). eqb x 1) (rest (a / 2 ^ k) (b / 2 ^ k) 1)
       ∙ digits (a / 2 ^ k % 2) (b / 2 ^ k % 2) (omega arith) (omega arith)
 
 -- both of two numbers have the bit; one of them has
-pub bit-and : (k a b : ℕ) → bit k (bit_and a b) ≡ (bit k a && bit k b)
-bit-and = bit-joined bit_and (λ t u. t && u) and_shr and_mod (two_digits (λ x y. eqb (bit_and x y) 1 ≡ (eqb x 1 && eqb y 1)) refl refl refl refl)
+pub bit_and_lem : (k a b : ℕ) → bit k (bit_and a b) ≡ (bit k a && bit k b)
+bit_and_lem = bit_joined bit_and (λ t u. t && u) and_shr and_mod (two_digits (λ x y. eqb (bit_and x y) 1 ≡ (eqb x 1 && eqb y 1)) refl refl refl refl)
 
-pub bit-or : (k a b : ℕ) → bit k (bit_or a b) ≡ (bit k a || bit k b)
-bit-or = bit-joined bit_or (λ t u. t || u) or_shr or_mod (two_digits (λ x y. eqb (bit_or x y) 1 ≡ (eqb x 1 || eqb y 1)) refl refl refl refl)
+pub bit_or_lem : (k a b : ℕ) → bit k (bit_or a b) ≡ (bit k a || bit k b)
+bit_or_lem = bit_joined bit_or (λ t u. t || u) or_shr or_mod (two_digits (λ x y. eqb (bit_or x y) 1 ≡ (eqb x 1 || eqb y 1)) refl refl refl refl)
 
 -- a bit, as the number that is counted
-pub bit-count : (k v : ℕ) → v / 2 ^ k % 2 ≡ cond (bit k v) 1 0
+pub bit_count : (k v : ℕ) → v / 2 ^ k % 2 ≡ cond (bit k v) 1 0
 unfolding bit
-bit-count k v = ⊎_elim (λ h. rw h (eqb-true (v / 2 ^ k % 2) 1 h)) (λ h. rw h (zero_left (eqb-false (v / 2 ^ k % 2) 1 h))) (way (eqb (v / 2 ^ k % 2) 1))
+bit_count k v = ⊎_elim (λ h. rw h (eqb-true (v / 2 ^ k % 2) 1 h)) (λ h. rw h (zero_left (eqb-false (v / 2 ^ k % 2) 1 h))) (way (eqb (v / 2 ^ k % 2) 1))
   where
     zero_left : (v / 2 ^ k % 2 ≡ 1 → ⊥) → v / 2 ^ k % 2 ≡ 0
     zero_left ne = omega arith

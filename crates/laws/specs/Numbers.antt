@@ -8,12 +8,12 @@ use Rattle.matrix.specs.declared.Answer.{Answer}
 use Rattle.matrix.specs.declared.Holding.{Holding}
 use Rattle.matrix.specs.declared.Outcome.{Outcome}
 use Rattle.matrix.specs.declared.Numbers.{Numbers}
-use Rattle.matrix.specs.Numbers.{truth, numbers, heldNumbers, commandNumbers, runNumbers}
+use Rattle.matrix.specs.Numbers.{truth, numbers, held_numbers, command_numbers, run_numbers}
 use Rattle.matrix.specs.Step.{answer}
 use Rattle.matrix.specs.Shape.{limits, shape_of}
 use Rattle.matrix.specs.Reading.{state_of}
-use Rattle.matrix.specs.Record.{recordRefusal}
-use Rattle.matrix.specs.Calls.{heldRefusal, holdsOn, heldAnswer, heldResult, refusalOn, linksOn, commandAnswer, commandResult, runRefusal, runAnswer, runResult}
+use Rattle.matrix.specs.Record.{record_refusal}
+use Rattle.matrix.specs.Calls.{held_refusal, holds_on, held_answer, held_result, refusal_on, links_on, command_answer, command_result, run_refusal, run_answer, run_result}
 use Rattle.laws.specs.Tests.{way}
 use mir.Val.{bool_byte}
 
@@ -22,43 +22,43 @@ pub digit : (t : Bool) → truth t ≡ bool_byte t
 digit true = refl
 digit false = refl
 
-pub answer-numbers : (number links : ℕ) → commandNumbers (answer number links) ≡ numbers number links
-answer-numbers number links =
+pub answer_numbers : (number links : ℕ) → command_numbers (answer number links) ≡ numbers number links
+answer_numbers number links =
     ⊎_elim (λ e. rw e (ap (λ (m : ℕ). numbers m links) (sym (eqb-true number 0 e)))) (λ e. rw e refl) (way (eqb number 0))
 
 -- the number alone
-pub answer-number : (number links : ℕ) → (commandNumbers (answer number links)).refusal ≡ number
-answer-number number links = ap (λ (r : Numbers). r.refusal) (answer-numbers number links)
+pub answer_number : (number links : ℕ) → (command_numbers (answer number links)).refusal ≡ number
+answer_number number links = ap (λ (r : Numbers). r.refusal) (answer_numbers number links)
 
 -- yes or no in numbers
-said : (t : Bool) → heldNumbers (cond t Holding.Yes Holding.No) ≡ numbers 0 (truth t)
+said : (t : Bool) → held_numbers (cond t Holding.Yes Holding.No) ≡ numbers 0 (truth t)
 said true = refl
 said false = refl
 
 module _ (b : List ℕ) where
-  held-case : (s o right : ℕ) → heldNumbers (heldAnswer limits b s o right) ≡ heldResult limits b s o right
-  unfolding heldAnswer heldResult
-  held-case s o right =
-      let number = heldRefusal limits b s o right in
-      let yes = truth (holdsOn b s o right) in
-      ⊎_elim (λ e. rw e (said (holdsOn b s o right) ∙ ap (λ (m : ℕ). numbers m yes) (sym (eqb-true number 0 e)))) (λ e. rw e refl) (way (eqb number 0))
+  held_case : (s o right : ℕ) → held_numbers (held_answer limits b s o right) ≡ held_result limits b s o right
+  unfolding held_answer held_result
+  held_case s o right =
+      let number = held_refusal limits b s o right in
+      let yes = truth (holds_on b s o right) in
+      ⊎_elim (λ e. rw e (said (holds_on b s o right) ∙ ap (λ (m : ℕ). numbers m yes) (sym (eqb-true number 0 e)))) (λ e. rw e refl) (way (eqb number 0))
 
-  command-case : (c : Fields) → commandNumbers (commandAnswer limits b c) ≡ commandResult limits b c
-  unfolding commandAnswer commandResult
-  command-case c =
-      let step = answer-numbers (refusalOn (shape_of b) (state_of b) c) (linksOn (shape_of b) (state_of b) c) in
-      ⊎_elim (λ e. rw e step) (λ e. rw e refl) (way (eqb (recordRefusal limits b) 0))
+  command_case : (c : Fields) → command_numbers (command_answer limits b c) ≡ command_result limits b c
+  unfolding command_answer command_result
+  command_case c =
+      let step = answer_numbers (refusal_on (shape_of b) (state_of b) c) (links_on (shape_of b) (state_of b) c) in
+      ⊎_elim (λ e. rw e step) (λ e. rw e refl) (way (eqb (record_refusal limits b) 0))
 
-  run-case : (l : List ℕ) → runNumbers (runAnswer limits b l) ≡ runResult limits b l
-  unfolding runAnswer runResult
-  run-case l = ⊎_elim (λ e. rw e refl) (λ e. rw e refl) (way (eqb (runRefusal limits b l) 0))
+  run_case : (l : List ℕ) → run_numbers (run_answer limits b l) ≡ run_result limits b l
+  unfolding run_answer run_result
+  run_case l = ⊎_elim (λ e. rw e refl) (λ e. rw e refl) (way (eqb (run_refusal limits b l) 0))
 
   -- an answer that is the definition's has the definition's numbers
-  pub held-numbers : (s o right : ℕ) {r : Holding} → r ≡ heldAnswer limits b s o right → heldNumbers r ≡ heldResult limits b s o right
-  held-numbers s o right h = ap heldNumbers h ∙ held-case s o right
+  pub held_numbers_lem : (s o right : ℕ) {r : Holding} → r ≡ held_answer limits b s o right → held_numbers r ≡ held_result limits b s o right
+  held_numbers_lem s o right h = ap held_numbers h ∙ held_case s o right
 
-  pub command-numbers : (c : Fields) {r : Answer} → r ≡ commandAnswer limits b c → commandNumbers r ≡ commandResult limits b c
-  command-numbers c h = ap commandNumbers h ∙ command-case c
+  pub command_numbers_lem : (c : Fields) {r : Answer} → r ≡ command_answer limits b c → command_numbers r ≡ command_result limits b c
+  command_numbers_lem c h = ap command_numbers h ∙ command_case c
 
-  pub run-numbers : (l : List ℕ) {r : Outcome} → r ≡ runAnswer limits b l → runNumbers r ≡ runResult limits b l
-  run-numbers l h = ap runNumbers h ∙ run-case l
+  pub run_numbers_lem : (l : List ℕ) {r : Outcome} → r ≡ run_answer limits b l → run_numbers r ≡ run_result limits b l
+  run_numbers_lem l h = ap run_numbers h ∙ run_case l

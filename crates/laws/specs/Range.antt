@@ -20,6 +20,6 @@ ranged most f h =
       plain = leb-true f.p most.plain (and_right subjects (leb f.p most.plain) h);
     }
 
-pub in-range : (most : Limits) (f : Shape) → Ranged most f → in_range most f ≡ true
-in-range most f r =
+pub in_range_lem : (most : Limits) (f : Shape) → Ranged most f → in_range most f ≡ true
+in_range_lem most f r =
     and_both (and_both (le-leb 1 f.n r.low) (le-leb f.n most.subjects r.high)) (le-leb f.p most.plain r.plain)

@@ -22,8 +22,8 @@ holds true h = refl
 holds false h = absurd (h refl)
 
 -- a test that fails, negated
-pub fails-not : {t : Bool} → t ≡ false → not t ≡ true
-fails-not {t} h = rw h refl
+pub fails_not : {t : Bool} → t ≡ false → not t ≡ true
+fails_not {t} h = rw h refl
 
 -- tests that hold where the other does are equal
 pub same_test : (t u : Bool) → (t ≡ true → u ≡ true) → (u ≡ true → t ≡ true) → t ≡ u
@@ -53,17 +53,17 @@ pub or_right : (t : Bool) {u : Bool} → u ≡ true → (t || u) ≡ true
 or_right true h = refl
 or_right false h = h
 
-pub or-none-left : (t u : Bool) → (t || u) ≡ false → t ≡ false
-or-none-left true u h = h
-or-none-left false u h = refl
+pub or_none_left : (t u : Bool) → (t || u) ≡ false → t ≡ false
+or_none_left true u h = h
+or_none_left false u h = refl
 
-pub or-none-right : (t u : Bool) → (t || u) ≡ false → u ≡ false
-or-none-right true u h = absurd (clash refl h)
-or-none-right false u h = h
+pub or_none_right : (t u : Bool) → (t || u) ≡ false → u ≡ false
+or_none_right true u h = absurd (clash refl h)
+or_none_right false u h = h
 
 -- an alternative that fails leaves the other
-pub or-other : {t u : Bool} → (t || u) ≡ true → t ≡ false → u ≡ true
-or-other {t} {u} h e = let r : (false || u) ≡ true = rw e at h in r
+pub or_other : {t u : Bool} → (t || u) ≡ true → t ≡ false → u ≡ true
+or_other {t} {u} h e = let r : (false || u) ≡ true = rw e at h in r
 
 -- a choice between two tests holds where the one that is chosen does
 pub cond_cases : (t a b : Bool) → cond t a b ≡ true → ((t ≡ true) × (a ≡ true)) ⊎ ((t ≡ false) × (b ≡ true))
@@ -79,11 +79,11 @@ cond_both false u v m = refl
 pub and_then : {t e r x : Bool} → t ≡ true → t ≡ e → r ≡ x → r ≡ (e && x)
 and_then {x = x} h f g = g ∙ ap (λ (e : Bool). e && x) (sym h ∙ f)
 
-pub and-stop : {t e : Bool} (x : Bool) → t ≡ false → t ≡ e → false ≡ (e && x)
-and-stop x h f = ap (λ (e : Bool). e && x) (sym h ∙ f)
+pub and_stop : {t e : Bool} (x : Bool) → t ≡ false → t ≡ e → false ≡ (e && x)
+and_stop x h f = ap (λ (e : Bool). e && x) (sym h ∙ f)
 
-pub or-next : {t e r x : Bool} → t ≡ false → t ≡ e → r ≡ x → r ≡ (e || x)
-or-next {x = x} h f g = g ∙ ap (λ (e : Bool). e || x) (sym h ∙ f)
+pub or_next : {t e r x : Bool} → t ≡ false → t ≡ e → r ≡ x → r ≡ (e || x)
+or_next {x = x} h f g = g ∙ ap (λ (e : Bool). e || x) (sym h ∙ f)
 
-pub or-stop : {t e : Bool} (x : Bool) → t ≡ true → t ≡ e → true ≡ (e || x)
-or-stop x h f = ap (λ (e : Bool). e || x) (sym h ∙ f)
+pub or_stop : {t e : Bool} (x : Bool) → t ≡ true → t ≡ e → true ≡ (e || x)
+or_stop x h f = ap (λ (e : Bool). e || x) (sym h ∙ f)

@@ -1,9 +1,11 @@
 // A list of commands: its form, and the numbers in it.
 
+#![tactic(auto)]
+
 ghost use Rattle.std.specs.Prelude.{◌≡◌, ◌+◌, ◌^◌, ◌≤◌, ◌<◌, length};
 ghost use Rattle.matrix.specs.Bytes.{number_at};
-ghost use Rattle.matrix.specs.CommandList.{listHead, commandPlace, wellFormed};
-ghost use Rattle.lists.specs.Forms.{lengthsRight, countRight};
+ghost use Rattle.matrix.specs.CommandList.{list_head, command_place, well_formed};
+ghost use Rattle.lists.specs.Forms.{lengths_right, count_right};
 
 use matrix::{LENGTH_BYTE, LIST_HEAD, MOST_LIST_BYTES, RECORD_BYTES};
 
@@ -28,7 +30,7 @@ pub fn number(l: &[u8], at: usize) -> usize
 
 // The number of bytes after the head, as the list says it.
 fn count(l: &[u8]) -> usize
-    requires { listHead ≤ length l.now }
+    requires { list_head ≤ length l.now }
     ensures { result ≡ number_at l.now 1 4 }
 {
     number(l, 1)
@@ -36,8 +38,8 @@ fn count(l: &[u8]) -> usize
 
 // Whether the length byte of each of the first m commands is right.
 fn lengths_right(l: &[u8], m: usize) -> bool
-    requires { commandPlace m ≤ length l.now }
-    ensures { result ≡ lengthsRight l.now m }
+    requires { command_place m ≤ length l.now }
+    ensures { result ≡ lengths_right l.now m }
 {
     for j in 0..m {
         if l[LIST_HEAD + RECORD_BYTES * j] != LENGTH_BYTE {
@@ -50,7 +52,7 @@ fn lengths_right(l: &[u8], m: usize) -> bool
 // Whether the list has the length that its head says, within bounds, in whole commands of the right form.
 fn count_right(l: &[u8], count: usize) -> bool
     requires { count < 256 ^ 4 }
-    ensures { result ≡ countRight l.now count }
+    ensures { result ≡ count_right l.now count }
 {
     if LIST_HEAD + count != l.len() {
         return false;
@@ -66,7 +68,7 @@ fn count_right(l: &[u8], count: usize) -> bool
 
 // Whether the list is of the right form.
 pub fn well_formed(l: &[u8]) -> bool
-    ensures { result ≡ wellFormed l.now }
+    ensures { result ≡ well_formed l.now }
 {
     if l.len() < LIST_HEAD {
         return false;

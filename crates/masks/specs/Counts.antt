@@ -5,44 +5,44 @@ use Rattle.std.proofs.Math.Arith.{lt-one}
 use Rattle.std.specs.Int.Count.{count_trailing_zeros, under, ones, ones_step}
 use Rattle.matrix.specs.Bounded.{any, count, least}
 use Rattle.matrix.specs.Bytes.{bit}
-use Rattle.laws.specs.Bounded.{least-same, count_same, least-hit}
-use Rattle.masks.specs.Digits.{bit-half}
-use Rattle.masks.specs.Searches.{least-next, count_next}
+use Rattle.laws.specs.Bounded.{least_same, count_same, least_hit}
+use Rattle.masks.specs.Digits.{bit_half}
+use Rattle.masks.specs.Searches.{least_next, count_next}
 
 -- the lowest bit is the lowest digit
-bit-lowest : (v d : ℕ) → v % 2 ≡ d → bit 0 v ≡ eqb d 1
+bit_lowest : (v d : ℕ) → v % 2 ≡ d → bit 0 v ≡ eqb d 1
 unfolding bit
-bit-lowest v d e = let q : v / 1 % 2 ≡ d = omega arith in ap (λ (d : ℕ). eqb d 1) q
+bit_lowest v d e = let q : v / 1 % 2 ≡ d = omega arith in ap (λ (d : ℕ). eqb d 1) q
 
 none : (f : ℕ → Bool) → any 0 f ≡ false
 unfolding any
 none f = refl
 
 -- the lowest bit that is set, none below it
-pub trailing-least : (k v : ℕ) → count_trailing_zeros k v ≡ least k (λ j. bit j v)
+pub trailing_least : (k v : ℕ) → count_trailing_zeros k v ≡ least k (λ j. bit j v)
 unfolding count_trailing_zeros least
-trailing-least zero v = refl
-trailing-least (suc k) v = by (v % 2) refl (mod-lt v (omega arith)) (trailing-least k (v / 2))
+trailing_least zero v = refl
+trailing_least (suc k) v = by (v % 2) refl (mod-lt v (omega arith)) (trailing_least k (v / 2))
   where
     by : (d : ℕ) → v % 2 ≡ d → d < 2 → count_trailing_zeros k (v / 2) ≡ least k (λ j. bit j (v / 2))
         → under d (count_trailing_zeros k (v / 2)) ≡ least (suc k) (λ j. bit j v)
     by zero e h q =
-        ap suc (q ∙ sym (least-same k (λ j. bit (suc j) v) (λ j. bit j (v / 2)) (λ j l. bit-half j v)))
-        ∙ sym (least-next k (λ j. bit j v) (bit-lowest v 0 e))
-    by (suc zero) e h q = sym (least-hit (suc k) (λ j. bit j v) 0 (omega arith) (none (λ j. bit j v)) (bit-lowest v 1 e))
+        ap suc (q ∙ sym (least_same k (λ j. bit (suc j) v) (λ j. bit j (v / 2)) (λ j l. bit_half j v)))
+        ∙ sym (least_next k (λ j. bit j v) (bit_lowest v 0 e))
+    by (suc zero) e h q = sym (least_hit (suc k) (λ j. bit j v) 0 (omega arith) (none (λ j. bit j v)) (bit_lowest v 1 e))
     by (suc (suc d)) e h q = absurd (omega arith)
 
 -- as many as are set
-pub ones-count : (k v : ℕ) → v < 2 ^ k → ones v ≡ count k (λ j. bit j v)
+pub ones_count : (k v : ℕ) → v < 2 ^ k → ones v ≡ count k (λ j. bit j v)
 unfolding ones count
-ones-count zero v h = ap ones (lt-one h)
-ones-count (suc k) v h =
+ones_count zero v h = ap ones (lt-one h)
+ones_count (suc k) v h =
     ones_step v
     ∙ ap₂ (λ (x y : ℕ). x + y) (digit (v % 2) refl (mod-lt v (omega arith)))
-    (ones-count k (v / 2) (shr_lt k 1 (rw add-one h)) ∙ sym (count_same k (λ j. bit (suc j) v) (λ j. bit j (v / 2)) (λ j l. bit-half j v)))
+    (ones_count k (v / 2) (shr_lt k 1 (rw add-one h)) ∙ sym (count_same k (λ j. bit (suc j) v) (λ j. bit j (v / 2)) (λ j l. bit_half j v)))
     ∙ sym (count_next k (λ j. bit j v))
   where
     digit : (d : ℕ) → v % 2 ≡ d → d < 2 → d ≡ cond (bit 0 v) 1 0
-    digit zero e h = rw (bit-lowest v 0 e) refl
-    digit (suc zero) e h = rw (bit-lowest v 1 e) refl
+    digit zero e h = rw (bit_lowest v 0 e) refl
+    digit (suc zero) e h = rw (bit_lowest v 1 e) refl
     digit (suc (suc d)) e h = absurd (omega arith)

@@ -5,16 +5,16 @@ use Rattle.matrix.specs.State.{exists}
 use Rattle.matrix.specs.Reading.{state_of}
 
 -- the bits of a mask
-abbrev pub maskBits : ℕ
-maskBits = 64
+abbrev pub mask_bits : ℕ
+mask_bits = 64
 
 -- m marks the existing subjects of a record of n subject names
 pub record MarksOf (b : List ℕ) (n m : ℕ) : Type 0 where
-  pub marks : (j : ℕ) → j < maskBits → bit j m ≡ (ltb j n && exists (state_of b) j)
+  pub marks : (j : ℕ) → j < mask_bits → bit j m ≡ (ltb j n && exists (state_of b) j)
 
 -- r marks the members of a set that a trust mask leaves out
 pub record LeftOut (set trust r : ℕ) : Type 0 where
-  pub marks : (j : ℕ) → j < maskBits → bit j r ≡ (bit j set && not (bit j trust))
+  pub marks : (j : ℕ) → j < mask_bits → bit j r ≡ (bit j set && not (bit j trust))
 
 -- r marks the members of a set, and s
 pub record Added (set s r : ℕ) : Type 0 where

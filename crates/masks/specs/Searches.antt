@@ -3,7 +3,7 @@ use Rattle.std.specs.Prelude.{ℕ, zero, suc, ◌+◌, ◌≤◌, ◌<◌, ◌�
 use Rattle.std.proofs.Common.{arith, sym, ◌∙◌, ap, ⊎_elim, ltb-true, ltb-false}
 use Rattle.matrix.specs.Bounded.{any, count, least}
 use Rattle.laws.specs.Tests.{way, clash}
-use Rattle.laws.specs.Bounded.{least-hit, least_first, any_none, none_any, First}
+use Rattle.laws.specs.Bounded.{least_hit, least_first, any_none, none_any, First}
 
 -- the first number fails: what is left is the search from the next one on
 pub any_next : (n : ℕ) (f : ℕ → Bool) → f 0 ≡ false → any (suc n) f ≡ any n (λ j. f (suc j))
@@ -11,12 +11,12 @@ unfolding any
 any_next zero f h = h
 any_next (suc n) f h = ap (λ (t : Bool). t || f (suc n)) (any_next n f h)
 
-pub least-next : (n : ℕ) (f : ℕ → Bool) → f 0 ≡ false → least (suc n) f ≡ suc (least n (λ j. f (suc j)))
+pub least_next : (n : ℕ) (f : ℕ → Bool) → f 0 ≡ false → least (suc n) f ≡ suc (least n (λ j. f (suc j)))
 unfolding any least
-least-next zero f h = rw h refl
-least-next (suc n) f h =
+least_next zero f h = rw h refl
+least_next (suc n) f h =
     ap (λ (t : Bool). cond t (least (suc n) f) (cond (f (suc n)) (suc n) (suc (suc n)))) (any_next n f h)
-    ∙ ap (λ (k : ℕ). cond (any n (λ j. f (suc j))) k (cond (f (suc n)) (suc n) (suc (suc n)))) (least-next n f h)
+    ∙ ap (λ (k : ℕ). cond (any n (λ j. f (suc j))) k (cond (f (suc n)) (suc n) (suc (suc n)))) (least_next n f h)
     ∙ inside (any n (λ j. f (suc j))) (f (suc n)) (least n (λ j. f (suc j)))
   where
     inside : (t u : Bool) (k : ℕ) → cond t (suc k) (cond u (suc n) (suc (suc n))) ≡ suc (cond t k (cond u n (suc n)))
@@ -37,11 +37,11 @@ pub record Same (m n : ℕ) (f g : ℕ → Bool) : Type 0 where
   pub above : (j : ℕ) → n ≤ j → j < m → f j ≡ false
 
 module _ {m n : ℕ} {f g : ℕ → Bool} (h : Same m n f g) where
-  pub none-same : any m f ≡ false → any n g ≡ false
-  none-same a = let w = h.within in none_any n g (λ j l. sym (h.below j l) ∙ any_none m f j a (omega arith))
+  pub none_same : any m f ≡ false → any n g ≡ false
+  none_same a = let w = h.within in none_any n g (λ j l. sym (h.below j l) ∙ any_none m f j a (omega arith))
 
-  pub least-lower : any m f ≡ true → least m f ≡ least n g
-  least-lower a = sym (least-hit n g (least m f) lower before (sym (h.below (least m f) lower) ∙ first.passes))
+  pub least_lower : any m f ≡ true → least m f ≡ least n g
+  least_lower a = sym (least_hit n g (least m f) lower before (sym (h.below (least m f) lower) ∙ first.passes))
     where
       first : First m f
       first = least_first m f a

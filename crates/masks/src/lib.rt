@@ -1,12 +1,14 @@
 // Sets of subjects as 64-bit masks: the existing subjects of a record, and those that a trust mask leaves out.
 
+#![tactic(auto)]
+
 ghost use Rattle.std.specs.Prelude.{◌≡◌, not, ◌&&◌, ◌^◌, ◌<◌, ltb};
 ghost use Rattle.matrix.specs.Bounded.{least, count};
 ghost use Rattle.matrix.specs.Bytes.{bit};
 ghost use Rattle.matrix.specs.State.{exists};
 ghost use Rattle.matrix.specs.Reading.{state_of};
 ghost use Rattle.cells.specs.Station.{Station};
-ghost use Rattle.masks.specs.Marks.{maskBits, MarksOf, LeftOut, Added};
+ghost use Rattle.masks.specs.Marks.{mask_bits, MarksOf, LeftOut, Added};
 
 use matrix::Shape;
 
@@ -34,21 +36,21 @@ pub fn untrusted(set: u64, trust: u64) -> u64
 
 // The lowest member of a set, or the number of bits if it has none.
 pub fn lowest(set: u64) -> usize
-    ensures { result ≡ least maskBits (λ j. bit j set) }
+    ensures { result ≡ least mask_bits (λ j. bit j set) }
 {
     u64::trailing_zeros(set) as usize
 }
 
 // The lowest subject that is not a member of a set, or the number of bits if all are.
 pub fn lowest_outside(set: u64) -> usize
-    ensures { result ≡ least maskBits (λ j. not (bit j set)) }
+    ensures { result ≡ least mask_bits (λ j. not (bit j set)) }
 {
     lowest(!set)
 }
 
 // The number of members of a set.
 pub fn size(set: u64) -> usize
-    ensures { result ≡ count maskBits (λ j. bit j set) }
+    ensures { result ≡ count mask_bits (λ j. bit j set) }
 {
     u64::count_ones(set) as usize
 }
@@ -68,7 +70,7 @@ pub fn lowest_untrusted(b: &[u8], f: Shape, trust: u64) -> usize
 
 // Whether a trust mask has no bit at n or above. No record has as many subjects as a mask has bits.
 pub fn trust_fits(trust: u64, n: usize) -> bool
-    requires { n < maskBits }
+    requires { n < mask_bits }
     ensures { result ≡ ltb trust (2 ^ n) }
 {
     trust >> n == 0
@@ -76,7 +78,7 @@ pub fn trust_fits(trust: u64, n: usize) -> bool
 
 // Whether subject s is a member of a set.
 pub fn has(set: u64, s: usize) -> bool
-    requires { s < maskBits }
+    requires { s < mask_bits }
     ensures { result ≡ bit s set }
 {
     (set >> s) % 2 == 1
@@ -84,7 +86,7 @@ pub fn has(set: u64, s: usize) -> bool
 
 // A set with subject s added.
 pub fn added(set: u64, s: usize) -> u64
-    requires { s < maskBits }
+    requires { s < mask_bits }
     ensures { Added set s result }
 {
     set | (1 << s)
@@ -92,7 +94,7 @@ pub fn added(set: u64, s: usize) -> u64
 
 // Whether subject s is trusted.
 pub fn is_trusted(trust: u64, s: usize) -> bool
-    requires { s < maskBits }
+    requires { s < mask_bits }
     ensures { result ≡ bit s trust }
 {
     has(trust, s)

@@ -18,11 +18,11 @@ abbrev pub inherit : ℕ → ℕ → State → State
 inherit i s S = record { top = S.top; owns = λ w x. S.owns w x || eqb w i && S.owns s x; controls = S.controls; basic = S.basic }
 
 -- the cells of a column; the cells of row and column s
-abbrev pub inColumn : Name → ℕ → Name → Bool
-inColumn c w x = same_name x c
+abbrev pub in_column : Name → ℕ → Name → Bool
+in_column c w x = same_name x c
 
-abbrev pub inCross : ℕ → ℕ → Name → Bool
-inCross s w x = same_name x (Subject s) || eqb w s
+abbrev pub in_cross : ℕ → ℕ → Name → Bool
+in_cross s w x = same_name x (Subject s) || eqb w s
 
 -- Code 3: i loses own before s gets it, so that nothing changes where s = i (Manual 5.4).
 abbrev pub change : State → Command → Act → State
@@ -32,6 +32,6 @@ change S c (Transfer (Basic k f)) = put (Basic k f) c.s c.o true S
 change S c (Grant y) = put y c.s c.o true S
 change S c (Delete y) = put y c.s c.o false S
 change S c CreateObject = put Own c.i c.o true S
-change S c DestroyObject = clear (inColumn c.o) S
+change S c DestroyObject = clear (in_column c.o) S
 change S c CreateSubject = put Control c.s (Subject c.s) true (put Own c.i (Subject c.s) true (admit c.s S))
-change S c DestroySubject = clear (inCross c.s) (inherit c.i c.s S)
+change S c DestroySubject = clear (in_cross c.s) (inherit c.i c.s S)

@@ -5,40 +5,40 @@ use Rattle.matrix.specs.Bounded.{all}
 use Rattle.matrix.specs.Bytes.{number_at}
 
 -- the bytes of a list's head, of one command in a list, and the most that may follow the head
-abbrev pub listHead : ℕ
-listHead = 5
+abbrev pub list_head : ℕ
+list_head = 5
 
-abbrev pub recordBytes : ℕ
-recordBytes = 6
+abbrev pub record_bytes : ℕ
+record_bytes = 6
 
-abbrev pub mostListBytes : ℕ
-mostListBytes = 60000
+abbrev pub most_list_bytes : ℕ
+most_list_bytes = 60000
 
 -- a command's length byte: the number of bytes that follow it
-abbrev pub lengthByte : ℕ
-lengthByte = 5
+abbrev pub length_byte : ℕ
+length_byte = 5
 
 -- the number of commands that the list's L says, and the place of the j-th
-abbrev pub commandsIn : List ℕ → ℕ
-commandsIn l = number_at l 1 4 / recordBytes
+abbrev pub commands_in : List ℕ → ℕ
+commands_in l = number_at l 1 4 / record_bytes
 
-abbrev pub commandPlace : ℕ → ℕ
-commandPlace j = listHead + recordBytes * j
+abbrev pub command_place : ℕ → ℕ
+command_place j = list_head + record_bytes * j
 
 -- The list has the right form; refusal 16 where this fails (Manual 7.1).
-unfoldable pub wellFormed : List ℕ → Bool
-wellFormed l =
-    leb listHead (length l) && eqb (get_or l 0 0) 1 && eqb (listHead + number_at l 1 4) (length l) && leb (number_at l 1 4) mostListBytes
-    && eqb (number_at l 1 4 % recordBytes) 0 && all (commandsIn l) (λ j. eqb (get_or l (commandPlace j) 0) lengthByte)
+unfoldable pub well_formed : List ℕ → Bool
+well_formed l =
+    leb list_head (length l) && eqb (get_or l 0 0) 1 && eqb (list_head + number_at l 1 4) (length l) && leb (number_at l 1 4) most_list_bytes
+    && eqb (number_at l 1 4 % record_bytes) 0 && all (commands_in l) (λ j. eqb (get_or l (command_place j) 0) length_byte)
 
 abbrev pub fields_at : List ℕ → ℕ → Fields
 fields_at l at =
     record { code = get_or l (at + 1) 0; i = get_or l (at + 2) 0; s = get_or l (at + 3) 0; o = get_or l (at + 4) 0; k = get_or l (at + 5) 0 }
 
 -- m commands from the one numbered j on
-unfoldable pub commandsFrom : List ℕ → ℕ → ℕ → List Fields
-commandsFrom l j zero = []
-commandsFrom l j (suc m) = fields_at l (commandPlace j) ∷ commandsFrom l (suc j) m
+unfoldable pub commands_from : List ℕ → ℕ → ℕ → List Fields
+commands_from l j zero = []
+commands_from l j (suc m) = fields_at l (command_place j) ∷ commands_from l (suc j) m
 
-abbrev pub commandsOf : List ℕ → List Fields
-commandsOf l = commandsFrom l 0 (commandsIn l)
+abbrev pub commands_of : List ℕ → List Fields
+commands_of l = commands_from l 0 (commands_in l)

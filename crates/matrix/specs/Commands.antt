@@ -55,12 +55,12 @@ abbrev pub known : ℕ → Bool
 known code = leb 1 code && leb code 13
 
 -- the table's row of a code; of an unknown code, which refusal 6 turns down, some row
-abbrev pub ruleOf : ℕ → ℕ → Rule
-ruleOf code k = get_or (rules k) (code - 1) (rule true false false DestroySubject)
+abbrev pub rule_of : ℕ → ℕ → Rule
+rule_of code k = get_or (rules k) (code - 1) (rule true false false DestroySubject)
 
 -- What refusal 7 asks of a command besides bounds on names (Manual 7.2): unused fields are 0, and k is the number of a basic right.
-abbrev pub fieldsFit : ℕ → Rule → ℕ → ℕ → ℕ → Bool
-fieldsFit basics r s o k = (r.s || eqb s 0) && (r.o || eqb o 0) && cond r.k (ltb k basics) (eqb k 0)
+abbrev pub fields_fit : ℕ → Rule → ℕ → ℕ → ℕ → Bool
+fields_fit basics r s o k = (r.s || eqb s 0) && (r.o || eqb o 0) && cond r.k (ltb k basics) (eqb k 0)
 
 abbrev pub decode : Raw → Command
-decode c = record { i = c.i; s = c.s; o = c.o; act = (ruleOf c.code c.k).act }
+decode c = record { i = c.i; s = c.s; o = c.o; act = (rule_of c.code c.k).act }

@@ -13,18 +13,18 @@ same_name (Subject a) (Plain b) = false
 same_name (Plain a) (Subject b) = false
 same_name (Plain a) (Plain b) = eqb a b
 
-abbrev pub isSubject : Name → Bool
-isSubject (Subject a) = true
-isSubject (Plain a) = false
+abbrev pub is_subject : Name → Bool
+is_subject (Subject a) = true
+is_subject (Plain a) = false
 
 -- The name that column c stands for in a record of n subject names: a subject where c < n, else a plain object, of the same number.
 abbrev pub name_of : ℕ → ℕ → Name
 name_of n c = cond (ltb c n) (Subject c) (Plain c)
 
 -- a name's number, which is its column where the record has it
-abbrev pub columnOf : Name → ℕ
-columnOf (Subject c) = c
-columnOf (Plain c) = c
+abbrev pub column_of : Name → ℕ
+column_of (Subject c) = c
+column_of (Plain c) = c
 
 -- a name is one of a record's n subject names or p plain names
 abbrev pub named : ℕ → ℕ → Name → Bool

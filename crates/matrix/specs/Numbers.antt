@@ -13,16 +13,16 @@ abbrev pub numbers : ℕ → ℕ → Numbers
 numbers refusal value = record { refusal = refusal; value = value }
 
 -- value 1: yes; 0: no
-abbrev pub heldNumbers : Holding → Numbers
-heldNumbers Holding.Yes = numbers 0 1
-heldNumbers Holding.No = numbers 0 0
-heldNumbers (Holding.Refused k) = numbers k 0
+abbrev pub held_numbers : Holding → Numbers
+held_numbers Holding.Yes = numbers 0 1
+held_numbers Holding.No = numbers 0 0
+held_numbers (Holding.Refused k) = numbers k 0
 
 -- value: the owner links followed, with a refusal too
-abbrev pub commandNumbers : Answer → Numbers
-commandNumbers (Answer.Accepted links) = numbers 0 links
-commandNumbers (Answer.Refused number links) = numbers number links
+abbrev pub command_numbers : Answer → Numbers
+command_numbers (Answer.Accepted links) = numbers 0 links
+command_numbers (Answer.Refused number links) = numbers number links
 
 -- value: the commands accepted, with a refusal too
-abbrev pub runNumbers : Outcome → Numbers
-runNumbers r = numbers r.refusal r.accepted
+abbrev pub run_numbers : Outcome → Numbers
+run_numbers r = numbers r.refusal r.accepted

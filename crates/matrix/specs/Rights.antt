@@ -11,21 +11,21 @@ code_of Control = 1
 code_of (Basic k Plain) = 2 + 2 * k
 code_of (Basic k Starred) = 3 + 2 * k
 
-abbrev pub rightOf : ℕ → Right
-rightOf zero = Own
-rightOf (suc zero) = Control
-rightOf (suc (suc j)) = Basic (j / 2) (cond (eqb (j % 2) 0) Plain Starred)
+abbrev pub right_of : ℕ → Right
+right_of zero = Own
+right_of (suc zero) = Control
+right_of (suc (suc j)) = Basic (j / 2) (cond (eqb (j % 2) 0) Plain Starred)
 
-abbrev pub sameForm : Form → Form → Bool
-sameForm Plain Plain = true
-sameForm Plain Starred = false
-sameForm Starred Plain = false
-sameForm Starred Starred = true
+abbrev pub same_form : Form → Form → Bool
+same_form Plain Plain = true
+same_form Plain Starred = false
+same_form Starred Plain = false
+same_form Starred Starred = true
 
 -- The rights of which a set bit makes the right held (Manual 1.3): the right itself, beside a plain basic right its starred form, and beside any
 -- basic right own.
-abbrev pub heldBy : Right → List Right
-heldBy Own = Own ∷ []
-heldBy Control = Control ∷ []
-heldBy (Basic k Plain) = Basic k Plain ∷ Basic k Starred ∷ Own ∷ []
-heldBy (Basic k Starred) = Basic k Starred ∷ Own ∷ []
+abbrev pub held_by : Right → List Right
+held_by Own = Own ∷ []
+held_by Control = Control ∷ []
+held_by (Basic k Plain) = Basic k Plain ∷ Basic k Starred ∷ Own ∷ []
+held_by (Basic k Starred) = Basic k Starred ∷ Own ∷ []

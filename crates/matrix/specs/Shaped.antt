@@ -7,13 +7,13 @@ use Rattle.matrix.specs.Names.{named}
 use Rattle.matrix.specs.Rights.{code_of}
 use Rattle.matrix.specs.State.{State, has}
 use Rattle.matrix.specs.Bytes.{number_at}
-use Rattle.matrix.specs.Shape.{shape_of, knownVersion, mostSubjects, mostPlain, count_of, size_of, bits_of}
+use Rattle.matrix.specs.Shape.{shape_of, known_version, most_subjects, most_plain, count_of, size_of, bits_of}
 
 pub record Shaped (b : List ℕ) : Type 0 where
-  pub version : knownVersion (shape_of b).version ≡ true
+  pub version : known_version (shape_of b).version ≡ true
   pub low : 1 ≤ (shape_of b).n
-  pub high : (shape_of b).n ≤ mostSubjects
-  pub plain : (shape_of b).p ≤ mostPlain
+  pub high : (shape_of b).n ≤ most_subjects
+  pub plain : (shape_of b).p ≤ most_plain
   pub count : number_at b 1 4 ≡ count_of (shape_of b)
   pub size : length b ≡ size_of (shape_of b)
 

@@ -10,8 +10,8 @@ use Rattle.matrix.specs.declared.Kind.{Kind}
 use Rattle.matrix.specs.declared.Kind.TheVariants.{AnyName, SubjectName, PlainName}
 use Rattle.matrix.specs.declared.Command.{Command}
 use Rattle.matrix.specs.Bounded.{any}
-use Rattle.matrix.specs.Names.{isSubject, same_name}
-use Rattle.matrix.specs.State.{State, has, exists, existsName}
+use Rattle.matrix.specs.Names.{is_subject, same_name}
+use Rattle.matrix.specs.State.{State, has, exists, exists_name}
 use Rattle.matrix.specs.Owners.{walk, meets}
 use Rattle.matrix.specs.Commands.{kind_of}
 
@@ -24,23 +24,23 @@ abbrev pub test : ℕ → Bool → Test
 test number passed = record { number = number; passed = passed }
 
 -- The first test in the list that is not passed gives its number; 0 where all are passed (Manual 7.3).
-unfoldable pub firstFailed : List Test → ℕ
-firstFailed [] = 0
-firstFailed (t ∷ ts) = cond t.passed (firstFailed ts) t.number
+unfoldable pub first_failed : List Test → ℕ
+first_failed [] = 0
+first_failed (t ∷ ts) = cond t.passed (first_failed ts) t.number
 
 -- 9: o is of the kind that the command needs
-abbrev pub kindFits : Kind → Name → Bool
-kindFits AnyName x = true
-kindFits SubjectName x = isSubject x
-kindFits PlainName x = not (isSubject x)
+abbrev pub kind_fits : Kind → Name → Bool
+kind_fits AnyName x = true
+kind_fits SubjectName x = is_subject x
+kind_fits PlainName x = not (is_subject x)
 
 -- 10: s and o exist, where the command uses them and does not create them (Manual 5.3)
 abbrev pub present : State → Command → Act → Bool
-present S c (Transfer y) = exists S c.s && existsName S c.o
-present S c (Grant y) = exists S c.s && existsName S c.o
-present S c (Delete y) = exists S c.s && existsName S c.o
+present S c (Transfer y) = exists S c.s && exists_name S c.o
+present S c (Grant y) = exists S c.s && exists_name S c.o
+present S c (Delete y) = exists S c.s && exists_name S c.o
 present S c CreateObject = true
-present S c DestroyObject = existsName S c.o
+present S c DestroyObject = exists_name S c.o
 present S c CreateSubject = true
 present S c DestroySubject = exists S c.s
 
@@ -49,7 +49,7 @@ abbrev pub free : State → Command → Act → Bool
 free S c (Transfer y) = true
 free S c (Grant y) = true
 free S c (Delete y) = true
-free S c CreateObject = not (existsName S c.o)
+free S c CreateObject = not (exists_name S c.o)
 free S c DestroyObject = true
 free S c CreateSubject = not (exists S c.s)
 free S c DestroySubject = true
@@ -81,7 +81,7 @@ deletable S c DestroySubject = true
 
 -- 13: the walk of code 3 does not meet o. It starts at s itself, and is made where o is a subject: over a plain object there is none (Manual 5.4).
 abbrev pub apart : State → Command → Act → Bool
-apart S c (Transfer Own) = not (isSubject c.o && meets (walk S c.s c.o))
+apart S c (Transfer Own) = not (is_subject c.o && meets (walk S c.s c.o))
 apart S c (Transfer Control) = true
 apart S c (Transfer (Basic k f)) = true
 apart S c (Grant y) = true
@@ -92,14 +92,14 @@ apart S c CreateSubject = true
 apart S c DestroySubject = true
 
 -- some subject other than x itself controls x
-abbrev pub otherController : State → Name → Bool
-otherController S x = any S.top (λ w. S.controls w x && not (same_name (Subject w) x))
+abbrev pub other_controller : State → Name → Bool
+other_controller S x = any S.top (λ w. S.controls w x && not (same_name (Subject w) x))
 
 -- 14: for code 6, no subject other than o controls o (Manual 5.4)
 abbrev pub uncontrolled : State → Command → Act → Bool
 uncontrolled S c (Transfer y) = true
 uncontrolled S c (Grant Own) = true
-uncontrolled S c (Grant Control) = not (otherController S c.o)
+uncontrolled S c (Grant Control) = not (other_controller S c.o)
 uncontrolled S c (Grant (Basic k f)) = true
 uncontrolled S c (Delete y) = true
 uncontrolled S c CreateObject = true
@@ -107,10 +107,10 @@ uncontrolled S c DestroyObject = true
 uncontrolled S c CreateSubject = true
 uncontrolled S c DestroySubject = true
 
-abbrev pub commandTests : State → Command → List Test
-commandTests S c =
+abbrev pub command_tests : State → Command → List Test
+command_tests S c =
     test 8 (exists S c.i) ∷
-    test 9 (kindFits (kind_of c.act) c.o) ∷
+    test 9 (kind_fits (kind_of c.act) c.o) ∷
     test 10 (present S c c.act) ∷
     test 11 (free S c c.act) ∷
     test 12 (permitted S c c.act) ∷

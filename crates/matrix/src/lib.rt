@@ -1,5 +1,7 @@
 // The types that the definitions and the code share. The definitions are in specs/.
 
+#![tactic(auto)]
+
 // The most subject names and plain names that a record has, and so the most columns.
 pub const MOST_SUBJECTS: usize = 40;
 
@@ -21,7 +23,7 @@ pub const MOST_LIST_BYTES: usize = 60000;
 pub const LENGTH_BYTE: u8 = 5;
 
 // What a record's version and its bytes 5 and 6 fix: version, n and p, the bytes of a cell, the place of the first cell.
-#[derive(Drop)]
+#[derive(Clone, Copy)]
 pub struct Shape {
     pub version: usize,
     pub n: usize,
@@ -31,21 +33,21 @@ pub struct Shape {
 }
 
 // A name: subjects (logins) and plain objects (logs) are two separate kinds.
-#[derive(Drop)]
+#[derive(Clone, Copy)]
 pub enum Name {
     Subject(usize),
     Plain(usize),
 }
 
 // A basic right is held plain or starred; the star lets its holder pass the right on.
-#[derive(Drop)]
+#[derive(Clone, Copy)]
 pub enum Form {
     Plain,
     Starred,
 }
 
 // A right: own, control, or the basic right of a number, plain or starred.
-#[derive(Drop)]
+#[derive(Clone, Copy)]
 pub enum Right {
     Own,
     Control,
@@ -53,7 +55,7 @@ pub enum Right {
 }
 
 // What a command does. Transfer, grant and delete name the right that they act on.
-#[derive(Drop)]
+#[derive(Clone, Copy)]
 pub enum Act {
     Transfer(Right),
     Grant(Right),
@@ -65,7 +67,7 @@ pub enum Act {
 }
 
 // The kind that a command needs its o to be of.
-#[derive(Drop)]
+#[derive(Clone, Copy)]
 pub enum Kind {
     AnyName,
     SubjectName,
@@ -73,7 +75,7 @@ pub enum Kind {
 }
 
 // A row of the table of commands: which of the fields s, o and k it uses, the kind that o has to be of, and what it does.
-#[derive(Drop)]
+#[derive(Clone, Copy)]
 pub struct Rule {
     pub s: bool,
     pub o: bool,
@@ -83,7 +85,7 @@ pub struct Rule {
 }
 
 // The five fields of a command as a caller gives them.
-#[derive(Drop)]
+#[derive(Clone, Copy)]
 pub struct Fields {
     pub code: usize,
     pub i: usize,
@@ -93,7 +95,7 @@ pub struct Fields {
 }
 
 // A decoded command: the initiator, the subject, the name o, and what is done.
-#[derive(Drop)]
+#[derive(Clone, Copy)]
 pub struct Command {
     pub i: usize,
     pub s: usize,
@@ -102,7 +104,7 @@ pub struct Command {
 }
 
 // What the owner walk finds, with the number of owner links followed.
-#[derive(Drop)]
+#[derive(Clone, Copy)]
 pub enum Walked {
     Meets(usize),
     Root(usize),
@@ -110,14 +112,14 @@ pub enum Walked {
 }
 
 // The answer to a command: accepted with the links of the walk, or refused with the number and the links.
-#[derive(Drop)]
+#[derive(Clone, Copy)]
 pub enum Answer {
     Accepted(usize),
     Refused(usize, usize),
 }
 
 // The answer to whether a right is held.
-#[derive(Drop)]
+#[derive(Clone, Copy)]
 pub enum Holding {
     Yes,
     No,
@@ -125,7 +127,7 @@ pub enum Holding {
 }
 
 // The answer of a list run: the number of commands accepted, and the refusal that ended it, 0 if none.
-#[derive(Drop)]
+#[derive(Clone, Copy)]
 pub struct Outcome {
     pub accepted: usize,
     pub refusal: usize,
@@ -133,7 +135,7 @@ pub struct Outcome {
 
 // An answer in numbers: the refusal, 0 where the call is answered, and the value.
 #[repr(C)]
-#[derive(Drop)]
+#[derive(Clone, Copy)]
 pub struct Numbers {
     pub refusal: u64,
     pub value: u64,

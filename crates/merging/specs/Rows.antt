@@ -7,7 +7,7 @@ use Rattle.std.specs.Int.Bits.{bit_or}
 use Rattle.std.proofs.Math.ListN.{get_or, replicate, get_or-replicate}
 use Rattle.lanes.specs.Lists.{set_more}
 use Rattle.lanes.specs.Lanes.{merged}
-use Rattle.lanes.specs.Zeros.{merged-more}
+use Rattle.lanes.specs.Zeros.{merged_more}
 
 -- A list while row r joins it lane by lane. Its first k places count: those below m hold what r + 1 rows leave, those from m on what r rows leave. The lane of row v for
 -- place j is w v j.
@@ -18,13 +18,13 @@ pub record Joined (room k : ℕ) (w : ℕ → ℕ → ℕ) (r m : ℕ) (l : List
 
 module _ (room k : ℕ) (w : ℕ → ℕ → ℕ) where
   -- a row begins; the first one does, with a list of zeros
-  pub joined-none : (r : ℕ) (l : List ℕ) → length l ≡ room → ((j : ℕ) → 0 ≤ j → j < k → get_or l j 0 ≡ merged r (λ v. w v j)) → Joined room k w r 0 l
-  joined-none r l z f = record { size = z; done = λ j a. absurd (omega arith); left = f }
+  pub joined_none : (r : ℕ) (l : List ℕ) → length l ≡ room → ((j : ℕ) → 0 ≤ j → j < k → get_or l j 0 ≡ merged r (λ v. w v j)) → Joined room k w r 0 l
+  joined_none r l z f = record { size = z; done = λ j a. absurd (omega arith); left = f }
 
-  pub joined-first : (l : List ℕ) → length l ≡ room → k ≤ room → l ≡ replicate (length l) 0 → Joined room k w 0 0 l
+  pub joined_first : (l : List ℕ) → length l ≡ room → k ≤ room → l ≡ replicate (length l) 0 → Joined room k w 0 0 l
   unfolding merged
-  joined-first l z few e =
-      joined-none 0 l z
+  joined_first l z few e =
+      joined_none 0 l z
       (λ j a h. ap (λ (x : List ℕ). get_or x j 0) (e ∙ ap (λ (i : ℕ). replicate i 0) z) ∙ get_or-replicate room j 0 0 (omega arith))
 
   -- one lane more has joined
@@ -34,14 +34,14 @@ module _ (room k : ℕ) (w : ℕ → ℕ → ℕ) where
         size = length-set l m _ ∙ s.size;
         done =
             λ j b. set_more 0 m (λ j. merged (r + 1) (λ v. w v j)) l _ (λ i f. s.done i) (omega (arith, s.size))
-            (ap (λ (x : ℕ). bit_or (get_or l m 0) x) e ∙ merged-more r (λ v. w v m) _ (s.left m (le_refl m) h)) j (omega arith) b;
+            (ap (λ (x : ℕ). bit_or (get_or l m 0) x) e ∙ merged_more r (λ v. w v m) _ (s.left m (le_refl m) h)) j (omega arith) b;
         left = λ j a b. get_or-set_other l m j _ 0 (omega arith) ∙ s.left j (omega arith) b;
       }
 
   -- the row has joined, and the next one begins
-  pub joined-row : (size r m : ℕ) (l : List ℕ) → size ≡ room → Joined size k w r m l → k ≤ m → Joined room k w (r + 1) 0 l
-  joined-row size r m l e s h = joined-none (r + 1) l (s.size ∙ e) (λ j a b. s.done j (omega arith))
+  pub joined_row : (size r m : ℕ) (l : List ℕ) → size ≡ room → Joined size k w r m l → k ≤ m → Joined room k w (r + 1) 0 l
+  joined_row size r m l e s h = joined_none (r + 1) l (s.size ∙ e) (λ j a b. s.done j (omega arith))
 
   -- all n rows have joined
-  pub joined-all : (r n : ℕ) (l : List ℕ) → r ≤ n → n ≤ r → Joined room k w r 0 l → (j : ℕ) → j < k → get_or l j 0 ≡ merged n (λ v. w v j)
-  joined-all r n l a b s j h = let q : r ≡ n = omega arith in (subst (λ (i : ℕ). Joined room k w i 0 l) q s).left j (omega arith) h
+  pub joined_all : (r n : ℕ) (l : List ℕ) → r ≤ n → n ≤ r → Joined room k w r 0 l → (j : ℕ) → j < k → get_or l j 0 ≡ merged n (λ v. w v j)
+  joined_all r n l a b s j h = let q : r ≡ n = omega arith in (subst (λ (i : ℕ). Joined room k w i 0 l) q s).left j (omega arith) h

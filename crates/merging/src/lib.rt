@@ -1,4 +1,7 @@
 // The bits that are seen in each lane, over all rows.
+
+#![tactic(auto)]
+
 ghost use Rattle.std.specs.Prelude.{◌≡◌, ◌+◌, ◌≤◌, length, replicate};
 ghost use Rattle.lanes.specs.Lanes.{Seen, Laid};
 

@@ -1,5 +1,7 @@
 // The short ways of commands over a plain object that are accepted on a valid record: codes 3, 7, 10 and 11.
 
+#![tactic(auto)]
+
 ghost use Rattle.std.specs.Prelude.{◌≡◌, cond};
 ghost use Rattle.matrix.specs.Valid.{Valid};
 ghost use Rattle.matrix.specs.Reading.{state_of};

@@ -1,8 +1,10 @@
 // The shape of a record, which its version and its bytes 5 and 6 fix: made here from its bytes, and handed on as one value.
 
+#![tactic(auto)]
+
 ghost use Rattle.std.specs.Prelude.{◌≡◌, ◌≤◌, ◌<◌, length, get_or};
-ghost use Rattle.matrix.specs.Shape.{limits, headerBytes, width_of, first_of, shapeIn, shape_of};
-ghost use Rattle.matrix.specs.Record.{recordRefusal};
+ghost use Rattle.matrix.specs.Shape.{limits, header_bytes, width_of, first_of, shape_in, shape_of};
+ghost use Rattle.matrix.specs.Record.{record_refusal};
 
 use matrix::{HEADER_BYTES, Shape};
 
@@ -30,7 +32,7 @@ fn first_of(version: usize) -> usize
 
 // The shape of a version with n subject names and p plain names.
 pub fn shape_in(version: usize, n: usize, p: usize) -> Shape
-    ensures { result ≡ shapeIn version n p }
+    ensures { result ≡ shape_in version n p }
 {
     Shape {
         version,
@@ -43,7 +45,7 @@ pub fn shape_in(version: usize, n: usize, p: usize) -> Shape
 
 // The shape that a record's bytes say.
 pub fn shape(b: &[u8]) -> Shape
-    requires { headerBytes ≤ length b.now }
+    requires { header_bytes ≤ length b.now }
     ensures { result ≡ shape_of b.now }
 {
     shape_in(byte(b, 0), byte(b, 5), byte(b, 6))
@@ -52,7 +54,7 @@ pub fn shape(b: &[u8]) -> Shape
 // The shape of a record that is not turned down. The bytes of a cell are twice the version's number, as a product: from a choice of one of two
 // numbers the compiler would make a shift.
 pub fn valid_shape(b: &[u8]) -> Shape
-    requires { recordRefusal limits b.now ≡ 0 }
+    requires { record_refusal limits b.now ≡ 0 }
     ensures { result ≡ shape_of b.now }
 {
     let version = byte(b, 0);

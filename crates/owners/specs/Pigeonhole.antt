@@ -10,17 +10,17 @@ use Rattle.laws.specs.Bounded.{any_found, any_none}
 lower : ℕ → ℕ → ℕ → ℕ
 lower m v x = cond (eqb x m) v x
 
-lower-hit : (m v x : ℕ) → eqb x m ≡ true → lower m v x ≡ v
+lower_hit : (m v x : ℕ) → eqb x m ≡ true → lower m v x ≡ v
 unfolding lower
-lower-hit m v x e = rw e refl
+lower_hit m v x e = rw e refl
 
-lower-miss : (m v x : ℕ) → eqb x m ≡ false → lower m v x ≡ x
+lower_miss : (m v x : ℕ) → eqb x m ≡ false → lower m v x ≡ x
 unfolding lower
-lower-miss m v x e = rw e refl
+lower_miss m v x e = rw e refl
 
-lower-below : (m v x : ℕ) → v < suc m → x < suc m → (x ≡ v → ⊥) → lower m v x < m
-lower-below m v x hv hx ne =
-    ⊎_elim (λ e. rw (lower-hit m v x e) (hit (eqb-true x m e))) (λ e. rw (lower-miss m v x e) (miss (eqb-false x m e))) (way (eqb x m))
+lower_below : (m v x : ℕ) → v < suc m → x < suc m → (x ≡ v → ⊥) → lower m v x < m
+lower_below m v x hv hx ne =
+    ⊎_elim (λ e. rw (lower_hit m v x e) (hit (eqb-true x m e))) (λ e. rw (lower_miss m v x e) (miss (eqb-false x m e))) (way (eqb x m))
   where
     hit : x ≡ m → v < m
     hit q = omega arith
@@ -29,13 +29,13 @@ lower-below m v x hv hx ne =
     miss n = omega arith
 
 -- where neither is v, what is equal after the replacement was equal before
-lower-same : (m v x y : ℕ) → (x ≡ v → ⊥) → (y ≡ v → ⊥) → lower m v x ≡ lower m v y → x ≡ y
-lower-same m v x y nx ny h =
+lower_same : (m v x y : ℕ) → (x ≡ v → ⊥) → (y ≡ v → ⊥) → lower m v x ≡ lower m v y → x ≡ y
+lower_same m v x y nx ny h =
     ⊎_elim
     (λ a. ⊎_elim (λ b. eqb-true x m a ∙ sym (eqb-true y m b))
-    (λ b. absurd (ny (sym (lower-miss m v y b) ∙ sym h ∙ lower-hit m v x a))) (way (eqb y m)))
-    (λ a. ⊎_elim (λ b. absurd (nx (sym (lower-miss m v x a) ∙ h ∙ lower-hit m v y b)))
-    (λ b. sym (lower-miss m v x a) ∙ h ∙ lower-miss m v y b) (way (eqb y m)))
+    (λ b. absurd (ny (sym (lower_miss m v y b) ∙ sym h ∙ lower_hit m v x a))) (way (eqb y m)))
+    (λ a. ⊎_elim (λ b. absurd (nx (sym (lower_miss m v x a) ∙ h ∙ lower_hit m v y b)))
+    (λ b. sym (lower_miss m v x a) ∙ h ∙ lower_miss m v y b) (way (eqb y m)))
     (way (eqb x m))
 
 -- Two of the numbers f 0 to f m are equal, where all are below m.
@@ -44,7 +44,7 @@ pigeonhole zero f h = absurd (not-suc-le-zero (h 0 (omega arith)))
 pigeonhole (suc m) f h =
     ⊎_elim earlier
     (λ a. others (other a)
-    (pigeonhole m lowered (λ j l. lower-below m last (f j) (h (suc m) (omega arith)) (h j (omega arith)) (other a j l))))
+    (pigeonhole m lowered (λ j l. lower_below m last (f j) (h (suc m) (omega arith)) (h j (omega arith)) (other a j l))))
     (way (any (suc m) (λ j. eqb (f j) last)))
   where
     last : ℕ
@@ -68,4 +68,4 @@ pigeonhole (suc m) f h =
     others ne w =
         let b : w.0 < w.1 = w.2 in
         let l : w.1 ≤ m = w.3 in
-        (w.0, w.1, b, omega arith, lower-same m last (f w.0) (f w.1) (ne w.0 (omega arith)) (ne w.1 l) w.4)
+        (w.0, w.1, b, omega arith, lower_same m last (f w.0) (f w.1) (ne w.0 (omega arith)) (ne w.1 l) w.4)

@@ -3,38 +3,38 @@ use Rattle.std.specs.Prelude.{ℕ, ◌≤◌, ◌<◌, ◌≡◌, true, List, []
 use Rattle.std.proofs.Common.{arith, eqb-true, eq-eqb, le-leb}
 use Rattle.matrix.specs.declared.Name.{Name}
 use Rattle.matrix.specs.declared.Shape.{Shape}
-use Rattle.matrix.specs.Owners.{walk, linksOf}
+use Rattle.matrix.specs.Owners.{walk, links_of}
 use Rattle.matrix.specs.Valid.{Valid}
 use Rattle.matrix.specs.Tests.{Test, test}
 use Rattle.matrix.specs.Bytes.{number_at}
-use Rattle.matrix.specs.Shape.{limits, shape_of, headerBytes, knownVersion, in_range, sized, count_of, size_of}
+use Rattle.matrix.specs.Shape.{limits, shape_of, header_bytes, known_version, in_range, sized, count_of, size_of}
 use Rattle.matrix.specs.Reading.{state_of}
 use Rattle.matrix.specs.Shaped.{Shaped}
-use Rattle.matrix.specs.Record.{validMatrix, recordRefusal}
+use Rattle.matrix.specs.Record.{valid_matrix, record_refusal}
 use Rattle.laws.specs.Tests.{and_left, and_right, and_both}
-use Rattle.laws.specs.Passed.{Passed, none-failed, all-passed}
-use Rattle.laws.specs.Range.{Ranged, ranged, in-range}
-use Rattle.codec.specs.RoundTrip.{within-read}
-use Rattle.owners.specs.Walk.{walk-links}
-use Rattle.owners.specs.Test.{valid-of-test, test-of-valid}
+use Rattle.laws.specs.Passed.{Passed, none_failed, all_passed}
+use Rattle.laws.specs.Range.{Ranged, ranged, in_range_lem}
+use Rattle.codec.specs.RoundTrip.{within_read}
+use Rattle.owners.specs.Walk.{walk_links}
+use Rattle.owners.specs.Test.{valid_of_test, test_of_valid}
 
 -- the tests of a record, in their order
-abbrev pub recordTests : List ℕ → List Test
-recordTests b =
-    test 1 (leb headerBytes (length b)) ∷
-    test 2 (knownVersion (shape_of b).version) ∷
+abbrev pub record_tests : List ℕ → List Test
+record_tests b =
+    test 1 (leb header_bytes (length b)) ∷
+    test 2 (known_version (shape_of b).version) ∷
     test 3 (in_range limits (shape_of b)) ∷
     test 4 (sized b) ∷
-    test 5 (validMatrix (shape_of b) (state_of b)) ∷ []
+    test 5 (valid_matrix (shape_of b) (state_of b)) ∷ []
 
-tests-passed : (b : List ℕ) → recordRefusal limits b ≡ 0 → Passed (recordTests b)
-unfolding recordRefusal
-tests-passed b h = none-failed (recordTests b) (omega arith) h
+tests_passed : (b : List ℕ) → record_refusal limits b ≡ 0 → Passed (record_tests b)
+unfolding record_refusal
+tests_passed b h = none_failed (record_tests b) (omega arith) h
 
 -- A record that is not turned down has the right form, and its state is valid.
-pub record-shaped : (b : List ℕ) → recordRefusal limits b ≡ 0 → Shaped b
-record-shaped b h =
-    let t = tests-passed b h in
+pub record_shaped : (b : List ℕ) → record_refusal limits b ≡ 0 → Shaped b
+record_shaped b h =
+    let t = tests_passed b h in
     let range : Ranged limits (shape_of b) = ranged limits (shape_of b) t.1.1.0 in
     let size = t.1.1.1.0 in
     let count = eqb (number_at b 1 4) (count_of (shape_of b)) in
@@ -48,27 +48,27 @@ record-shaped b h =
       size = eqb-true (length b) (size_of (shape_of b)) (and_right count whole size);
     }
 
-pub valid-record : (b : List ℕ) → recordRefusal limits b ≡ 0 → Valid (state_of b)
-valid-record b h = valid-of-test (shape_of b) (state_of b) (within-read b) (tests-passed b h).1.1.1.1.0
+pub valid_record : (b : List ℕ) → record_refusal limits b ≡ 0 → Valid (state_of b)
+valid_record b h = valid_of_test (shape_of b) (state_of b) (within_read b) (tests_passed b h).1.1.1.1.0
 
 -- A walk on a record that is not turned down follows at most n - 1 links.
-pub record-links : (b : List ℕ) → recordRefusal limits b ≡ 0 → (s : ℕ) (o : Name) → linksOf (walk (state_of b) s o) < (shape_of b).n
-record-links b h s o =
-    let l : linksOf (walk (state_of b) s o) < (state_of b).top = walk-links (state_of b) (valid-record b h) s o in
-    let t : (state_of b).top ≡ (shape_of b).n = (within-read b).top in
+pub record_links : (b : List ℕ) → record_refusal limits b ≡ 0 → (s : ℕ) (o : Name) → links_of (walk (state_of b) s o) < (shape_of b).n
+record_links b h s o =
+    let l : links_of (walk (state_of b) s o) < (state_of b).top = walk_links (state_of b) (valid_record b h) s o in
+    let t : (state_of b).top ≡ (shape_of b).n = (within_read b).top in
     omega arith
 
 -- a record of the right form is at least as long as its head
-pub long : (b : List ℕ) → Shaped b → headerBytes ≤ length b
+pub long : (b : List ℕ) → Shaped b → header_bytes ≤ length b
 unfolding shape_of
 long b s = let e : length b ≡ size_of (shape_of b) = s.size in omega arith
 
 -- A record of the right form whose state is valid is not turned down.
-pub record-valid : (b : List ℕ) → Shaped b → Valid (state_of b) → recordRefusal limits b ≡ 0
-unfolding recordRefusal
-record-valid b s h =
+pub record_valid : (b : List ℕ) → Shaped b → Valid (state_of b) → record_refusal limits b ≡ 0
+unfolding record_refusal
+record_valid b s h =
     let f : Shape = shape_of b in
-    let range : in_range limits f ≡ true = in-range limits f (record { low = s.low; high = s.high; plain = s.plain }) in
+    let range : in_range limits f ≡ true = in_range_lem limits f (record { low = s.low; high = s.high; plain = s.plain }) in
     let size : sized b ≡ true = and_both (eq-eqb (number_at b 1 4) (count_of f) s.count) (eq-eqb (length b) (size_of f) s.size) in
-    let matrix : validMatrix f (state_of b) ≡ true = test-of-valid f (state_of b) (within-read b) h in
-    all-passed (recordTests b) (le-leb headerBytes (length b) (long b s), (s.version, (range, (size, (matrix, tt)))))
+    let matrix : valid_matrix f (state_of b) ≡ true = test_of_valid f (state_of b) (within_read b) h in
+    all_passed (record_tests b) (le-leb header_bytes (length b) (long b s), (s.version, (range, (size, (matrix, tt)))))

@@ -1,9 +1,12 @@
 // What is counted in lanes over all rows, two lanes in each number: the two low bits of each lane's upper byte.
+
+#![tactic(auto)]
+
 ghost use Rattle.std.specs.Prelude.{◌≡◌, ℕ, ◌+◌, ◌-◌, ◌*◌, ◌≤◌, ◌<◌, length};
 ghost use Rattle.lanes.specs.Lists.{Filled};
 ghost use Rattle.lanes.specs.Lanes.{place_of, Laid};
 ghost use Rattle.tallies.specs.Blocks.{at_once, Sized, Joined, Filling};
-ghost use Rattle.pairs.specs.Pairs.{pairIn, pairsFrom, ownBoth, PairRoom, taken};
+ghost use Rattle.pairs.specs.Pairs.{pair_in, pairs_from, own_both, PairRoom, taken};
 
 use lanes::{Matrix, UPPER};
 use tallies::AT_ONCE;
@@ -12,7 +15,7 @@ use tallies::AT_ONCE;
 // number, those of the other in the upper half.
 fn pair(b: &[u8], at: usize) -> u16
     requires { at + 2 * at_once + 1 < length b.now }
-    ensures { result ≡ pairIn b.now at }
+    ensures { result ≡ pair_in b.now at }
 {
     lanes::lane(b, at + 1) % 4 + lanes::lane(b, at + 2 * AT_ONCE) / UPPER % 4 * UPPER
 }
@@ -27,7 +30,7 @@ fn row_of_pairs(
     at: usize,
 )
     requires { PairRoom b.now at low.old odd.old since.old }
-    ensures { Joined (pairsFrom b.now at) (pairsFrom b.now at) ownBoth at_once low.old odd.old since.old low.new odd.new since.new }
+    ensures { Joined (pairs_from b.now at) (pairs_from b.now at) own_both at_once low.old odd.old since.old low.new odd.new since.new }
 {
     for j in 0..AT_ONCE {
         let v = pair(b, at + 2 * j);

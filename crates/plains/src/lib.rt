@@ -1,10 +1,13 @@
 // The plain columns of a record, whose cells are lanes, q each. They are merged and tested part by part, so that no list of a whole row is needed.
+
+#![tactic(auto)]
+
 ghost use Rattle.std.specs.Prelude.{◌≡◌, ◌+◌, ◌/◌, ◌≤◌, ◌<◌, length, replicate, get_or};
 ghost use Rattle.matrix.specs.Bounded.{all};
 ghost use Rattle.matrix.specs.Shape.{columns};
 ghost use Rattle.lanes.specs.Lanes.{seen_at, Laid};
-ghost use Rattle.columns.specs.Cells.{OneOrTwo, mostColumns, lanes_of, lastLane};
-ghost use Rattle.plains.specs.Checks.{plainTest, plainWrong, wrongOf};
+ghost use Rattle.columns.specs.Cells.{OneOrTwo, most_columns, lanes_of, last_lane};
+ghost use Rattle.plains.specs.Checks.{plain_test, plain_wrong, wrong_of};
 ghost use Rattle.plains.specs.Parts.{at_once, SomeLanes, PartIn};
 
 use lanes::{Matrix, UPPER};
@@ -21,8 +24,8 @@ const MOST: usize = 96;
 
 // What is wrong with cell c of a list of what is seen in lanes: nothing where it is owned and nobody controls it, else its bits.
 fn plain_wrong(seen: &[u16], q: usize, c: usize) -> u16
-    requires { OneOrTwo q × (c < mostColumns) × (lastLane q c < length seen.now) }
-    ensures { result ≡ plainWrong q (λ j. get_or seen.now j 0) c }
+    requires { OneOrTwo q × (c < most_columns) × (last_lane q c < length seen.now) }
+    ensures { result ≡ plain_wrong q (λ j. get_or seen.now j 0) c }
 {
     if seen[columns::last_lane(q, c)] / UPPER % 4 == 1 {
         0
@@ -33,8 +36,8 @@ fn plain_wrong(seen: &[u16], q: usize, c: usize) -> u16
 
 // What is wrong with the cells of a list from cell `from` on below k. All of them are looked at, so that the compiler may take many at once.
 fn cells_wrong(seen: &[u16], q: usize, from: usize, k: usize) -> u16
-    requires { OneOrTwo q × (k ≤ mostColumns) × (lanes_of q k ≤ length seen.now) × (from ≤ k) }
-    ensures { result ≡ wrongOf (plainWrong q (λ j. get_or seen.now j 0)) from k }
+    requires { OneOrTwo q × (k ≤ most_columns) × (lanes_of q k ≤ length seen.now) × (from ≤ k) }
+    ensures { result ≡ wrong_of (plain_wrong q (λ j. get_or seen.now j 0)) from k }
 {
     let mut wrong: u16 = 0;
     for c in from..k {
@@ -54,8 +57,8 @@ fn cells_in(q: usize, lanes: usize) -> usize
 // What is wrong with the cells of so many lanes of a list, from cell `from` on. Each number of a cell's lanes has a call of its own, so that the
 // compiler knows it.
 fn list_wrong(seen: &[u16], q: usize, from: usize, lanes: usize) -> u16
-    requires { OneOrTwo q × (lanes ≤ mostColumns) × (lanes ≤ length seen.now) × (from ≤ lanes / q) }
-    ensures { result ≡ wrongOf (plainWrong q (λ j. get_or seen.now j 0)) from (lanes / q) }
+    requires { OneOrTwo q × (lanes ≤ most_columns) × (lanes ≤ length seen.now) × (from ≤ lanes / q) }
+    ensures { result ≡ wrong_of (plain_wrong q (λ j. get_or seen.now j 0)) from (lanes / q) }
 {
     if q == 1 {
         cells_wrong(seen, 1, from, lanes)
@@ -76,7 +79,7 @@ fn part_wrong(
     from: usize,
 ) -> u16
     requires { PartIn b.now m q lanes a from × (lanes ≤ length seen.old) × (seen.old ≡ replicate (length seen.old) 0) }
-    ensures { result ≡ wrongOf (λ i. plainWrong q (seen_at b.now m) (a + i)) from (lanes / q) }
+    ensures { result ≡ wrong_of (λ i. plain_wrong q (seen_at b.now m) (a + i)) from (lanes / q) }
 {
     merging::merge(seen, b, m, columns::lanes_of(q, a), lanes);
     list_wrong(seen, q, from, lanes)
@@ -85,7 +88,7 @@ fn part_wrong(
 // The same for each number of lanes. It has a call and a list of its own, so that the compiler knows it and holds the list in registers.
 fn known_wrong(b: &[u8], m: Matrix, q: usize, lanes: usize, a: usize, from: usize) -> u16
     requires { PartIn b.now m q lanes a from × SomeLanes lanes }
-    ensures { result ≡ wrongOf (λ i. plainWrong q (seen_at b.now m) (a + i)) from (lanes / q) }
+    ensures { result ≡ wrong_of (λ i. plain_wrong q (seen_at b.now m) (a + i)) from (lanes / q) }
 {
     if lanes == MOST {
         let mut seen = [0u16; MOST];
@@ -132,8 +135,8 @@ fn lanes_for(left: usize, lanes: usize) -> usize
 
 // The plain columns, part by part. A last part that would go beyond the row begins earlier, and what it repeats is left out.
 fn parts_right(b: &[u8], f: Shape, m: Matrix, q: usize) -> bool
-    requires { Laid b.now m × OneOrTwo q × (columns f ≤ mostColumns) × (m.lanes ≡ lanes_of q (columns f)) × (at_once ≤ m.lanes) }
-    ensures { result ≡ all f.p (λ i. plainTest q (seen_at b.now m) (f.n + i)) }
+    requires { Laid b.now m × OneOrTwo q × (columns f ≤ most_columns) × (m.lanes ≡ lanes_of q (columns f)) × (at_once ≤ m.lanes) }
+    ensures { result ≡ all f.p (λ i. plain_test q (seen_at b.now m) (f.n + i)) }
 {
     let n = f.n;
     let all = n + f.p;
@@ -151,8 +154,8 @@ fn parts_right(b: &[u8], f: Shape, m: Matrix, q: usize) -> bool
 
 // The plain columns where they are no more than one part. It ends with the row, and what it has of the subjects' columns is left out.
 pub fn one_part(b: &[u8], f: Shape, m: Matrix, q: usize) -> bool
-    requires { Laid b.now m × OneOrTwo q × (columns f ≤ mostColumns) × (m.lanes ≡ lanes_of q (columns f)) × (at_once ≤ m.lanes) × (lanes_of q (f.p) ≤ at_once) }
-    ensures { result ≡ all f.p (λ i. plainTest q (seen_at b.now m) (f.n + i)) }
+    requires { Laid b.now m × OneOrTwo q × (columns f ≤ most_columns) × (m.lanes ≡ lanes_of q (columns f)) × (at_once ≤ m.lanes) × (lanes_of q (f.p) ≤ at_once) }
+    ensures { result ≡ all f.p (λ i. plain_test q (seen_at b.now m) (f.n + i)) }
 {
     let n = f.n;
     let a = n + f.p - cells_in(q, AT_ONCE);
@@ -162,8 +165,8 @@ pub fn one_part(b: &[u8], f: Shape, m: Matrix, q: usize) -> bool
 
 // The plain columns, which come after those of the subjects. Where a row has fewer lanes than a part, all of it is merged.
 pub fn plains(b: &[u8], f: Shape, m: Matrix, q: usize) -> bool
-    requires { Laid b.now m × OneOrTwo q × (columns f ≤ mostColumns) × (m.lanes ≡ lanes_of q (columns f)) }
-    ensures { result ≡ all f.p (λ i. plainTest q (seen_at b.now m) (f.n + i)) }
+    requires { Laid b.now m × OneOrTwo q × (columns f ≤ most_columns) × (m.lanes ≡ lanes_of q (columns f)) }
+    ensures { result ≡ all f.p (λ i. plain_test q (seen_at b.now m) (f.n + i)) }
 {
     if m.lanes < AT_ONCE {
         let mut seen = [0u16; AT_ONCE];

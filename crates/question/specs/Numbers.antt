@@ -5,7 +5,7 @@ use Rattle.matrix.specs.Numbers.{numbers}
 use Rattle.question.specs.declared.Safety.{Safety}
 
 -- value 0: safe; N + 1: leaks by N commands
-abbrev pub safetyNumbers : Safety → Numbers
-safetyNumbers Safety.Safe = numbers 0 0
-safetyNumbers (Safety.Leaks commands) = numbers 0 (commands + 1)
-safetyNumbers (Safety.Refused k) = numbers k 0
+abbrev pub safety_numbers : Safety → Numbers
+safety_numbers Safety.Safe = numbers 0 0
+safety_numbers (Safety.Leaks commands) = numbers 0 (commands + 1)
+safety_numbers (Safety.Refused k) = numbers k 0

@@ -3,5 +3,5 @@ use Rattle.std.specs.Prelude.{ℕ, Bool}
 use Rattle.matrix.specs.Bytes.{bit}
 
 -- the trusted set of a mask
-abbrev pub trustedBy : ℕ → ℕ → Bool
-trustedBy mask s = bit s mask
+abbrev pub trusted_by : ℕ → ℕ → Bool
+trusted_by mask s = bit s mask

@@ -1,7 +1,9 @@
 // The answer to a safety question. The definitions are in specs/.
 
+#![tactic(auto)]
+
 // Safe, or leaks by so many commands, or refused by a number.
-#[derive(Drop)]
+#[derive(Clone, Copy)]
 pub enum Safety {
     Safe,
     Leaks(usize),

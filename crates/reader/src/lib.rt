@@ -1,21 +1,23 @@
 // A reader over a lent list of commands: it yields one command after another. The struct holds the list and a position in it; each function
 // over it takes it apart, and leaves the work to `command_at`, which takes the list and the position.
 
+#![tactic(auto)]
+
 ghost use Rattle.std.specs.Prelude.{◌≡◌, true, ◌+◌, ◌≤◌, length};
-ghost use Rattle.matrix.specs.CommandList.{recordBytes, commandPlace, wellFormed, fields_at};
-ghost use Rattle.reader.specs.Left.{readAt};
+ghost use Rattle.matrix.specs.CommandList.{record_bytes, command_place, well_formed, fields_at};
+ghost use Rattle.reader.specs.Left.{read_at};
 
 use matrix::{Fields, LIST_HEAD, RECORD_BYTES};
 
 // A list, and the number of the command in it that is read next.
-#[derive(Drop)]
+#[derive(Clone, Copy)]
 pub struct Reader<'a> {
     pub list: &'a [u8],
     pub at: usize,
 }
 
 // What a reader yields: a command's fields and the position after it, or the end.
-#[derive(Drop)]
+#[derive(Clone, Copy)]
 pub enum Read {
     Command(Fields, usize),
     End,
@@ -23,8 +25,8 @@ pub enum Read {
 
 // The fields of the command numbered j.
 fn fields(l: &[u8], j: usize) -> Fields
-    requires { commandPlace j + recordBytes ≤ length l.now }
-    ensures { result ≡ fields_at l.now (commandPlace j) }
+    requires { command_place j + record_bytes ≤ length l.now }
+    ensures { result ≡ fields_at l.now (command_place j) }
 {
     let at = LIST_HEAD + RECORD_BYTES * j;
     let code = lists::wide(l[at + 1]);
@@ -37,8 +39,8 @@ fn fields(l: &[u8], j: usize) -> Fields
 
 // The decoder: what stands at a position of a list.
 fn command_at(l: &[u8], at: usize) -> Read
-    requires { wellFormed l.now ≡ true }
-    ensures { result ≡ readAt l.now at }
+    requires { well_formed l.now ≡ true }
+    ensures { result ≡ read_at l.now at }
 {
     if at < (l.len() - LIST_HEAD) / RECORD_BYTES {
         let c = fields(l, at);
@@ -64,16 +66,16 @@ pub fn moved<'a>(r: Reader<'a>, at: usize) -> Reader<'a>
 
 // The next command and the position after it, or the end.
 pub fn next<'a>(r: Reader<'a>) -> Read
-    requires { wellFormed r.list.now ≡ true }
-    ensures { result ≡ readAt r.entry.list.now r.entry.at }
+    requires { well_formed r.list.now ≡ true }
+    ensures { result ≡ read_at r.entry.list.now r.entry.at }
 {
     command_at(r.list, r.at)
 }
 
 // What a reader of the list yields at a position. Its parameters are a plain list and a number, so that a loop can call it.
 pub fn read_one(list: &[u8], at: usize) -> Read
-    requires { wellFormed list.now ≡ true }
-    ensures { result ≡ readAt list.now at }
+    requires { well_formed list.now ≡ true }
+    ensures { result ≡ read_at list.now at }
 {
     next(moved(new(list), at))
 }

@@ -5,48 +5,48 @@ use Rattle.std.proofs.Common.{arith, sym, ◌∙◌, subst, ⊎_elim, eqb-true, 
 use Rattle.matrix.specs.Bytes.{bit}
 use Rattle.matrix.specs.Names.{U}
 use Rattle.matrix.specs.State.{State}
-use Rattle.matrix.specs.Owners.{ownerOf}
+use Rattle.matrix.specs.Owners.{owner_of}
 use Rattle.laws.specs.Tests.{clash, or_cases}
-use Rattle.codec.specs.Bits.{bit-zero}
+use Rattle.codec.specs.Bits.{bit_zero}
 use Rattle.masks.specs.Marks.{Added}
 use Rattle.route.specs.Rise.{none, rise}
-use Rattle.chain.specs.Rising.{riseIn, rise-root, rise-up, rise-lost}
+use Rattle.chain.specs.Rising.{rise_in, rise_root, rise_up, rise_lost}
 
 pub record Shut (S : State) (trusted : ℕ → Bool) (v : ℕ) : Type 0 where
-  pub never : (left : ℕ) (passed : List ℕ) → riseIn S trusted left v passed ≡ none
+  pub never : (left : ℕ) (passed : List ℕ) → rise_in S trusted left v passed ≡ none
 
 -- every member of a set is shut
 pub record ShutAll (S : State) (trusted : ℕ → Bool) (set : ℕ) : Type 0 where
   pub each : (v : ℕ) → bit v set ≡ true → Shut S trusted v
 
 pub shut_none : (S : State) (trusted : ℕ → Bool) → ShutAll S trusted 0
-shut_none S trusted = record { each = λ v h. absurd (clash h (bit-zero v)) }
+shut_none S trusted = record { each = λ v h. absurd (clash h (bit_zero v)) }
 
 -- ---- one subject
 
 -- where the way up may visit a subject at all, it ends there
-shut_by : {S : State} {trusted : ℕ → Bool} {v : ℕ} → ((left : ℕ) (passed : List ℕ) → riseIn S trusted (suc left) v passed ≡ none) → Shut S trusted v
+shut_by : {S : State} {trusted : ℕ → Bool} {v : ℕ} → ((left : ℕ) (passed : List ℕ) → rise_in S trusted (suc left) v passed ≡ none) → Shut S trusted v
 unfolding rise
 shut_by {S} {trusted} {v} h = record { never = by }
   where
-    by : (left : ℕ) (passed : List ℕ) → riseIn S trusted left v passed ≡ none
+    by : (left : ℕ) (passed : List ℕ) → rise_in S trusted left v passed ≡ none
     by zero passed = refl
     by (suc left) passed = h left passed
 
 -- a trusted subject is shut that is U, that has no owner, or whose owner is shut
 module _ (S : State) {trusted : ℕ → Bool} {v : ℕ} (t : trusted v ≡ true) where
-  shut-root : v ≡ U → Shut S trusted v
-  shut-root u = shut_by (λ left passed. rise-root S.top S.owns trusted left v passed t (eq-eqb v U u))
+  shut_root : v ≡ U → Shut S trusted v
+  shut_root u = shut_by (λ left passed. rise_root S.top S.owns trusted left v passed t (eq-eqb v U u))
 
   module _ (u : v ≡ U → ⊥) where
-    shut-lost : S.top ≤ ownerOf S.top S.owns v → Shut S trusted v
-    shut-lost l =
-        shut_by (λ left passed. rise-lost S.top S.owns trusted left v passed t (ne_eqb v U u) (le-ltb (ownerOf S.top S.owns v) S.top l))
+    shut_lost : S.top ≤ owner_of S.top S.owns v → Shut S trusted v
+    shut_lost l =
+        shut_by (λ left passed. rise_lost S.top S.owns trusted left v passed t (ne_eqb v U u) (le-ltb (owner_of S.top S.owns v) S.top l))
 
-    shut-up : ownerOf S.top S.owns v < S.top → Shut S trusted (ownerOf S.top S.owns v) → Shut S trusted v
-    shut-up l h =
+    shut_up : owner_of S.top S.owns v < S.top → Shut S trusted (owner_of S.top S.owns v) → Shut S trusted v
+    shut_up l h =
         shut_by (λ left passed.
-        rise-up S.top S.owns trusted left v passed t (ne_eqb v U u) (lt-ltb (ownerOf S.top S.owns v) S.top l) ∙ h.never left (v ∷ passed))
+        rise_up S.top S.owns trusted left v passed t (ne_eqb v U u) (lt-ltb (owner_of S.top S.owns v) S.top l) ∙ h.never left (v ∷ passed))
 
 -- ---- one step up
 
@@ -54,20 +54,20 @@ module _ (S : State) {trusted : ℕ → Bool} {v : ℕ} (t : trusted v ≡ true)
 -- and the members of `closed` are shut.
 pub record Next (S : State) (closed v r : ℕ) : Type 0 where
   pub below : r < S.top → v ≡ U → ⊥
-  pub up : r < S.top → r ≡ ownerOf S.top S.owns v
+  pub up : r < S.top → r ≡ owner_of S.top S.owns v
   pub ends : S.top ≤ r → (trusted : ℕ → Bool) → trusted v ≡ true → ShutAll S trusted closed → Shut S trusted v
 
 -- r is no subject: v is U, or is known to be shut
 module _ (S : State) (closed v : ℕ) {r : ℕ} (l : S.top ≤ r) where
-  pub next-root : v ≡ U → Next S closed v r
-  next-root u = record { below = λ k. absurd (omega arith); up = λ k. absurd (omega arith); ends = λ g trusted t h. shut-root S t u }
+  pub next_root : v ≡ U → Next S closed v r
+  next_root u = record { below = λ k. absurd (omega arith); up = λ k. absurd (omega arith); ends = λ g trusted t h. shut_root S t u }
 
-  pub next-closed : bit v closed ≡ true → Next S closed v r
-  next-closed c = record { below = λ k. absurd (omega arith); up = λ k. absurd (omega arith); ends = λ g trusted t h. h.each v c }
+  pub next_closed : bit v closed ≡ true → Next S closed v r
+  next_closed c = record { below = λ k. absurd (omega arith); up = λ k. absurd (omega arith); ends = λ g trusted t h. h.each v c }
 
 -- r is what the search for the owner of v found
-pub next-owner : (S : State) (closed v : ℕ) {r : ℕ} → (v ≡ U → ⊥) → r ≡ ownerOf S.top S.owns v → Next S closed v r
-next-owner S closed v u e = record { below = λ k. u; up = λ k. e; ends = λ g trusted t h. shut-lost S t u (subst (λ (r : ℕ). S.top ≤ r) e g) }
+pub next_owner : (S : State) (closed v : ℕ) {r : ℕ} → (v ≡ U → ⊥) → r ≡ owner_of S.top S.owns v → Next S closed v r
+next_owner S closed v u e = record { below = λ k. u; up = λ k. e; ends = λ g trusted t h. shut_lost S t u (subst (λ (r : ℕ). S.top ≤ r) e g) }
 
 -- ---- the subjects passed
 
@@ -84,8 +84,8 @@ pub seen_up : {S : State} {trusted : ℕ → Bool} {closed at seen r more : ℕ}
 seen_up {S} {trusted} {at = at} {r = r} h t next l g =
     record {
       shuts =
-          λ s. let e : r ≡ ownerOf S.top S.owns at = next.up l in
-          let k : Shut S trusted at = shut-up S t (next.below l) (omega arith) (subst (Shut S trusted) e s) in
+          λ s. let e : r ≡ owner_of S.top S.owns at = next.up l in
+          let k : Shut S trusted at = shut_up S t (next.below l) (omega arith) (subst (Shut S trusted) e s) in
           record {
             each =
                 λ v m. ⊎_elim (λ b. (h.shuts k).each v b) (λ q. subst (Shut S trusted) (sym (eqb-true v at q)) k)

@@ -1,17 +1,19 @@
 // The way up from one subject of a record that is of the right form: from owner to owner to the first untrusted subject.
 
+#![tactic(auto)]
+
 ghost use Rattle.std.specs.Prelude.{◌≡◌, ◌<◌, length};
-ghost use Rattle.matrix.specs.Shape.{mostSubjects};
+ghost use Rattle.matrix.specs.Shape.{most_subjects};
 ghost use Rattle.matrix.specs.Reading.{state_of};
 ghost use Rattle.states.specs.Needs.{Guessed};
-ghost use Rattle.question.specs.Trust.{trustedBy};
+ghost use Rattle.question.specs.Trust.{trusted_by};
 ghost use Rattle.rising.specs.Rises.{Rises};
 ghost use Rattle.rising.specs.Shut.{ShutAll, Next};
 
 use matrix::{MOST_SUBJECTS, Shape};
 
 // What the way up finds: the first untrusted subject and how many trusted ones were passed, or none.
-#[derive(Drop)]
+#[derive(Clone, Copy)]
 pub enum Climbed {
     At(usize, usize),
     None,
@@ -43,8 +45,8 @@ pub fn rise_from(
     closed: &mut u64,
     path: &mut [u8; MOST_SUBJECTS],
 ) -> Climbed
-    requires { Guessed b.now f owners.now × (w < f.n) × ShutAll (state_of b.now) (trustedBy trust) closed.old × (length path.old ≡ mostSubjects) }
-    ensures { Rises b.now f.n (trustedBy trust) w path.new result × ShutAll (state_of b.now) (trustedBy trust) closed.new }
+    requires { Guessed b.now f owners.now × (w < f.n) × ShutAll (state_of b.now) (trusted_by trust) closed.old × (length path.old ≡ most_subjects) }
+    ensures { Rises b.now f.n (trusted_by trust) w path.new result × ShutAll (state_of b.now) (trusted_by trust) closed.new }
 {
     let n = f.n;
     let mut at = w;

@@ -7,7 +7,7 @@ use Rattle.matrix.specs.declared.Form.TheVariants.{Starred}
 use Rattle.matrix.specs.declared.Right.{Right}
 use Rattle.matrix.specs.declared.Right.TheVariants.{Own, Control, Basic}
 use Rattle.matrix.specs.declared.Fields.{Fields}
-use Rattle.matrix.specs.Names.{columnOf}
+use Rattle.matrix.specs.Names.{column_of}
 
 abbrev pub fields : ℕ → ℕ → ℕ → ℕ → ℕ → Fields
 fields code i s o k = record { code = code; i = i; s = s; o = o; k = k }
@@ -19,56 +19,56 @@ destroys v w = fields 13 v w 0 0
 abbrev pub creates : ℕ → ℕ → Fields
 creates v w = fields 12 v w 0 0
 
-abbrev pub createsName : ℕ → Name → Fields
-createsName v (Subject w) = creates v w
-createsName v (Name.Plain o) = fields 10 v 0 o 0
+abbrev pub creates_name : ℕ → Name → Fields
+creates_name v (Subject w) = creates v w
+creates_name v (Name.Plain o) = fields 10 v 0 o 0
 
 -- the code by which an owner gives a right over o: 3 own of a subject, 7 own of a plain object, 6 control, 4 or 5 a basic right
-abbrev pub givingCode : Name → Right → ℕ
-givingCode (Subject o) Own = 3
-givingCode (Name.Plain o) Own = 7
-givingCode (Subject o) Control = 6
-givingCode (Name.Plain o) Control = 6
-givingCode (Subject o) (Basic k Form.Plain) = 4
-givingCode (Name.Plain o) (Basic k Form.Plain) = 4
-givingCode (Subject o) (Basic k Starred) = 5
-givingCode (Name.Plain o) (Basic k Starred) = 5
+abbrev pub giving_code : Name → Right → ℕ
+giving_code (Subject o) Own = 3
+giving_code (Name.Plain o) Own = 7
+giving_code (Subject o) Control = 6
+giving_code (Name.Plain o) Control = 6
+giving_code (Subject o) (Basic k Form.Plain) = 4
+giving_code (Name.Plain o) (Basic k Form.Plain) = 4
+giving_code (Subject o) (Basic k Starred) = 5
+giving_code (Name.Plain o) (Basic k Starred) = 5
 
-abbrev pub basicNumber : Right → ℕ
-basicNumber Own = 0
-basicNumber Control = 0
-basicNumber (Basic k f) = k
+abbrev pub basic_number : Right → ℕ
+basic_number Own = 0
+basic_number Control = 0
+basic_number (Basic k f) = k
 
 -- the owner v of o gives s the right x over o
 abbrev pub gives : ℕ → ℕ → Name → Right → Fields
-gives v s o x = fields (givingCode o x) v s (columnOf o) (basicNumber x)
+gives v s o x = fields (giving_code o x) v s (column_of o) (basic_number x)
 
 -- i, who has the starred right k over o, passes s the right k in a form
 abbrev pub passes : ℕ → ℕ → Name → ℕ → Form → Fields
-passes i s o k Form.Plain = fields 1 i s (columnOf o) k
-passes i s o k Starred = fields 2 i s (columnOf o) k
+passes i s o k Form.Plain = fields 1 i s (column_of o) k
+passes i s o k Starred = fields 2 i s (column_of o) k
 
 -- own over a name makes the right held: every right but control
-abbrev pub heldByOwn : Right → Bool
-heldByOwn Own = true
-heldByOwn Control = false
-heldByOwn (Basic k f) = true
+abbrev pub held_by_own : Right → Bool
+held_by_own Own = true
+held_by_own Control = false
+held_by_own (Basic k f) = true
 
 -- The end of a list, once v owns o: o is destroyed and created again where `again` says so, s is created where it is `absent`, and
 -- v gives s the right.
 abbrev pub finish : ℕ → ℕ → Name → Right → Bool → Bool → List Fields
 finish v s o x absent again =
-    cond again (destroys v (columnOf o) ∷ creates v (columnOf o) ∷ []) [] ++ (cond absent (creates v s ∷ []) [] ++ (gives v s o x ∷ []))
+    cond again (destroys v (column_of o) ∷ creates v (column_of o) ∷ []) [] ++ (cond absent (creates v s ∷ []) [] ++ (gives v s o x ∷ []))
 
 -- v destroys each subject of a list in turn
-unfoldable pub destroysAll : ℕ → List ℕ → List Fields
-destroysAll v [] = []
-destroysAll v (w ∷ ws) = destroys v w ∷ destroysAll v ws
+unfoldable pub destroys_all : ℕ → List ℕ → List Fields
+destroys_all v [] = []
+destroys_all v (w ∷ ws) = destroys v w ∷ destroys_all v ws
 
 -- the subjects of a list up to the first that owns o
-unfoldable pub untilOwner : (ℕ → Name → Bool) → Name → List ℕ → List ℕ
-untilOwner owns o [] = []
-untilOwner owns o (w ∷ ws) = w ∷ cond (owns w o) [] (untilOwner owns o ws)
+unfoldable pub until_owner : (ℕ → Name → Bool) → Name → List ℕ → List ℕ
+until_owner owns o [] = []
+until_owner owns o (w ∷ ws) = w ∷ cond (owns w o) [] (until_owner owns o ws)
 
 unfoldable pub among : ℕ → List ℕ → Bool
 among w [] = false

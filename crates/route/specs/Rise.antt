@@ -2,7 +2,7 @@
 use Rattle.std.specs.Prelude.{ℕ, zero, suc, Bool, true, false, cond, List, ◌∷◌, eqb, ltb}
 use Rattle.matrix.specs.declared.Name.{Name}
 use Rattle.matrix.specs.Names.{U}
-use Rattle.matrix.specs.Owners.{ownerOf}
+use Rattle.matrix.specs.Owners.{owner_of}
 
 -- the first untrusted subject v met, with the trusted ones passed on the way, the highest first; or none up to U
 pub data Risen : Type 0 where
@@ -15,7 +15,7 @@ rise top owns trusted zero w passed = none
 rise top owns trusted (suc left) w passed =
     cond (trusted w)
     (cond (eqb w U) none
-    (cond (ltb (ownerOf top owns w) top) (rise top owns trusted left (ownerOf top owns w) (w ∷ passed)) none))
+    (cond (ltb (owner_of top owns w) top) (rise top owns trusted left (owner_of top owns w) (w ∷ passed)) none))
     (meets_at w passed)
 
 abbrev pub rises : Risen → Bool

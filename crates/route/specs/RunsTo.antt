@@ -3,12 +3,12 @@ use Rattle.std.specs.Prelude.{◌≡◌, List, [], ◌∷◌}
 use Rattle.matrix.specs.declared.Fields.{Fields}
 use Rattle.matrix.specs.declared.Shape.{Shape}
 use Rattle.matrix.specs.State.{State}
-use Rattle.matrix.specs.Calls.{refusalOn, nextOn}
+use Rattle.matrix.specs.Calls.{refusal_on, next_on}
 
 -- the command is accepted on S, and leaves the state T
 pub record Accepts (f : Shape) (S : State) (c : Fields) (T : State) : Type 0 where
-  pub accepted : refusalOn f S c ≡ 0
-  pub leaves : nextOn f S c ≡ T
+  pub accepted : refusal_on f S c ≡ 0
+  pub leaves : next_on f S c ≡ T
 
 pub data RunsTo (f : Shape) : State → List Fields → State → Type 0 where
   done : {S : State} → RunsTo f S [] S

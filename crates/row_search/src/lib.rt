@@ -1,22 +1,24 @@
 // The searches over the rows of a column: the lowest row with a bit, whether any row but one has it, and the lowest block of four rows of which
 // one has it. Each reads the lowest bytes of the column's cells alone.
 
+#![tactic(auto)]
+
 ghost use Rattle.std.specs.Prelude.{◌≡◌, cond, ◌+◌, ◌*◌, ◌/◌, ◌<◌, eqb, length, get_or};
 ghost use Rattle.matrix.specs.Bounded.{any, least};
 ghost use Rattle.matrix.specs.Bytes.{bit};
 ghost use Rattle.matrix.specs.Shape.{columns};
 ghost use Rattle.codec.specs.ShapeRight.{ShapeRight};
 ghost use Rattle.cells.specs.Station.{Station};
-ghost use Rattle.cells.specs.Places.{lowPlace};
-ghost use Rattle.row_search.specs.Rows.{rowHas};
-ghost use Rattle.row_search.specs.Blocks.{blockHas};
+ghost use Rattle.cells.specs.Places.{low_place};
+ghost use Rattle.row_search.specs.Rows.{row_has};
+ghost use Rattle.row_search.specs.Blocks.{block_has};
 
 use matrix::Shape;
 
 // The place of the lowest byte of the first row's cell in column c.
 fn low_place(f: Shape, c: usize) -> usize
     requires { ShapeRight f × (c < columns f) }
-    ensures { result ≡ lowPlace f 0 c }
+    ensures { result ≡ low_place f 0 c }
 {
     cells::place(f, 0, c) + (f.width - 1)
 }
@@ -25,7 +27,7 @@ fn low_place(f: Shape, c: usize) -> usize
 // its place in row r.
 pub fn first_row(b: &[u8], f: Shape, c: usize, j: usize) -> usize
     requires { Station b.now f × (c < columns f) × (j < 8) }
-    ensures { result ≡ least f.n (rowHas b.now c j f.n) }
+    ensures { result ≡ least f.n (row_has b.now c j f.n) }
 {
     let n = f.n;
     let stride = cells::row_bytes(f);
@@ -49,7 +51,7 @@ fn unless_skipped(v: usize, r: usize, skip: usize) -> usize
 // Whether a row but `skip` has bit j in column c. It reads the lowest bytes of all rows, without a branch, and asks at the end.
 pub fn some_row(b: &[u8], f: Shape, c: usize, j: usize, skip: usize) -> bool
     requires { Station b.now f × (c < columns f) × (j < 8) }
-    ensures { result ≡ any f.n (rowHas b.now c j skip) }
+    ensures { result ≡ any f.n (row_has b.now c j skip) }
 {
     let n = f.n;
     let stride = cells::row_bytes(f);
@@ -75,7 +77,7 @@ fn one_of_four(b: &[u8], at: usize, stride: usize, j: usize) -> bool
 // block q are 4 q to 4 q + 3; their lowest bytes are tested together, the first of them at `low`.
 pub fn first_block(b: &[u8], f: Shape, c: usize, j: usize) -> usize
     requires { Station b.now f × (c < columns f) × (j < 8) }
-    ensures { result ≡ least (f.n / 4) (blockHas b.now c j) }
+    ensures { result ≡ least (f.n / 4) (block_has b.now c j) }
 {
     let stride = cells::row_bytes(f);
     let blocks = f.n / 4;

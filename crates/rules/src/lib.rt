@@ -1,9 +1,11 @@
 // The tests 9 to 12 and 19 of a command on a record, each by itself. Those of existence ask that the record is valid.
 
+#![tactic(auto)]
+
 ghost use Rattle.std.specs.Prelude.{◌≡◌, ◌&&◌};
-ghost use Rattle.matrix.specs.State.{exists, existsName};
+ghost use Rattle.matrix.specs.State.{exists, exists_name};
 ghost use Rattle.matrix.specs.Valid.{Valid};
-ghost use Rattle.matrix.specs.Tests.{kindFits, present, free, permitted, deletable};
+ghost use Rattle.matrix.specs.Tests.{kind_fits, present, free, permitted, deletable};
 ghost use Rattle.matrix.specs.Reading.{state_of};
 ghost use Rattle.states.specs.Needs.{RightIn};
 ghost use Rattle.rules.specs.Needs.{CommandIn};
@@ -12,7 +14,7 @@ use matrix::{Act, Command, Form, Kind, Name, Right, Shape};
 
 // Whether a name is of the kind that a command needs.
 pub fn kind_fits(kind: Kind, x: Name) -> bool
-    ensures { result ≡ kindFits kind x }
+    ensures { result ≡ kind_fits kind x }
 {
     match kind {
         Kind::AnyName => true,
@@ -30,7 +32,7 @@ pub fn kind_fits(kind: Kind, x: Name) -> bool
 // Whether s and o exist.
 fn both_exist(b: &[u8], f: Shape, c: Command) -> bool
     requires { CommandIn b.now f c × Valid (state_of b.now) }
-    ensures { result ≡ (exists (state_of b.now) c.s && existsName (state_of b.now) c.o) }
+    ensures { result ≡ (exists (state_of b.now) c.s && exists_name (state_of b.now) c.o) }
 {
     let o = c.o;
     if states::subject_exists(b, f, c.s) {

@@ -7,15 +7,15 @@ use Rattle.matrix.specs.State.{State}
 use Rattle.matrix.specs.Shape.{shape_of}
 use Rattle.matrix.specs.Valid.{Valid}
 use Rattle.matrix.specs.Reading.{state_of}
-use Rattle.matrix.specs.CommandList.{commandsFrom, commandsOf}
-use Rattle.matrix.specs.Calls.{Ran, run_from, ranOn}
+use Rattle.matrix.specs.CommandList.{commands_from, commands_of}
+use Rattle.matrix.specs.Calls.{Ran, run_from, ran_on}
 use Rattle.cells.specs.Station.{Station}
 use Rattle.bits.specs.Became.{Became}
 
 -- the run's outcome and bytes b' are the definition's
 pub record RunOn (b b' l : List ℕ) (r : Outcome) : Type 0 where
-  pub outcome : r ≡ record { accepted = (ranOn b l).accepted; refusal = (ranOn b l).refusal }
-  pub became : Became b b' (ranOn b l).state
+  pub outcome : r ≡ record { accepted = (ran_on b l).accepted; refusal = (ran_on b l).refusal }
+  pub became : Became b b' (ran_on b l).state
 
 -- After j of m commands: the bytes b are still valid, and what is left of the list comes to the same on them as the whole list does on the bytes
 -- b₀. What commands come to on a state, j of them before it, is `end j`.
@@ -24,8 +24,8 @@ pub record Reached {A : Type 0} (end : ℕ → State → List Fields → A) (b�
   pub valid : Valid (state_of b)
   pub shape : shape_of b ≡ shape_of b₀
   pub size : length b ≡ length b₀
-  pub rest : end j (state_of b) (commandsFrom l j (m - j)) ≡ end 0 (state_of b₀) (commandsOf l)
+  pub rest : end j (state_of b) (commands_from l j (m - j)) ≡ end 0 (state_of b₀) (commands_of l)
 
 -- what a run comes to
-abbrev pub ranFrom : List ℕ → ℕ → State → List Fields → Ran
-ranFrom b₀ j S cs = run_from j (shape_of b₀) S cs
+abbrev pub ran_from : List ℕ → ℕ → State → List Fields → Ran
+ran_from b₀ j S cs = run_from j (shape_of b₀) S cs

@@ -1,8 +1,10 @@
 // A list run on a valid record, with a list that is of the right form.
 
+#![tactic(auto)]
+
 ghost use Rattle.std.specs.Prelude.{◌≡◌, true};
-ghost use Rattle.matrix.specs.Numbers.{commandNumbers};
-ghost use Rattle.matrix.specs.CommandList.{wellFormed};
+ghost use Rattle.matrix.specs.Numbers.{command_numbers};
+ghost use Rattle.matrix.specs.CommandList.{well_formed};
 ghost use Rattle.states.specs.Needs.{Guessed};
 ghost use Rattle.runs.specs.Reached.{RunOn};
 
@@ -11,7 +13,7 @@ use reader::Read;
 
 // The number of an answer: 0 for accepted, else the refusal's.
 fn number_of(a: Answer) -> usize
-    ensures { result ≡ (commandNumbers a).refusal }
+    ensures { result ≡ (command_numbers a).refusal }
 {
     match a {
         Answer::Accepted(_) => 0,
@@ -22,7 +24,7 @@ fn number_of(a: Answer) -> usize
 // The commands of the list in turn, up to the first that is refused. The guesses of who owns each subject follow the commands; where one
 // is wrong all the same, that owner is searched.
 pub fn run_on(b: &mut [u8], f: Shape, owners: &mut [u8; MOST_SUBJECTS], l: &[u8]) -> Outcome
-    requires { Guessed b.old f owners.old × (wellFormed l.now ≡ true) }
+    requires { Guessed b.old f owners.old × (well_formed l.now ≡ true) }
     ensures { RunOn b.old b.new l.now result }
 {
     let mut accepted = 0;

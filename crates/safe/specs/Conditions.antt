@@ -18,10 +18,10 @@ abbrev pub Starless : State → (ℕ → Bool) → Name → Right → Type 0
 Starless S trusted o x = (k : ℕ) (f : Form) → x ≡ Basic k f → (v : ℕ) → trusted v ≡ false → S.basic k Starred v o ≡ false
 
 -- w has over o the star of the right x: the starred form of a basic right. Own and control have no star.
-abbrev pub hasStar : State → Right → ℕ → Name → Bool
-hasStar S Own w o = false
-hasStar S Control w o = false
-hasStar S (Basic k f) w o = S.basic k Starred w o
+abbrev pub has_star : State → Right → ℕ → Name → Bool
+has_star S Own w o = false
+has_star S Control w o = false
+has_star S (Basic k f) w o = S.basic k Starred w o
 
 -- o itself, or a subject above it
 abbrev pub UpFrom : (ℕ → Name → Bool) → Name → Name → Type 0

@@ -18,7 +18,7 @@ possible s (Subject o) (Basic k f) = true
 
 -- The targets that no valid state has: own over oneself, own over U, control over U by another, control over a plain object.
 pub data Impossible (s : ℕ) (o : Name) (x : Right) : Type 0 where
-  own-itself : x ≡ Own → o ≡ Subject s → Impossible s o x
+  own_itself : x ≡ Own → o ≡ Subject s → Impossible s o x
   own_root : x ≡ Own → o ≡ Subject U → Impossible s o x
-  control-root : x ≡ Control → o ≡ Subject U → s ≢ U → Impossible s o x
-  control-plain : (a : ℕ) → x ≡ Control → o ≡ Plain a → Impossible s o x
+  control_root : x ≡ Control → o ≡ Subject U → s ≢ U → Impossible s o x
+  control_plain : (a : ℕ) → x ≡ Control → o ≡ Plain a → Impossible s o x

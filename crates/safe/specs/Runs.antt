@@ -13,10 +13,10 @@ use Rattle.laws.specs.Passed.{taken}
 use Rattle.kept.specs.Allowed.{Allowed, allowed}
 
 -- What holds of a state, and of its change by a command that is allowed, holds after the command, accepted or refused.
-pub next-by : (I : State → Type 0) (basics : ℕ) (names : Bool) (S : State) (c : Raw) → I S
+pub next_by : (I : State → Type 0) (basics : ℕ) (names : Bool) (S : State) (c : Raw) → I S
     → (Allowed S (decode c) (decode c).act → I (change S (decode c) (decode c).act)) → I (next basics names S c)
 unfolding next
-next-by I basics names S c h changed =
+next_by I basics names S c h changed =
     ⊎_elim (λ e. rw e (changed (allowed S (decode c) (taken basics names S c (eqb-true (refusal basics names S c) 0 e)).decoded)))
     (λ e. rw e h) (way (eqb (refusal basics names S c) 0))
 
@@ -30,25 +30,25 @@ each_map [] f each = tt
 each_map (x ∷ xs) f each = (f x each.0, each_map xs f each.1)
 
 -- what each command of a class keeps, a list of such commands keeps
-pub after-keeps : (P : Raw → Type 0) (I : State → Type 0) (basics : ℕ) → ((T : State) (c : Raw) → P c → I T → I (next basics true T c))
+pub after_keeps : (P : Raw → Type 0) (I : State → Type 0) (basics : ℕ) → ((T : State) (c : Raw) → P c → I T → I (next basics true T c))
     → (S : State) (cs : List Raw) → Each P cs → I S → I (after basics S cs)
 unfolding after
-after-keeps P I basics step S [] each h = h
-after-keeps P I basics step S (c ∷ cs) each h =
-    after-keeps P I basics step (next basics true S c) cs each.1 (step S c each.0 h)
+after_keeps P I basics step S [] each h = h
+after_keeps P I basics step S (c ∷ cs) each h =
+    after_keeps P I basics step (next basics true S c) cs each.1 (step S c each.0 h)
 
 -- the class of the safety question: the commands that untrusted subjects begin
-pub begun-each : (trusted : ℕ → Bool) (cs : List Raw) → Begun trusted cs → Each (λ c. trusted c.i ≡ false) cs
-begun-each trusted [] h = tt
-begun-each trusted (c ∷ cs) h = (h.0, begun-each trusted cs h.1)
+pub begun_each : (trusted : ℕ → Bool) (cs : List Raw) → Begun trusted cs → Each (λ c. trusted c.i ≡ false) cs
+begun_each trusted [] h = tt
+begun_each trusted (c ∷ cs) h = (h.0, begun_each trusted cs h.1)
 
 -- A right is safe by a property of states: it holds at the start, every command of an untrusted subject keeps it, and where it holds
 -- the right is not held.
-pub safe-by : (basics : ℕ) (S : State) (trusted : ℕ → Bool) (s : ℕ) (o : Name) (x : Right) (I : State → Type 0) → I S
+pub safe_by : (basics : ℕ) (S : State) (trusted : ℕ → Bool) (s : ℕ) (o : Name) (x : Right) (I : State → Type 0) → I S
     → ((T : State) (c : Raw) → trusted c.i ≡ false → I T → I (next basics true T c))
     → ((T : State) → I T → held T x s o ≡ false) → Safe basics S trusted s o x
-safe-by basics S trusted s o x I start step unheld =
+safe_by basics S trusted s o x I start step unheld =
     record {
       never = λ cs begun. unheld (after basics S cs)
-          (after-keeps (λ c. trusted c.i ≡ false) I basics step S cs (begun-each trusted cs begun) start);
+          (after_keeps (λ c. trusted c.i ≡ false) I basics step S cs (begun_each trusted cs begun) start);
     }

@@ -10,16 +10,16 @@ use Rattle.matrix.specs.declared.Right.{Right}
 use Rattle.matrix.specs.declared.Fields.{Fields}
 use Rattle.matrix.specs.declared.Shape.{Shape}
 use Rattle.matrix.specs.Bounded.{least}
-use Rattle.matrix.specs.State.{State, held, existsName}
+use Rattle.matrix.specs.State.{State, held, exists_name}
 use Rattle.matrix.specs.Reading.{state_of}
 use Rattle.question.specs.declared.Safety.{Safety}
 use Rattle.question.specs.declared.Safety.TheVariants.{Leaks}
 use Rattle.safe.specs.Possible.{possible}
-use Rattle.ways.specs.Ways.{Way, held-now, by-star, by-creation, from-above, no_way, starHolder, untrustedIn, wayOver, wayMade, way_of}
-use Rattle.writing.specs.Put.{put_all, putHead, putList}
+use Rattle.ways.specs.Ways.{Way, held_now, by_star, by_creation, from_above, no_way, star_holder, untrusted_in, way_over, way_made, way_of}
+use Rattle.writing.specs.Put.{put_all, put_head, put_list}
 use Rattle.rising.specs.declared.Climbed.{Climbed}
 use Rattle.rising.specs.declared.Climbed.TheVariants.{At}
-use Rattle.climbing.specs.Climbs.{Leads, climbedTo}
+use Rattle.climbing.specs.Climbs.{Leads, climbed_to}
 use Rattle.ways.specs.Path.{listed}
 use Rattle.told.specs.Told.{Told}
 use Rattle.safety.specs.Asks.{Asks, Headed, PathOf}
@@ -36,73 +36,73 @@ pub told_none : (S : State) (s : ℕ) (x : Name) (y : Right) (out : List ℕ) �
 told_none S s x y out = record { reply = refl; buffer = refl }
 
 module _ (S : State) (trusted : ℕ → Bool) (s : ℕ) (x : Name) (y : Right) where
-  pub way-held : held S y s x ≡ true → way_of S trusted s x y ≡ held-now
+  pub way_held : held S y s x ≡ true → way_of S trusted s x y ≡ held_now
   unfolding way_of
-  way-held f = rw f refl
+  way_held f = rw f refl
 
   module _ (unheld : held S y s x ≡ false) where
-    pub way-impossible : {u : Bool} → u ≡ possible s x y → u ≡ false → way_of S trusted s x y ≡ no_way
+    pub way_impossible : {u : Bool} → u ≡ possible s x y → u ≡ false → way_of S trusted s x y ≡ no_way
     unfolding way_of
-    way-impossible e h = let g : possible s x y ≡ false = sym e ∙ h in rw (unheld, g) refl
+    way_impossible e h = let g : possible s x y ≡ false = sym e ∙ h in rw (unheld, g) refl
 
-    module _ {u : Bool} {n i : ℕ} (reachable : u ≡ possible s x y) (yes' : u ≡ true) (top : S.top ≡ n) (star : i ≡ least n (starHolder S trusted x y)) where
-      found : i ≡ least S.top (starHolder S trusted x y)
-      found = star ∙ ap (λ (m : ℕ). least m (starHolder S trusted x y)) (sym top)
+    module _ {u : Bool} {n i : ℕ} (reachable : u ≡ possible s x y) (yes' : u ≡ true) (top : S.top ≡ n) (star : i ≡ least n (star_holder S trusted x y)) where
+      found : i ≡ least S.top (star_holder S trusted x y)
+      found = star ∙ ap (λ (m : ℕ). least m (star_holder S trusted x y)) (sym top)
 
-      pub way-star : i < n → way_of S trusted s x y ≡ by-star i
+      pub way_star : i < n → way_of S trusted s x y ≡ by_star i
       unfolding way_of
-      way-star l =
+      way_star l =
           let g : possible s x y ≡ true = sym reachable ∙ yes' in
-          let h : ltb (least S.top (starHolder S trusted x y)) S.top ≡ true = sym (ap₂ (λ (a b : ℕ). ltb a b) found (sym top)) ∙ lt-ltb i n l in
-          rw (unheld, g, h) (ap by-star (sym found))
+          let h : ltb (least S.top (star_holder S trusted x y)) S.top ≡ true = sym (ap₂ (λ (a b : ℕ). ltb a b) found (sym top)) ∙ lt-ltb i n l in
+          rw (unheld, g, h) (ap by_star (sym found))
 
-      pub way-over : {v : Bool} → n ≤ i → v ≡ existsName S x → v ≡ true → way_of S trusted s x y ≡ wayOver S trusted x
+      pub way_over_lem : {v : Bool} → n ≤ i → v ≡ exists_name S x → v ≡ true → way_of S trusted s x y ≡ way_over S trusted x
       unfolding way_of
-      way-over l e h =
+      way_over_lem l e h =
           let g : possible s x y ≡ true = sym reachable ∙ yes' in
-          let k : ltb (least S.top (starHolder S trusted x y)) S.top ≡ false = sym (ap₂ (λ (a b : ℕ). ltb a b) found (sym top)) ∙ le-ltb i n l in
-          let q : existsName S x ≡ true = sym e ∙ h in
+          let k : ltb (least S.top (star_holder S trusted x y)) S.top ≡ false = sym (ap₂ (λ (a b : ℕ). ltb a b) found (sym top)) ∙ le-ltb i n l in
+          let q : exists_name S x ≡ true = sym e ∙ h in
           rw (unheld, g, k, q) refl
 
-      pub way-made : {v : Bool} → n ≤ i → v ≡ existsName S x → v ≡ false → way_of S trusted s x y ≡ wayMade S trusted
+      pub way_made_lem : {v : Bool} → n ≤ i → v ≡ exists_name S x → v ≡ false → way_of S trusted s x y ≡ way_made S trusted
       unfolding way_of
-      way-made l e h =
+      way_made_lem l e h =
           let g : possible s x y ≡ true = sym reachable ∙ yes' in
-          let k : ltb (least S.top (starHolder S trusted x y)) S.top ≡ false = sym (ap₂ (λ (a b : ℕ). ltb a b) found (sym top)) ∙ le-ltb i n l in
-          let q : existsName S x ≡ false = sym e ∙ h in
+          let k : ltb (least S.top (star_holder S trusted x y)) S.top ≡ false = sym (ap₂ (λ (a b : ℕ). ltb a b) found (sym top)) ∙ le-ltb i n l in
+          let q : exists_name S x ≡ false = sym e ∙ h in
           rw (unheld, g, k, q) refl
 
 -- the way over an absent name, from the search for an untrusted subject
-module _ (S : State) (trusted : ℕ → Bool) {n v : ℕ} (top : S.top ≡ n) (found : v ≡ least n (untrustedIn S trusted)) where
-  same : v ≡ least S.top (untrustedIn S trusted)
-  same = found ∙ ap (λ (m : ℕ). least m (untrustedIn S trusted)) (sym top)
+module _ (S : State) (trusted : ℕ → Bool) {n v : ℕ} (top : S.top ≡ n) (found : v ≡ least n (untrusted_in S trusted)) where
+  same : v ≡ least S.top (untrusted_in S trusted)
+  same = found ∙ ap (λ (m : ℕ). least m (untrusted_in S trusted)) (sym top)
 
-  pub made_by : v < n → wayMade S trusted ≡ by-creation v
-  unfolding wayMade
+  pub made_by : v < n → way_made S trusted ≡ by_creation v
+  unfolding way_made
   made_by l =
-      let h : ltb (least S.top (untrustedIn S trusted)) S.top ≡ true = sym (ap₂ (λ (a b : ℕ). ltb a b) same (sym top)) ∙ lt-ltb v n l in
-      rw h (ap by-creation (sym same))
+      let h : ltb (least S.top (untrusted_in S trusted)) S.top ≡ true = sym (ap₂ (λ (a b : ℕ). ltb a b) same (sym top)) ∙ lt-ltb v n l in
+      rw h (ap by_creation (sym same))
 
-  pub made_none : n ≤ v → wayMade S trusted ≡ no_way
-  unfolding wayMade
+  pub made_none : n ≤ v → way_made S trusted ≡ no_way
+  unfolding way_made
   made_none l =
-      let h : ltb (least S.top (untrustedIn S trusted)) S.top ≡ false = sym (ap₂ (λ (a b : ℕ). ltb a b) same (sym top)) ∙ le-ltb v n l in
+      let h : ltb (least S.top (untrusted_in S trusted)) S.top ≡ false = sym (ap₂ (λ (a b : ℕ). ltb a b) same (sym top)) ∙ le-ltb v n l in
       rw h refl
 
 -- a list cs that is written whole, and then headed
-pub headed-list : (out : List ℕ) {mid out' : List ℕ} (cs : List Fields) {k : ℕ} {r : Safety} → mid ≡ put_all out 0 cs → k ≡ 0 + length cs → Headed mid out' k r → (out' ≡ putList out cs) × (r ≡ Leaks (length cs))
-unfolding putList
-headed-list out cs e f h =
+pub headed_list : (out : List ℕ) {mid out' : List ℕ} (cs : List Fields) {k : ℕ} {r : Safety} → mid ≡ put_all out 0 cs → k ≡ 0 + length cs → Headed mid out' k r → (out' ≡ put_list out cs) × (r ≡ Leaks (length cs))
+unfolding put_list
+headed_list out cs e f h =
     let k = f ∙ zero-add (length cs) in
-    (h.buffer ∙ ap₂ (λ (l : List ℕ) (m : ℕ). putHead l m) e k, h.reply ∙ ap Leaks k)
+    (h.buffer ∙ ap₂ (λ (l : List ℕ) (m : ℕ). put_head l m) e k, h.reply ∙ ap Leaks k)
 
 -- the way over an existing name, from the search for a way up
 module _ {b : List ℕ} {n : ℕ} {trusted : ℕ → Bool} {x : Name} {path : List ℕ} {r : Climbed} (h : Leads b n trusted x path r) where
-  pub over-met : {v m : ℕ} → r ≡ At v m → wayOver (state_of b) trusted x ≡ from-above v (listed path m)
-  over-met e = h.way ∙ ap (λ (r : Climbed). climbedTo path r) e
+  pub over_met : {v m : ℕ} → r ≡ At v m → way_over (state_of b) trusted x ≡ from_above v (listed path m)
+  over_met e = h.way ∙ ap (λ (r : Climbed). climbed_to path r) e
 
-  pub over_none : r ≡ Climbed.None → wayOver (state_of b) trusted x ≡ no_way
-  over_none e = h.way ∙ ap (λ (r : Climbed). climbedTo path r) e
+  pub over_none : r ≡ Climbed.None → way_over (state_of b) trusted x ≡ no_way
+  over_none e = h.way ∙ ap (λ (r : Climbed). climbed_to path r) e
 
-  pub climbed-path : {v m : ℕ} → r ≡ At v m → PathOf path n v m
-  climbed-path {v} {m} e = record { size = h.size; subject = h.found.subject v m e; passed = h.found.passed v m e }
+  pub climbed_path : {v m : ℕ} → r ≡ At v m → PathOf path n v m
+  climbed_path {v} {m} e = record { size = h.size; subject = h.found.subject v m e; passed = h.found.passed v m e }

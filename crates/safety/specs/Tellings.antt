@@ -6,139 +6,139 @@ use Rattle.matrix.specs.declared.Name.TheVariants.{Subject}
 use Rattle.matrix.specs.declared.Right.{Right}
 use Rattle.matrix.specs.declared.Fields.{Fields}
 use Rattle.matrix.specs.declared.Shape.{Shape}
-use Rattle.matrix.specs.Names.{columnOf, same_name}
+use Rattle.matrix.specs.Names.{column_of, same_name}
 use Rattle.matrix.specs.State.{State, exists}
-use Rattle.matrix.specs.Shape.{mostSubjects, basicsOf}
+use Rattle.matrix.specs.Shape.{most_subjects, basics_of}
 use Rattle.matrix.specs.Reading.{state_of}
-use Rattle.codec.specs.Columns.{named-below}
+use Rattle.codec.specs.Columns.{named_below}
 use Rattle.codec.specs.ShapeRight.{ShapeRight, width_some}
-use Rattle.cells.specs.Station.{right-shape}
+use Rattle.cells.specs.Station.{right_shape}
 use Rattle.states.specs.Needs.{RightIn}
 use Rattle.question.specs.declared.Safety.{Safety}
 use Rattle.question.specs.declared.Safety.TheVariants.{Leaks}
-use Rattle.question.specs.Asked.{listRoom}
-use Rattle.route.specs.Parts.{creates, createsName, heldByOwn, finish, destroysAll, among, basicNumber}
-use Rattle.finish.specs.Finish.{againNeeded}
-use Rattle.finish.specs.Lists.{finish-length}
-use Rattle.ways.specs.Ways.{Way, held-now, by-star, by-creation, from-above, list_of, madeHeld, passesRight}
-use Rattle.writing.specs.Put.{put_all, putList, HeadRoom}
-use Rattle.telling.specs.Tells.{Tells, tells-length}
+use Rattle.question.specs.Asked.{list_room}
+use Rattle.route.specs.Parts.{creates, creates_name, held_by_own, finish, destroys_all, among, basic_number}
+use Rattle.finish.specs.Finish.{again_needed}
+use Rattle.finish.specs.Lists.{finish_length}
+use Rattle.ways.specs.Ways.{Way, held_now, by_star, by_creation, from_above, list_of, made_held, passes_right}
+use Rattle.writing.specs.Put.{put_all, put_list, HeadRoom}
+use Rattle.telling.specs.Tells.{Tells, tells_length}
 use Rattle.telling.specs.Parts.{Part}
 use Rattle.telling.specs.Paths.{PathRoom}
 use Rattle.told.specs.Told.{Told}
 use Rattle.safety.specs.Asks.{Asks, Headed, PathOf}
-use Rattle.safety.specs.Steps.{headed-list}
+use Rattle.safety.specs.Steps.{headed_list}
 
 -- the number of a right of a shape, 0 where it has none, is one of its basic rights'
-pub number_in : {f : Shape} (y : Right) → ShapeRight f → RightIn f y → basicNumber y < basicsOf f
+pub number_in : {f : Shape} (y : Right) → ShapeRight f → RightIn f y → basic_number y < basics_of f
 number_in {f} Right.Own g h = omega (arith, width_some f g)
 number_in {f} Right.Control g h = omega (arith, width_some f g)
 number_in (Right.Basic k e) g h = h
 
 -- a list that is written whole and headed is told
-pub told-held : {S : State} {s : ℕ} {x : Name} {y : Right} {out out' : List ℕ} {r : Safety} → Headed out out' 0 r → Told S s x y held-now out out' r
-unfolding putList put_all
-told-held h = record { reply = h.reply; buffer = h.buffer }
+pub told_held : {S : State} {s : ℕ} {x : Name} {y : Right} {out out' : List ℕ} {r : Safety} → Headed out out' 0 r → Told S s x y held_now out out' r
+unfolding put_list put_all
+told_held h = record { reply = h.reply; buffer = h.buffer }
 
-whole : {out mid out' : List ℕ} {k : ℕ} {r : Safety} (cs ds : List Fields) → cs ≡ ds → Tells out mid 0 cs k → Headed mid out' k r → (out' ≡ putList out ds) × (r ≡ Leaks (length ds))
+whole : {out mid out' : List ℕ} {k : ℕ} {r : Safety} (cs ds : List Fields) → cs ≡ ds → Tells out mid 0 cs k → Headed mid out' k r → (out' ≡ put_list out ds) × (r ≡ Leaks (length ds))
 whole {out} cs ds e t h =
-    let w = headed-list out cs t.bytes t.next h in
-    (w.0 ∙ ap (λ (l : List Fields). putList out l) e, w.1 ∙ ap (λ (l : List Fields). Leaks (length l)) e)
+    let w = headed_list out cs t.bytes t.next h in
+    (w.0 ∙ ap (λ (l : List Fields). put_list out l) e, w.1 ∙ ap (λ (l : List Fields). Leaks (length l)) e)
 
 -- the list of each way, from the tests that the code makes
 module _ (S : State) (s : ℕ) (x : Name) (y : Right) where
-  pub star-list : (i : ℕ) {absent : Bool} → absent ≡ not (exists S s) → (cond absent (creates i s ∷ []) [] ++ (passesRight i s x y ∷ [])) ≡ list_of S s x y (by-star i)
-  star-list i e = ap (λ (a : Bool). cond a (creates i s ∷ []) [] ++ (passesRight i s x y ∷ [])) e
+  pub star_list : (i : ℕ) {absent : Bool} → absent ≡ not (exists S s) → (cond absent (creates i s ∷ []) [] ++ (passes_right i s x y ∷ [])) ≡ list_of S s x y (by_star i)
+  star_list i e = ap (λ (a : Bool). cond a (creates i s ∷ []) [] ++ (passes_right i s x y ∷ [])) e
 
-  pub creation-list : (v : ℕ) {absent made : Bool} → made ≡ madeHeld v s x y → absent ≡ not (same_name (Subject s) x || exists S s)
-      → (createsName v x ∷ cond made [] (finish v s x y absent false)) ≡ list_of S s x y (by-creation v)
-  creation-list v e f = ap₂ (λ (m a : Bool). createsName v x ∷ cond m [] (finish v s x y a false)) e f
+  pub creation_list : (v : ℕ) {absent made : Bool} → made ≡ made_held v s x y → absent ≡ not (same_name (Subject s) x || exists S s)
+      → (creates_name v x ∷ cond made [] (finish v s x y absent false)) ≡ list_of S s x y (by_creation v)
+  creation_list v e f = ap₂ (λ (m a : Bool). creates_name v x ∷ cond m [] (finish v s x y a false)) e f
 
-  pub owned-list : (v : ℕ) (ws : List ℕ) {t : Bool} → t ≡ (heldByOwn y && eqb s v) → t ≡ true → destroysAll v ws ≡ list_of S s x y (from-above v ws)
-  owned-list v ws e f =
-      let g : (heldByOwn y && eqb s v) ≡ true = sym e ∙ f in
-      sym (ap (λ (u : Bool). destroysAll v ws ++ cond u [] (finish v s x y (not (exists S s) || among s ws) (againNeeded S s x y))) g ∙ append-nil (destroysAll v ws))
+  pub owned_list : (v : ℕ) (ws : List ℕ) {t : Bool} → t ≡ (held_by_own y && eqb s v) → t ≡ true → destroys_all v ws ≡ list_of S s x y (from_above v ws)
+  owned_list v ws e f =
+      let g : (held_by_own y && eqb s v) ≡ true = sym e ∙ f in
+      sym (ap (λ (u : Bool). destroys_all v ws ++ cond u [] (finish v s x y (not (exists S s) || among s ws) (again_needed S s x y))) g ∙ append-nil (destroys_all v ws))
 
-  pub above-list : (v : ℕ) (ws : List ℕ) {t absent again : Bool} → t ≡ (heldByOwn y && eqb s v) → t ≡ false → absent ≡ (not (exists S s) || among s ws) → again ≡ againNeeded S s x y
-      → (destroysAll v ws ++ finish v s x y absent again) ≡ list_of S s x y (from-above v ws)
-  above-list v ws e f a g =
-      let u : (heldByOwn y && eqb s v) ≡ false = sym e ∙ f in
-      ap₂ (λ (b c : Bool). destroysAll v ws ++ finish v s x y b c) a g
-      ∙ sym (ap (λ (c : Bool). destroysAll v ws ++ cond c [] (finish v s x y (not (exists S s) || among s ws) (againNeeded S s x y))) u)
+  pub above_list : (v : ℕ) (ws : List ℕ) {t absent again : Bool} → t ≡ (held_by_own y && eqb s v) → t ≡ false → absent ≡ (not (exists S s) || among s ws) → again ≡ again_needed S s x y
+      → (destroys_all v ws ++ finish v s x y absent again) ≡ list_of S s x y (from_above v ws)
+  above_list v ws e f a g =
+      let u : (held_by_own y && eqb s v) ≡ false = sym e ∙ f in
+      ap₂ (λ (b c : Bool). destroys_all v ws ++ finish v s x y b c) a g
+      ∙ sym (ap (λ (c : Bool). destroys_all v ws ++ cond c [] (finish v s x y (not (exists S s) || among s ws) (again_needed S s x y))) u)
 
 module _ {S : State} {s : ℕ} {x : Name} {y : Right} {out mid out' : List ℕ} {k : ℕ} {r : Safety} {cs : List Fields} where
-  pub told-star : (i : ℕ) → cs ≡ list_of S s x y (by-star i) → Tells out mid 0 cs k → Headed mid out' k r → Told S s x y (by-star i) out out' r
-  told-star i e t h = let w = whole cs _ e t h in record { reply = w.1; buffer = w.0 }
+  pub told_star : (i : ℕ) → cs ≡ list_of S s x y (by_star i) → Tells out mid 0 cs k → Headed mid out' k r → Told S s x y (by_star i) out out' r
+  told_star i e t h = let w = whole cs _ e t h in record { reply = w.1; buffer = w.0 }
 
-  pub told-creation : (v : ℕ) → cs ≡ list_of S s x y (by-creation v) → Tells out mid 0 cs k → Headed mid out' k r → Told S s x y (by-creation v) out out' r
-  told-creation v e t h = let w = whole cs _ e t h in record { reply = w.1; buffer = w.0 }
+  pub told_creation : (v : ℕ) → cs ≡ list_of S s x y (by_creation v) → Tells out mid 0 cs k → Headed mid out' k r → Told S s x y (by_creation v) out out' r
+  told_creation v e t h = let w = whole cs _ e t h in record { reply = w.1; buffer = w.0 }
 
-  pub told-above : (v : ℕ) (ws : List ℕ) → cs ≡ list_of S s x y (from-above v ws) → Tells out mid 0 cs k → Headed mid out' k r → Told S s x y (from-above v ws) out out' r
-  told-above v ws e t h = let w = whole cs _ e t h in record { reply = w.1; buffer = w.0 }
+  pub told_above : (v : ℕ) (ws : List ℕ) → cs ≡ list_of S s x y (from_above v ws) → Tells out mid 0 cs k → Headed mid out' k r → Told S s x y (from_above v ws) out out' r
+  told_above v ws e t h = let w = whole cs _ e t h in record { reply = w.1; buffer = w.0 }
 
 -- ---- the rooms for what is written
 
 module _ {b : List ℕ} {f : Shape} {s : ℕ} {x : Name} {y : Right} {w : Way} {out : List ℕ} (q : Asks b f s x y w out) where
   shape : ShapeRight f
-  shape = right-shape q.bit.station
+  shape = right_shape q.bit.station
 
-  columns-few : columnOf x < 256
-  columns-few = omega (arith, named-below f.n f.p x q.bit.column, shape.high, shape.plain)
+  columns_few : column_of x < 256
+  columns_few = omega (arith, named_below f.n f.p x q.bit.column, shape.high, shape.plain)
 
   -- a part of k commands from number j on, by subject v of the record
   pub part_of : (v j k : ℕ) {mid : List ℕ} → v < f.n → j + k ≤ f.n + 2 → length mid ≡ length out → Part mid j k v s x y
   part_of v j k l e h =
-      let r : listRoom (f.n + 2) ≤ length out = q.room in
+      let r : list_room (f.n + 2) ≤ length out = q.room in
       let t : s < f.n = q.bit.row in
       let few = shape.high in
       record {
         room = record { fits = omega arith };
         by = omega (arith, few);
         to = omega (arith, few);
-        over = columns-few;
-        number = omega (arith, number_in y shape q.bit.right, shape.width-most);
+        over = columns_few;
+        number = omega (arith, number_in y shape q.bit.right, shape.width_most);
       }
 
   pub head_of : {mid : List ℕ} {k : ℕ} → k ≤ f.n + 2 → length mid ≡ length out → HeadRoom mid k
-  head_of e h = let r : listRoom (f.n + 2) ≤ length out = q.room in record { fits = omega arith; few = omega (arith, shape.high) }
+  head_of e h = let r : list_room (f.n + 2) ≤ length out = q.room in record { fits = omega arith; few = omega (arith, shape.high) }
 
   -- room for the head of a list of the way that was written whole
-  pub head-by : {mid : List ℕ} {k : ℕ} {cs : List Fields} → cs ≡ list_of (state_of b) s x y w → Tells out mid 0 cs k → HeadRoom mid k
-  head-by {k = k} {cs = cs} e t =
+  pub head_by : {mid : List ℕ} {k : ℕ} {cs : List Fields} → cs ≡ list_of (state_of b) s x y w → Tells out mid 0 cs k → HeadRoom mid k
+  head_by {k = k} {cs = cs} e t =
       let i : k ≡ 0 + length cs = t.next in
       let g : length cs ≡ length (list_of (state_of b) s x y w) = ap length e in
       let h : length (list_of (state_of b) s x y w) ≤ f.n + 2 = q.few in
-      head_of (omega arith) (tells-length t)
+      head_of (omega arith) (tells_length t)
 
   -- room for the subjects of a path, whose number is that of a path's entries at most
-  pub path-short : {path : List ℕ} {v m : ℕ} → PathOf path f.n v m → m ≤ mostSubjects
-  path-short h = omega (arith, h.passed, shape.high)
+  pub path_short : {path : List ℕ} {v m : ℕ} → PathOf path f.n v m → m ≤ most_subjects
+  path_short h = omega (arith, h.passed, shape.high)
 
   pub path_room : {path : List ℕ} {v m : ℕ} → PathOf path f.n v m → PathRoom out v m
   path_room h =
-      let r : listRoom (f.n + 2) ≤ length out = q.room in
+      let r : list_room (f.n + 2) ≤ length out = q.room in
       let l = h.passed in
-      record { room = record { fits = omega arith }; by = omega (arith, h.subject, shape.high); short = path-short h }
+      record { room = record { fits = omega arith }; by = omega (arith, h.subject, shape.high); short = path_short h }
 
 -- room for the end of a list after the subjects of a path were destroyed
-pub finish-part : {b : List ℕ} {f : Shape} {s : ℕ} {x : Name} {y : Right} {out first : List ℕ} {j : ℕ} (absent again : Bool) (v : ℕ) (ws : List ℕ) → Asks b f s x y (from-above v ws) out → v < f.n
-    → (destroysAll v ws ++ finish v s x y absent again) ≡ list_of (state_of b) s x y (from-above v ws) → Tells out first 0 (destroysAll v ws) j
+pub finish_part : {b : List ℕ} {f : Shape} {s : ℕ} {x : Name} {y : Right} {out first : List ℕ} {j : ℕ} (absent again : Bool) (v : ℕ) (ws : List ℕ) → Asks b f s x y (from_above v ws) out → v < f.n
+    → (destroys_all v ws ++ finish v s x y absent again) ≡ list_of (state_of b) s x y (from_above v ws) → Tells out first 0 (destroys_all v ws) j
     → Part first j (cond again 2 0 + cond absent 2 1) v s x y
-finish-part {b} {f} {s = s} {x} {y} {j = j} absent again v ws q l e d =
-    let i : j ≡ 0 + length (destroysAll v ws) = d.next in
-    let g : length (destroysAll v ws ++ finish v s x y absent again) ≡ length (list_of (state_of b) s x y (from-above v ws)) = ap length e in
-    let h : length (destroysAll v ws ++ finish v s x y absent again) ≡ length (destroysAll v ws) + length (finish v s x y absent again) = length-append (destroysAll v ws) (finish v s x y absent again) in
-    let k : length (finish v s x y absent again) ≡ cond again 2 0 + cond absent 2 1 = finish-length v s x y absent again in
-    let m : length (list_of (state_of b) s x y (from-above v ws)) ≤ f.n + 2 = q.few in
-    part_of q v j (cond again 2 0 + cond absent 2 1) l (omega arith) (tells-length d)
+finish_part {b} {f} {s = s} {x} {y} {j = j} absent again v ws q l e d =
+    let i : j ≡ 0 + length (destroys_all v ws) = d.next in
+    let g : length (destroys_all v ws ++ finish v s x y absent again) ≡ length (list_of (state_of b) s x y (from_above v ws)) = ap length e in
+    let h : length (destroys_all v ws ++ finish v s x y absent again) ≡ length (destroys_all v ws) + length (finish v s x y absent again) = length-append (destroys_all v ws) (finish v s x y absent again) in
+    let k : length (finish v s x y absent again) ≡ cond again 2 0 + cond absent 2 1 = finish_length v s x y absent again in
+    let m : length (list_of (state_of b) s x y (from_above v ws)) ≤ f.n + 2 = q.few in
+    part_of q v j (cond again 2 0 + cond absent 2 1) l (omega arith) (tells_length d)
 
 -- whether s still has to be created once x is, by the kind of x
 module _ (s : ℕ) (x : Name) (e : Bool) where
-  pub self-made : {w : ℕ} → x ≡ Subject w → s ≡ w → false ≡ not (same_name (Subject s) x || e)
-  self-made {w} h q = sym (ap (λ (z : Name). not (same_name (Subject s) z || e)) h ∙ ap (λ (u : Bool). not (u || e)) (eq-eqb s w q))
+  pub self_made : {w : ℕ} → x ≡ Subject w → s ≡ w → false ≡ not (same_name (Subject s) x || e)
+  self_made {w} h q = sym (ap (λ (z : Name). not (same_name (Subject s) z || e)) h ∙ ap (λ (u : Bool). not (u || e)) (eq-eqb s w q))
 
-  pub other-made : {w : ℕ} {t : Bool} → x ≡ Subject w → (s ≡ w → ⊥) → t ≡ e → not t ≡ not (same_name (Subject s) x || e)
-  other-made {w} h q f = ap not f ∙ sym (ap (λ (z : Name). not (same_name (Subject s) z || e)) h ∙ ap (λ (u : Bool). not (u || e)) (ne_eqb s w q))
+  pub other_made : {w : ℕ} {t : Bool} → x ≡ Subject w → (s ≡ w → ⊥) → t ≡ e → not t ≡ not (same_name (Subject s) x || e)
+  other_made {w} h q f = ap not f ∙ sym (ap (λ (z : Name). not (same_name (Subject s) z || e)) h ∙ ap (λ (u : Bool). not (u || e)) (ne_eqb s w q))
 
-  pub object-made : {w : ℕ} {t : Bool} → x ≡ Name.Plain w → t ≡ e → not t ≡ not (same_name (Subject s) x || e)
-  object-made h f = ap not f ∙ sym (ap (λ (z : Name). not (same_name (Subject s) z || e)) h)
+  pub object_made : {w : ℕ} {t : Bool} → x ≡ Name.Plain w → t ≡ e → not t ≡ not (same_name (Subject s) x || e)
+  object_made h f = ap not f ∙ sym (ap (λ (z : Name). not (same_name (Subject s) z || e)) h)

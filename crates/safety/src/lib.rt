@@ -1,18 +1,20 @@
 // The safety question: the way by which a right can come to be held is searched, and its list is written.
 
+#![tactic(auto)]
+
 ghost use Rattle.std.specs.Prelude.{◌≡◌, false, not, ◌&&◌, ◌||◌, ◌≤◌, ◌<◌, length};
 ghost use Rattle.matrix.specs.Names.{same_name};
 ghost use Rattle.matrix.specs.State.{exists, held};
-ghost use Rattle.matrix.specs.Shape.{limits, mostSubjects};
+ghost use Rattle.matrix.specs.Shape.{limits, most_subjects};
 ghost use Rattle.matrix.specs.Reading.{state_of};
-ghost use Rattle.matrix.specs.Calls.{questionFits};
+ghost use Rattle.matrix.specs.Calls.{question_fits};
 ghost use Rattle.codec.specs.ShapeRight.{ShapeRight};
 ghost use Rattle.cells.specs.Station.{Station};
 ghost use Rattle.states.specs.Needs.{Guessed};
-ghost use Rattle.question.specs.Trust.{trustedBy};
-ghost use Rattle.question.specs.Asked.{trustFits, Answers};
+ghost use Rattle.question.specs.Trust.{trusted_by};
+ghost use Rattle.question.specs.Asked.{trust_fits, Answers};
 ghost use Rattle.route.specs.Parts.{among};
-ghost use Rattle.ways.specs.Ways.{by-star, by-creation, from-above, wayOver, wayMade, way_of};
+ghost use Rattle.ways.specs.Ways.{by_star, by_creation, from_above, way_over, way_made, way_of};
 ghost use Rattle.ways.specs.Path.{listed};
 ghost use Rattle.writing.specs.Put.{HeadRoom};
 ghost use Rattle.told.specs.Told.{Told};
@@ -33,8 +35,8 @@ fn leaks(out: &mut [u8], k: usize) -> Safety
 
 // The list of an untrusted subject i with the star.
 fn by_star(b: &[u8], f: Shape, i: usize, s: usize, x: Name, y: Right, out: &mut [u8]) -> Safety
-    requires { Asks b.now f s x y (by-star i) out.old × (i < f.n) }
-    ensures { Told (state_of b.now) s x y (by-star i) out.old out.new result }
+    requires { Asks b.now f s x y (by_star i) out.old × (i < f.n) }
+    ensures { Told (state_of b.now) s x y (by_star i) out.old out.new result }
 {
     let absent = !states::subject_exists(b, f, s);
     let k = telling::put_star(out, i, s, x, y, absent);
@@ -59,8 +61,8 @@ fn still_absent(b: &[u8], f: Shape, s: usize, x: Name) -> bool
 
 // The list of an untrusted subject v that creates x.
 fn by_creation(b: &[u8], f: Shape, v: usize, s: usize, x: Name, y: Right, out: &mut [u8]) -> Safety
-    requires { Asks b.now f s x y (by-creation v) out.old × (v < f.n) }
-    ensures { Told (state_of b.now) s x y (by-creation v) out.old out.new result }
+    requires { Asks b.now f s x y (by_creation v) out.old × (v < f.n) }
+    ensures { Told (state_of b.now) s x y (by_creation v) out.old out.new result }
 {
     let held = telling::held_when_made(v, s, x, y);
     let absent = still_absent(b, f, s, x);
@@ -70,7 +72,7 @@ fn by_creation(b: &[u8], f: Shape, v: usize, s: usize, x: Name, y: Right, out: &
 
 // Whether s is absent once the first m subjects of the path are destroyed.
 fn gone(b: &[u8], f: Shape, s: usize, path: &[u8; MOST_SUBJECTS], m: usize) -> bool
-    requires { Station b.now f × (s < f.n) × (length path.now ≡ mostSubjects) × (m ≤ mostSubjects) }
+    requires { Station b.now f × (s < f.n) × (length path.now ≡ most_subjects) × (m ≤ most_subjects) }
     ensures { result ≡ (not (exists (state_of b.now) s) || among s (listed path.now m)) }
 {
     if !states::subject_exists(b, f, s) {
@@ -92,8 +94,8 @@ fn from_above(
     owners: &[u8; MOST_SUBJECTS],
     out: &mut [u8],
 ) -> Safety
-    requires { Asks b.now f s x y (from-above v (listed path.now m)) out.old × PathOf path.now f.n v m × Guessed b.now f owners.now }
-    ensures { Told (state_of b.now) s x y (from-above v (listed path.now m)) out.old out.new result }
+    requires { Asks b.now f s x y (from_above v (listed path.now m)) out.old × PathOf path.now f.n v m × Guessed b.now f owners.now }
+    ensures { Told (state_of b.now) s x y (from_above v (listed path.now m)) out.old out.new result }
 {
     let j = telling::put_destroys(out, v, path, m);
     if telling::owns_then(v, s, y) {
@@ -116,8 +118,8 @@ fn over(
     owners: &[u8; MOST_SUBJECTS],
     out: &mut [u8],
 ) -> Safety
-    requires { Asks b.now f s x y (wayOver (state_of b.now) (trustedBy trust) x) out.old × Guessed b.now f owners.now }
-    ensures { Told (state_of b.now) s x y (wayOver (state_of b.now) (trustedBy trust) x) out.old out.new result }
+    requires { Asks b.now f s x y (way_over (state_of b.now) (trusted_by trust) x) out.old × Guessed b.now f owners.now }
+    ensures { Told (state_of b.now) s x y (way_over (state_of b.now) (trusted_by trust) x) out.old out.new result }
 {
     let mut path = [0u8; MOST_SUBJECTS];
     let r = climbing::way_up(b, f, trust, x, owners, &mut path);
@@ -129,8 +131,8 @@ fn over(
 
 // The answer where x is absent.
 fn made(b: &[u8], f: Shape, trust: u64, s: usize, x: Name, y: Right, out: &mut [u8]) -> Safety
-    requires { Asks b.now f s x y (wayMade (state_of b.now) (trustedBy trust)) out.old }
-    ensures { Told (state_of b.now) s x y (wayMade (state_of b.now) (trustedBy trust)) out.old out.new result }
+    requires { Asks b.now f s x y (way_made (state_of b.now) (trusted_by trust)) out.old }
+    ensures { Told (state_of b.now) s x y (way_made (state_of b.now) (trusted_by trust)) out.old out.new result }
 {
     let n = f.n;
     let v = masks::lowest_untrusted(b, f, trust);
@@ -151,8 +153,8 @@ fn decide(
     owners: &[u8; MOST_SUBJECTS],
     out: &mut [u8],
 ) -> Safety
-    requires { Asks b.now f s x y (way_of (state_of b.now) (trustedBy trust) s x y) out.old × Guessed b.now f owners.now × (held (state_of b.now) y s x ≡ false) }
-    ensures { Told (state_of b.now) s x y (way_of (state_of b.now) (trustedBy trust) s x y) out.old out.new result }
+    requires { Asks b.now f s x y (way_of (state_of b.now) (trusted_by trust) s x y) out.old × Guessed b.now f owners.now × (held (state_of b.now) y s x ≡ false) }
+    ensures { Told (state_of b.now) s x y (way_of (state_of b.now) (trusted_by trust) s x y) out.old out.new result }
 {
     let n = f.n;
     if !targets::is_possible(s, x, y) {
@@ -171,7 +173,7 @@ fn decide(
 // Whether the numbers of a question are within the bounds of a record.
 fn within_bounds(f: Shape, trust: u64, s: usize, o: usize, right: usize) -> bool
     requires { ShapeRight f }
-    ensures { result ≡ (questionFits f s o right && trustFits f trust) }
+    ensures { result ≡ (question_fits f s o right && trust_fits f trust) }
 {
     if holding::question_fits(f, s, o, right) {
         return masks::trust_fits(trust, f.n);

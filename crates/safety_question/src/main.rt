@@ -1,8 +1,10 @@
 // Asks the safety question that stands in the standard input (Manual 10.2) and prints the answer (Manual 10.3): `safe`, `refused N`, or
 // `leaks N` with the commands of the list, a line for each.
 
+#![tactic(auto)]
+
 ghost use Rattle.std.specs.Prelude.{◌≡◌, true};
-ghost use Rattle.matrix.specs.CommandList.{wellFormed};
+ghost use Rattle.matrix.specs.CommandList.{well_formed};
 
 use asking::MOST_INPUT;
 use libc::{STDIN_FILENO, STDOUT_FILENO};
@@ -31,7 +33,7 @@ fn print_command(c: Fields) {
 
 // The commands of a list, a line for each.
 fn print_list(list: &[u8])
-    requires { wellFormed list.now ≡ true }
+    requires { well_formed list.now ≡ true }
 {
     let mut at = 0;
     loop {

@@ -9,82 +9,82 @@ use Rattle.matrix.specs.declared.Act.{Act}
 use Rattle.matrix.specs.declared.Command.{Command}
 use Rattle.matrix.specs.declared.Shape.{Shape}
 use Rattle.matrix.specs.Names.{name_of, named}
-use Rattle.matrix.specs.Commands.{kind_of, known, ruleOf, fieldsFit}
-use Rattle.matrix.specs.Shape.{columns, basicsOf}
-use Rattle.matrix.specs.Calls.{namesFit}
+use Rattle.matrix.specs.Commands.{kind_of, known, rule_of, fields_fit}
+use Rattle.matrix.specs.Shape.{columns, basics_of}
+use Rattle.matrix.specs.Calls.{names_fit}
 use Rattle.laws.specs.Tests.{and_left, and_right}
-use Rattle.codec.specs.Columns.{named-nameOf}
+use Rattle.codec.specs.Columns.{named_name_of}
 use Rattle.decoding.specs.declared.Decoded.{Decoded}
 use Rattle.decoding.specs.declared.Decoded.TheVariants.{Ready, Refused}
-use Rattle.decoding.specs.Decoded.{decodedOf}
-use Rattle.short_ways.specs.Rows.{row-kind}
+use Rattle.decoding.specs.Decoded.{decoded_of}
+use Rattle.short_ways.specs.Rows.{row_kind}
 
 -- the code is known, and the names and fields fit
 pub record Fits (f : Shape) (c : Fields) : Type 0 where
   pub code : known c.code ≡ true
-  pub names : namesFit f c ≡ true
-  pub fields : fieldsFit (basicsOf f) (ruleOf c.code c.k) c.s c.o c.k ≡ true
+  pub names : names_fit f c ≡ true
+  pub fields : fields_fit (basics_of f) (rule_of c.code c.k) c.s c.o c.k ≡ true
 
 -- names that fit are the record's
-pub row-i : (f : Shape) (c : Fields) → namesFit f c ≡ true → c.i < f.n
-row-i f c h = ltb-true c.i f.n (and_left (ltb c.i f.n) (ltb c.s f.n) (and_left (ltb c.i f.n && ltb c.s f.n) (ltb c.o (columns f)) h))
+pub row_i : (f : Shape) (c : Fields) → names_fit f c ≡ true → c.i < f.n
+row_i f c h = ltb-true c.i f.n (and_left (ltb c.i f.n) (ltb c.s f.n) (and_left (ltb c.i f.n && ltb c.s f.n) (ltb c.o (columns f)) h))
 
-pub row-s : (f : Shape) (c : Fields) → namesFit f c ≡ true → c.s < f.n
-row-s f c h = ltb-true c.s f.n (and_right (ltb c.i f.n) (ltb c.s f.n) (and_left (ltb c.i f.n && ltb c.s f.n) (ltb c.o (columns f)) h))
+pub row_s : (f : Shape) (c : Fields) → names_fit f c ≡ true → c.s < f.n
+row_s f c h = ltb-true c.s f.n (and_right (ltb c.i f.n) (ltb c.s f.n) (and_left (ltb c.i f.n && ltb c.s f.n) (ltb c.o (columns f)) h))
 
-pub column-o : (f : Shape) (c : Fields) → namesFit f c ≡ true → c.o < columns f
-column-o f c h = ltb-true c.o (columns f) (and_right (ltb c.i f.n && ltb c.s f.n) (ltb c.o (columns f)) h)
+pub column_o : (f : Shape) (c : Fields) → names_fit f c ≡ true → c.o < columns f
+column_o f c h = ltb-true c.o (columns f) (and_right (ltb c.i f.n && ltb c.s f.n) (ltb c.o (columns f)) h)
 
-pub name-o : (f : Shape) (c : Fields) → namesFit f c ≡ true → named f.n f.p (name_of f.n c.o) ≡ true
-name-o f c h = named-nameOf f.n f.p c.o (column-o f c h)
+pub name_o : (f : Shape) (c : Fields) → names_fit f c ≡ true → named f.n f.p (name_of f.n c.o) ≡ true
+name_o f c h = named_name_of f.n f.p c.o (column_o f c h)
 
 -- a name that is theirs
-pub name-is : (f : Shape) (c : Fields) {x : Name} → x ≡ name_of f.n c.o → namesFit f c ≡ true → named f.n f.p x ≡ true
-name-is f c e h = subst (λ (x : Name). named f.n f.p x ≡ true) (sym e) (name-o f c h)
+pub name_is : (f : Shape) (c : Fields) {x : Name} → x ≡ name_of f.n c.o → names_fit f c ≡ true → named f.n f.p x ≡ true
+name_is f c e h = subst (λ (x : Name). named f.n f.p x ≡ true) (sym e) (name_o f c h)
 
 -- the command of the fields that does `act`, and the one that they are decoded to
 abbrev pub doing : ℕ → Fields → Act → Command
 doing n c act = record { i = c.i; s = c.s; o = name_of n c.o; act = act }
 
-abbrev pub commandOf : ℕ → Fields → Command
-commandOf n c = doing n c (ruleOf c.code c.k).act
+abbrev pub command_of : ℕ → Fields → Command
+command_of n c = doing n c (rule_of c.code c.k).act
 
 -- what decoding answered
 pub record DecodedTo (f : Shape) (c : Fields) (d : Command) (kind : Kind) : Type 0 where
   pub fits : Fits f c
-  pub command : d ≡ commandOf f.n c
-  pub kind-needed : kind ≡ kind_of d.act
+  pub command : d ≡ command_of f.n c
+  pub kind_needed : kind ≡ kind_of d.act
 
 -- whether test 7 is passed
-abbrev pub fitsAll : Shape → Fields → Bool
-fitsAll f c = namesFit f c && fieldsFit (basicsOf f) (ruleOf c.code c.k) c.s c.o c.k
+abbrev pub fits_all : Shape → Fields → Bool
+fits_all f c = names_fit f c && fields_fit (basics_of f) (rule_of c.code c.k) c.s c.o c.k
 
 -- refused by number m: 6 for an unknown code, 7 for names or fields that do not fit
 pub record RefusedBy (f : Shape) (c : Fields) (m : ℕ) : Type 0 where
   pub number : m ≡ cond (known c.code) 7 6
-  pub unfit : (known c.code && fitsAll f c) ≡ false
+  pub unfit : (known c.code && fits_all f c) ≡ false
 
 module _ (f : Shape) (c : Fields) where
-  is-ready : (t u : Bool) {d : Command} {kind : Kind} → known c.code ≡ t → fitsAll f c ≡ u → Ready d kind ≡ cond t (cond u (Ready (commandOf f.n c) (ruleOf c.code c.k).kind) (Refused 7)) (Refused 6) → DecodedTo f c d kind
-  is-ready true true {d} {kind} e i h =
-      let q : d ≡ commandOf f.n c = cc in
+  is_ready : (t u : Bool) {d : Command} {kind : Kind} → known c.code ≡ t → fits_all f c ≡ u → Ready d kind ≡ cond t (cond u (Ready (command_of f.n c) (rule_of c.code c.k).kind) (Refused 7)) (Refused 6) → DecodedTo f c d kind
+  is_ready true true {d} {kind} e i h =
+      let q : d ≡ command_of f.n c = cc in
       record {
-        fits = record { code = e; names = and_left (namesFit f c) _ i; fields = and_right (namesFit f c) _ i };
+        fits = record { code = e; names = and_left (names_fit f c) _ i; fields = and_right (names_fit f c) _ i };
         command = q;
-        kind-needed = (let g : kind ≡ (ruleOf c.code c.k).kind = cc in g ∙ row-kind c.code c.k) ∙ ap (λ (d : Command). kind_of d.act) (sym q);
+        kind_needed = (let g : kind ≡ (rule_of c.code c.k).kind = cc in g ∙ row_kind c.code c.k) ∙ ap (λ (d : Command). kind_of d.act) (sym q);
       }
-  is-ready true false e i h = let z : ◌≡◌ {A = ℕ} 0 1 = cc in absurd (omega arith)
-  is-ready false u e i h = let z : ◌≡◌ {A = ℕ} 0 1 = cc in absurd (omega arith)
+  is_ready true false e i h = let z : ◌≡◌ {A = ℕ} 0 1 = cc in absurd (omega arith)
+  is_ready false u e i h = let z : ◌≡◌ {A = ℕ} 0 1 = cc in absurd (omega arith)
 
-  pub decoded-to : {r : Decoded} {d : Command} {kind : Kind} → r ≡ decodedOf f c → r ≡ Ready d kind → DecodedTo f c d kind
-  unfolding decodedOf
-  decoded-to e i = is-ready (known c.code) (fitsAll f c) refl refl (sym i ∙ e)
+  pub decoded_to : {r : Decoded} {d : Command} {kind : Kind} → r ≡ decoded_of f c → r ≡ Ready d kind → DecodedTo f c d kind
+  unfolding decoded_of
+  decoded_to e i = is_ready (known c.code) (fits_all f c) refl refl (sym i ∙ e)
 
-  is-refused : (t u : Bool) {m : ℕ} → known c.code ≡ t → fitsAll f c ≡ u → Refused m ≡ cond t (cond u (Ready (commandOf f.n c) (ruleOf c.code c.k).kind) (Refused 7)) (Refused 6) → RefusedBy f c m
-  is-refused true true e i h = let z : ◌≡◌ {A = ℕ} 0 1 = cc in absurd (omega arith)
-  is-refused true false {m} e i h = let q : m ≡ 7 = cc in record { number = rw e q; unfit = rw (e, i) refl }
-  is-refused false u {m} e i h = let q : m ≡ 6 = cc in record { number = rw e q; unfit = rw e refl }
+  is_refused : (t u : Bool) {m : ℕ} → known c.code ≡ t → fits_all f c ≡ u → Refused m ≡ cond t (cond u (Ready (command_of f.n c) (rule_of c.code c.k).kind) (Refused 7)) (Refused 6) → RefusedBy f c m
+  is_refused true true e i h = let z : ◌≡◌ {A = ℕ} 0 1 = cc in absurd (omega arith)
+  is_refused true false {m} e i h = let q : m ≡ 7 = cc in record { number = rw e q; unfit = rw (e, i) refl }
+  is_refused false u {m} e i h = let q : m ≡ 6 = cc in record { number = rw e q; unfit = rw e refl }
 
-  pub refused-by : {r : Decoded} {m : ℕ} → r ≡ decodedOf f c → r ≡ Refused m → RefusedBy f c m
-  unfolding decodedOf
-  refused-by e i = is-refused (known c.code) (fitsAll f c) refl refl (sym i ∙ e)
+  pub refused_by : {r : Decoded} {m : ℕ} → r ≡ decoded_of f c → r ≡ Refused m → RefusedBy f c m
+  unfolding decoded_of
+  refused_by e i = is_refused (known c.code) (fits_all f c) refl refl (sym i ∙ e)

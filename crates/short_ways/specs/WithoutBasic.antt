@@ -3,7 +3,7 @@ use Rattle.std.specs.Prelude.{ℕ, ◌≡◌, true, List}
 use Rattle.matrix.specs.declared.Fields.{Fields}
 use Rattle.matrix.specs.declared.Shape.{Shape}
 use Rattle.matrix.specs.Reading.{state_of}
-use Rattle.matrix.specs.Calls.{namesFit}
+use Rattle.matrix.specs.Calls.{names_fit}
 use Rattle.matrix.specs.Valid.{Valid}
 use Rattle.cells.specs.Station.{Station}
 
@@ -11,5 +11,5 @@ use Rattle.cells.specs.Station.{Station}
 pub record WithoutBasic (b : List ℕ) (f : Shape) (c : Fields) : Type 0 where
   pub station : Station b f
   pub valid : Valid (state_of b)
-  pub names : namesFit f c ≡ true
+  pub names : names_fit f c ≡ true
   pub none : c.k ≡ 0

@@ -1,23 +1,25 @@
 // The short way of commands over a basic right that are accepted on a valid record: fewer looks at the record than the tests of a command take
 // in turn.
 
+#![tactic(auto)]
+
 ghost use Rattle.std.specs.Prelude.{◌≡◌, true, ◌<◌};
 ghost use Rattle.matrix.specs.Valid.{Valid};
-ghost use Rattle.matrix.specs.Shape.{basicsOf};
+ghost use Rattle.matrix.specs.Shape.{basics_of};
 ghost use Rattle.matrix.specs.Reading.{state_of};
-ghost use Rattle.matrix.specs.Calls.{namesFit};
+ghost use Rattle.matrix.specs.Calls.{names_fit};
 ghost use Rattle.cells.specs.Station.{Station};
 ghost use Rattle.states.specs.Needs.{RightIn, BitIn};
-ghost use Rattle.decoding.specs.Decoded.{formFrom};
+ghost use Rattle.decoding.specs.Decoded.{form_from};
 ghost use Rattle.short_ways.specs.Answered.{Answered};
-ghost use Rattle.short_ways.specs.Allowed.{Where, subjectFits, Allowed};
+ghost use Rattle.short_ways.specs.Allowed.{Where, subject_fits, Allowed};
 
 use matrix::{Answer, Fields, Form, Name, Right, Shape};
 
 // What is asked of s: it exists where it is given the right y over o (on), and it has its bit where the right is taken from it.
 fn subject_fits(b: &[u8], f: Shape, y: Right, s: usize, o: Name, on: bool) -> bool
     requires { BitIn b.now f y s o }
-    ensures { result ≡ subjectFits (state_of b.now) y s o on }
+    ensures { result ≡ subject_fits (state_of b.now) y s o on }
 {
     if on {
         return states::subject_exists(b, f, s);
@@ -27,8 +29,8 @@ fn subject_fits(b: &[u8], f: Shape, y: Right, s: usize, o: Name, on: bool) -> bo
 
 // The basic right of a command over o is given to s, or taken from it, where s fits and i has the right y over o; whether it was.
 fn put_allowed(b: &mut [u8], f: Shape, c: Fields, y: Right, first: usize, on: bool) -> bool
-    requires { Station b.old f × (namesFit f c ≡ true) × (c.k < basicsOf f) × RightIn f y }
-    ensures { Where result b.old b.new (Allowed b.old b.new f.n c y (formFrom c.code first) on) }
+    requires { Station b.old f × (names_fit f c ≡ true) × (c.k < basics_of f) × RightIn f y }
+    ensures { Where result b.old b.new (Allowed b.old b.new f.n c y (form_from c.code first) on) }
 {
     let o = states::name_of(f.n, c.o);
     let form = decoding::form_from(c.code, first);

@@ -6,15 +6,15 @@ use Rattle.matrix.specs.declared.Right.TheVariants.{Own, Control, Basic}
 use Rattle.matrix.specs.declared.Shape.{Shape}
 use Rattle.matrix.specs.Names.{named}
 use Rattle.matrix.specs.Valid.{Valid}
-use Rattle.matrix.specs.Shape.{mostSubjects, basicsOf, shape_of}
+use Rattle.matrix.specs.Shape.{most_subjects, basics_of, shape_of}
 use Rattle.matrix.specs.Reading.{state_of}
-use Rattle.cells.specs.Station.{Station, station-at}
+use Rattle.cells.specs.Station.{Station, station_at}
 
 -- a right that the cells of a shape have a bit for
 abbrev pub RightIn : Shape → Right → Type 0
 RightIn f Own = Unit
 RightIn f Control = Unit
-RightIn f (Basic k g) = k < basicsOf f
+RightIn f (Basic k g) = k < basics_of f
 
 -- a name of the record
 pub record NameIn (b : List ℕ) (f : Shape) (x : Name) : Type 0 where
@@ -32,7 +32,7 @@ pub record BitIn (b : List ℕ) (f : Shape) (y : Right) (w : ℕ) (x : Name) : T
 pub record Guessed (b : List ℕ) (f : Shape) (owners : List ℕ) : Type 0 where
   pub station : Station b f
   pub valid : Valid (state_of b)
-  pub size : length owners ≡ mostSubjects
+  pub size : length owners ≡ most_subjects
 
-pub guessed-at : {b : List ℕ} {e f : Shape} {owners : List ℕ} → Guessed b e owners → f ≡ shape_of b → Guessed b f owners
-guessed-at h q = record { station = station-at h.station q; valid = h.valid; size = h.size }
+pub guessed_at : {b : List ℕ} {e f : Shape} {owners : List ℕ} → Guessed b e owners → f ≡ shape_of b → Guessed b f owners
+guessed_at h q = record { station = station_at h.station q; valid = h.valid; size = h.size }

@@ -1,23 +1,25 @@
 // What the state of a record that is of the right form says: bits, existence, controllers and the owner walk.
 
+#![tactic(auto)]
+
 ghost use Rattle.std.specs.Prelude.{◌≡◌, ◌<◌};
-ghost use Rattle.matrix.specs.Names.{columnOf, name_of};
-ghost use Rattle.matrix.specs.Rights.{code_of, rightOf};
-ghost use Rattle.matrix.specs.State.{has, exists, existsName};
-ghost use Rattle.matrix.specs.Owners.{ownerOf, walk};
+ghost use Rattle.matrix.specs.Names.{column_of, name_of};
+ghost use Rattle.matrix.specs.Rights.{code_of, right_of};
+ghost use Rattle.matrix.specs.State.{has, exists, exists_name};
+ghost use Rattle.matrix.specs.Owners.{owner_of, walk};
 ghost use Rattle.matrix.specs.Valid.{Valid};
-ghost use Rattle.matrix.specs.Tests.{otherController};
+ghost use Rattle.matrix.specs.Tests.{other_controller};
 ghost use Rattle.matrix.specs.Reading.{state_of};
-ghost use Rattle.codec.specs.Bits.{wordBits};
+ghost use Rattle.codec.specs.Bits.{word_bits};
 ghost use Rattle.cells.specs.Station.{Station};
 ghost use Rattle.states.specs.Needs.{NameIn, BitIn, Guessed};
-ghost use Rattle.states.specs.Reads.{starOf};
+ghost use Rattle.states.specs.Reads.{star_of};
 
 use matrix::{Form, MOST_SUBJECTS, Name, Right, Shape, Walked};
 
 // The column of a name.
 pub fn column_of(x: Name) -> usize
-    ensures { result ≡ columnOf x }
+    ensures { result ≡ column_of x }
 {
     match x {
         Name::Subject(c) => c,
@@ -37,7 +39,7 @@ pub fn name_of(n: usize, o: usize) -> Name
 
 // The star of a form as a number, 1 where it has one: so the code of a basic right is one sum for both forms.
 fn star_of(f: Form) -> usize
-    ensures { result ≡ starOf f }
+    ensures { result ≡ star_of f }
 {
     match f {
         Form::Plain => 0,
@@ -47,7 +49,7 @@ fn star_of(f: Form) -> usize
 
 // The code of a right: its bit in a cell.
 pub fn code_of(y: Right) -> usize
-    requires { code_of y < wordBits }
+    requires { code_of y < word_bits }
     ensures { result ≡ code_of y }
 {
     match y {
@@ -59,7 +61,7 @@ pub fn code_of(y: Right) -> usize
 
 // The right of a code.
 pub fn right_of(code: usize) -> Right
-    ensures { result ≡ rightOf code }
+    ensures { result ≡ right_of code }
 {
     if code == 0 {
         return Right::Own;
@@ -95,7 +97,7 @@ pub fn subject_exists(b: &[u8], f: Shape, s: usize) -> bool
 // Whether a name exists.
 pub fn name_exists(b: &[u8], f: Shape, x: Name) -> bool
     requires { NameIn b.now f x }
-    ensures { result ≡ existsName (state_of b.now) x }
+    ensures { result ≡ exists_name (state_of b.now) x }
 {
     match x {
         Name::Subject(s) => subject_exists(b, f, s),
@@ -107,7 +109,7 @@ pub fn name_exists(b: &[u8], f: Shape, x: Name) -> bool
 // a plain object exists, and the search for its owner is left out.
 pub fn exists_by(b: &[u8], f: Shape, i: usize, s: usize, x: Name) -> bool
     requires { NameIn b.now f x × Valid (state_of b.now) × (i < f.n) × (s < f.n) }
-    ensures { result ≡ existsName (state_of b.now) x }
+    ensures { result ≡ exists_name (state_of b.now) x }
 {
     match x {
         Name::Subject(w) => subject_exists(b, f, w),
@@ -126,7 +128,7 @@ pub fn exists_by(b: &[u8], f: Shape, i: usize, s: usize, x: Name) -> bool
 // Whether a subject other than o controls subject o.
 pub fn controlled(b: &[u8], f: Shape, o: usize) -> bool
     requires { Station b.now f × (o < f.n) }
-    ensures { result ≡ otherController (state_of b.now) (Name.Subject o) }
+    ensures { result ≡ other_controller (state_of b.now) (Name.Subject o) }
 {
     row_search::some_row(b, f, o, 1, o)
 }
@@ -135,7 +137,7 @@ pub fn controlled(b: &[u8], f: Shape, o: usize) -> bool
 // row owns v, since no other does. Where it doesn't, the owner is searched.
 pub fn owner_of(b: &[u8], f: Shape, owners: &[u8; MOST_SUBJECTS], v: usize) -> usize
     requires { Guessed b.now f owners.now × (v < f.n) }
-    ensures { result ≡ ownerOf (state_of b.now).top (state_of b.now).owns v }
+    ensures { result ≡ owner_of (state_of b.now).top (state_of b.now).owns v }
 {
     let guess = owners[v];
     if guess < f.n as u8 {

@@ -1,9 +1,11 @@
 // The short ways of commands over a subject that are accepted on a valid record: codes 6, 12 and 13.
 
+#![tactic(auto)]
+
 ghost use Rattle.std.specs.Prelude.{◌≡◌, true};
 ghost use Rattle.matrix.specs.Valid.{Valid};
 ghost use Rattle.matrix.specs.Reading.{state_of};
-ghost use Rattle.matrix.specs.Calls.{namesFit};
+ghost use Rattle.matrix.specs.Calls.{names_fit};
 ghost use Rattle.cells.specs.Station.{Station};
 ghost use Rattle.short_ways.specs.Answered.{Answered};
 ghost use Rattle.short_ways.specs.Ready.{doing};
@@ -83,7 +85,7 @@ fn destroy_subject(b: &mut [u8], f: Shape, c: Fields) -> bool
 // asks.
 pub fn over_subject(b: &mut [u8], f: Shape, c: Fields) -> bool
     requires { Station b.old f × Valid (state_of b.old) }
-    ensures { Where result b.old b.new (Answered b.old b.new c (Answer.Accepted 0) × (namesFit f c ≡ true)) }
+    ensures { Where result b.old b.new (Answered b.old b.new c (Answer.Accepted 0) × (names_fit f c ≡ true)) }
 {
     if c.k != 0 {
         return false;

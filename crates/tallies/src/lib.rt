@@ -1,7 +1,10 @@
 // What is counted in lanes over all rows, one lane in each number: the two low bits of its upper byte.
+
+#![tactic(auto)]
+
 ghost use Rattle.std.specs.Prelude.{◌≡◌, ◌+◌, ◌*◌, ◌≤◌, ◌<◌, length};
 ghost use Rattle.lanes.specs.Lanes.{place_of, Laid};
-ghost use Rattle.tallies.specs.Blocks.{at_once, Several, Sized, Room, Joined, low_bits, lanesFrom, ownUpper, Filling};
+ghost use Rattle.tallies.specs.Blocks.{at_once, Several, Sized, Room, Joined, low_bits, lanes_from, own_upper, Filling};
 
 use lanes::{Matrix, UPPER};
 
@@ -18,7 +21,7 @@ fn row(
     at: usize,
 )
     requires { Room b.now at low.old odd.old since.old }
-    ensures { Joined (low_bits b.now at) (lanesFrom b.now at) ownUpper at_once low.old odd.old since.old low.new odd.new since.new }
+    ensures { Joined (low_bits b.now at) (lanes_from b.now at) own_upper at_once low.old odd.old since.old low.new odd.new since.new }
 {
     for j in 0..AT_ONCE {
         let v = lanes::lane(b, at + 2 * j);

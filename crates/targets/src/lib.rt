@@ -1,24 +1,26 @@
 // The tests of a question's target that need no way up, on a record that is of the right form: an untrusted subject with the star, whether the
 // target is possible, and whether o is to be destroyed and created again.
 
+#![tactic(auto)]
+
 ghost use Rattle.std.specs.Prelude.{◌≡◌, ◌<◌};
 ghost use Rattle.matrix.specs.Bounded.{least};
 ghost use Rattle.matrix.specs.Owners.{walk, meets};
-ghost use Rattle.matrix.specs.Shape.{basicsOf};
+ghost use Rattle.matrix.specs.Shape.{basics_of};
 ghost use Rattle.matrix.specs.Reading.{state_of};
 ghost use Rattle.states.specs.Needs.{RightIn, NameIn, Guessed};
-ghost use Rattle.question.specs.Trust.{trustedBy};
+ghost use Rattle.question.specs.Trust.{trusted_by};
 ghost use Rattle.safe.specs.Possible.{possible};
-ghost use Rattle.finish.specs.Finish.{againNeeded};
-ghost use Rattle.ways.specs.Ways.{starHolder};
+ghost use Rattle.finish.specs.Finish.{again_needed};
+ghost use Rattle.ways.specs.Ways.{star_holder};
 
 use matrix::{Form, MOST_SUBJECTS, Name, Right, Shape, Walked};
 
 // The lowest untrusted subject that has basic right k starred over x, or n if there is none. `passed` are the trusted subjects and those
 // whose cell was looked at, so that the search goes from one untrusted subject to the next.
 fn star_row(b: &[u8], f: Shape, trust: u64, k: usize, x: Name) -> usize
-    requires { NameIn b.now f x × (k < basicsOf f) }
-    ensures { result ≡ least f.n (starHolder (state_of b.now) (trustedBy trust) x (Right.Basic k Form.Starred)) }
+    requires { NameIn b.now f x × (k < basics_of f) }
+    ensures { result ≡ least f.n (star_holder (state_of b.now) (trusted_by trust) x (Right.Basic k Form.Starred)) }
 {
     let n = f.n;
     let mut passed = trust;
@@ -36,7 +38,7 @@ fn star_row(b: &[u8], f: Shape, trust: u64, k: usize, x: Name) -> usize
 // The lowest untrusted subject with the star of right y over x, or n if there is none. Own and control have no star.
 pub fn star_holder(b: &[u8], f: Shape, trust: u64, y: Right, x: Name) -> usize
     requires { NameIn b.now f x × RightIn f y }
-    ensures { result ≡ least f.n (starHolder (state_of b.now) (trustedBy trust) x y) }
+    ensures { result ≡ least f.n (star_holder (state_of b.now) (trusted_by trust) x y) }
 {
     match y {
         Right::Own => f.n,
@@ -87,7 +89,7 @@ pub fn again_needed(
     y: Right,
 ) -> bool
     requires { NameIn b.now f x × Guessed b.now f owners.now × (s < f.n) }
-    ensures { result ≡ againNeeded (state_of b.now) s x y }
+    ensures { result ≡ again_needed (state_of b.now) s x y }
 {
     match x {
         Name::Subject(o) => match y {

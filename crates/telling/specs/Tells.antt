@@ -2,10 +2,10 @@
 use Rattle.std.specs.Prelude.{ℕ, ◌+◌, ◌≤◌, ◌≡◌, refl, Bool, true, false, cond, List, [], ◌∷◌, ◌++◌, length}
 use Rattle.std.proofs.Common.{add-zero, le_refl, arith, sym, ◌∙◌, ap, ap₂, length-append}
 use Rattle.matrix.specs.declared.Fields.{Fields}
-use Rattle.matrix.specs.CommandList.{commandPlace}
-use Rattle.writing.specs.Put.{putCommand, put_all}
-use Rattle.writing.specs.Commands.{length-putAll}
-use Rattle.writing.specs.Laws.{put-all-append}
+use Rattle.matrix.specs.CommandList.{command_place}
+use Rattle.writing.specs.Put.{put_command, put_all}
+use Rattle.writing.specs.Commands.{length_put_all}
+use Rattle.writing.specs.Laws.{put_all_append}
 
 -- the buffer out became out' by writing the commands cs from number j on, and r is the number of the next one
 pub record Tells (out out' : List ℕ) (j : ℕ) (cs : List Fields) (r : ℕ) : Type 0 where
@@ -14,22 +14,22 @@ pub record Tells (out out' : List ℕ) (j : ℕ) (cs : List Fields) (r : ℕ) : 
 
 -- the buffer has room for m commands from number j on
 pub record Fits (out : List ℕ) (j m : ℕ) : Type 0 where
-  pub fits : commandPlace (j + m) ≤ length out
+  pub fits : command_place (j + m) ≤ length out
 
 -- no command, one command, and one part after another
 pub tells_none : (out : List ℕ) (j : ℕ) → Tells out out j [] j
 unfolding put_all
 tells_none out j = record { bytes = refl; next = sym (add-zero j) }
 
-pub tells-one : {out out' : List ℕ} {j : ℕ} {c : Fields} → out' ≡ putCommand out j c → Tells out out' j (c ∷ []) (j + 1)
+pub tells_one : {out out' : List ℕ} {j : ℕ} {c : Fields} → out' ≡ put_command out j c → Tells out out' j (c ∷ []) (j + 1)
 unfolding put_all
-tells-one h = record { bytes = h; next = refl }
+tells_one h = record { bytes = h; next = refl }
 
-pub tells-then : {out mid out' : List ℕ} {j i r : ℕ} {cs ds : List Fields} → Tells out mid j cs i → Tells mid out' i ds r
+pub tells_then : {out mid out' : List ℕ} {j i r : ℕ} {cs ds : List Fields} → Tells out mid j cs i → Tells mid out' i ds r
     → Tells out out' j (cs ++ ds) r
-tells-then {out} {mid} {j = j} {i} {cs = cs} {ds} a b =
+tells_then {out} {mid} {j = j} {i} {cs = cs} {ds} a b =
     record {
-      bytes = b.bytes ∙ ap₂ (λ (l : List ℕ) (k : ℕ). put_all l k ds) a.bytes a.next ∙ sym (put-all-append out j cs ds);
+      bytes = b.bytes ∙ ap₂ (λ (l : List ℕ) (k : ℕ). put_all l k ds) a.bytes a.next ∙ sym (put_all_append out j cs ds);
       next = (let e : length (cs ++ ds) ≡ length cs + length ds = length-append cs ds in omega (arith, a.next, b.next));
     }
 
@@ -39,28 +39,28 @@ tells_as {out} {j = j} e a =
     record { bytes = a.bytes ∙ ap (λ (l : List Fields). put_all out j l) e; next = a.next ∙ ap (λ (l : List Fields). j + length l) e }
 
 -- a part that is written where a test holds
-pub tells-skipped : {t : Bool} (out : List ℕ) (j : ℕ) (cs : List Fields) → t ≡ false → Tells out out j (cond t cs []) j
-tells-skipped out j cs e = rw e (tells_none out j)
+pub tells_skipped : {t : Bool} (out : List ℕ) (j : ℕ) (cs : List Fields) → t ≡ false → Tells out out j (cond t cs []) j
+tells_skipped out j cs e = rw e (tells_none out j)
 
-pub tells-chosen : {out out' : List ℕ} {j r : ℕ} {cs : List Fields} {t : Bool} → t ≡ true → Tells out out' j cs r → Tells out out' j (cond t cs []) r
-tells-chosen e a = rw e a
+pub tells_chosen : {out out' : List ℕ} {j r : ℕ} {cs : List Fields} {t : Bool} → t ≡ true → Tells out out' j cs r → Tells out out' j (cond t cs []) r
+tells_chosen e a = rw e a
 
-pub few-chosen : (t : Bool) (cs : List Fields) → length (cond t cs []) ≤ length cs
-few-chosen true cs = le_refl (length cs)
-few-chosen false cs = omega arith
+pub few_chosen : (t : Bool) (cs : List Fields) → length (cond t cs []) ≤ length cs
+few_chosen true cs = le_refl (length cs)
+few_chosen false cs = omega arith
 
 -- a command, and a part after it that is left out where a test holds
-pub tells-only : {out out' : List ℕ} {j r : ℕ} {c : Fields} {t : Bool} (cs : List Fields) → t ≡ true → Tells out out' j (c ∷ []) r
+pub tells_only : {out out' : List ℕ} {j r : ℕ} {c : Fields} {t : Bool} (cs : List Fields) → t ≡ true → Tells out out' j (c ∷ []) r
     → Tells out out' j (c ∷ cond t [] cs) r
-tells-only cs e a = rw e a
+tells_only cs e a = rw e a
 
 pub tells_more : {out mid out' : List ℕ} {j i r : ℕ} {c : Fields} {cs : List Fields} {t : Bool} → t ≡ false → Tells out mid j (c ∷ []) i
     → Tells mid out' i cs r → Tells out out' j (c ∷ cond t [] cs) r
-tells_more e a b = rw e (tells-then a b)
+tells_more e a b = rw e (tells_then a b)
 
 -- writing keeps the buffer's length, so the room for the parts still to come stays
-pub tells-length : {out out' : List ℕ} {j r : ℕ} {cs : List Fields} → Tells out out' j cs r → length out' ≡ length out
-tells-length {out} {j = j} {cs = cs} a = ap length a.bytes ∙ length-putAll out j cs
+pub tells_length : {out out' : List ℕ} {j r : ℕ} {cs : List Fields} → Tells out out' j cs r → length out' ≡ length out
+tells_length {out} {j = j} {cs = cs} a = ap length a.bytes ∙ length_put_all out j cs
 
 pub fits_after : {out out' : List ℕ} {j r : ℕ} {cs : List Fields} (k m : ℕ) → Fits out j (k + m) → length cs ≤ k → Tells out out' j cs r → Fits out' r m
-fits_after k m f few a = record { fits = omega (arith, f.fits, few, a.next, tells-length a) }
+fits_after k m f few a = record { fits = omega (arith, f.fits, few, a.next, tells_length a) }

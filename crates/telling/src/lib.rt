@@ -1,14 +1,16 @@
 // Writing the parts of a list that makes a right held, one command after another. Each function answers the number of the next command.
 
+#![tactic(auto)]
+
 ghost use Rattle.std.specs.Prelude.{◌≡◌, cond, false, ◌&&◌, [], ◌∷◌, ◌++◌, eqb, ◌+◌, ◌≤◌, ◌<◌};
-ghost use Rattle.matrix.specs.Names.{columnOf};
-ghost use Rattle.matrix.specs.Shape.{mostSubjects};
-ghost use Rattle.route.specs.Parts.{destroys, creates, createsName, givingCode, basicNumber, gives, heldByOwn, finish, destroysAll, among};
-ghost use Rattle.ways.specs.Ways.{passesRight, madeHeld};
+ghost use Rattle.matrix.specs.Names.{column_of};
+ghost use Rattle.matrix.specs.Shape.{most_subjects};
+ghost use Rattle.route.specs.Parts.{destroys, creates, creates_name, giving_code, basic_number, gives, held_by_own, finish, destroys_all, among};
+ghost use Rattle.ways.specs.Ways.{passes_right, made_held};
 ghost use Rattle.ways.specs.Path.{listed};
 ghost use Rattle.writing.specs.Put.{Room};
 ghost use Rattle.telling.specs.Tells.{Tells};
-ghost use Rattle.telling.specs.Parts.{Pair, Part, passingCode};
+ghost use Rattle.telling.specs.Parts.{Pair, Part, passing_code};
 ghost use Rattle.telling.specs.Paths.{PathRoom};
 
 use matrix::{Fields, Form, MOST_SUBJECTS, Name, Right};
@@ -24,7 +26,7 @@ fn put_one(out: &mut [u8], j: usize, c: Fields) -> usize
 
 // The code by which an owner gives the right y over x.
 fn giving_code(x: Name, y: Right) -> usize
-    ensures { result ≡ givingCode x y }
+    ensures { result ≡ giving_code x y }
 {
     match y {
         Right::Own => match x {
@@ -41,7 +43,7 @@ fn giving_code(x: Name, y: Right) -> usize
 
 // The number of a basic right, 0 for own and control.
 fn basic_number(y: Right) -> usize
-    ensures { result ≡ basicNumber y }
+    ensures { result ≡ basic_number y }
 {
     match y {
         Right::Own => 0,
@@ -143,7 +145,7 @@ pub fn put_finish(
 
 // The code by which a holder of the star passes the right y on.
 fn passing_code(y: Right) -> usize
-    ensures { result ≡ passingCode y }
+    ensures { result ≡ passing_code y }
 {
     match y {
         Right::Own => 1,
@@ -158,7 +160,7 @@ fn passing_code(y: Right) -> usize
 // i, which has the starred right y over x, passes s the right.
 fn put_passed(out: &mut [u8], j: usize, i: usize, s: usize, x: Name, y: Right) -> usize
     requires { Part out.old j 1 i s x y }
-    ensures { Tells out.old out.new j (passesRight i s x y ∷ []) result }
+    ensures { Tells out.old out.new j (passes_right i s x y ∷ []) result }
 {
     let code = passing_code(y);
     let o = states::column_of(x);
@@ -176,7 +178,7 @@ fn put_passed(out: &mut [u8], j: usize, i: usize, s: usize, x: Name, y: Right) -
 // The list of an untrusted subject i with the star: s is created where it is absent, and i passes it the right.
 pub fn put_star(out: &mut [u8], i: usize, s: usize, x: Name, y: Right, absent: bool) -> usize
     requires { Part out.old 0 2 i s x y }
-    ensures { Tells out.old out.new 0 (cond absent (creates i s ∷ []) [] ++ (passesRight i s x y ∷ [])) result }
+    ensures { Tells out.old out.new 0 (cond absent (creates i s ∷ []) [] ++ (passes_right i s x y ∷ [])) result }
 {
     let next = put_created(out, 0, i, s, absent);
     put_passed(out, next, i, s, x, y)
@@ -184,8 +186,8 @@ pub fn put_star(out: &mut [u8], i: usize, s: usize, x: Name, y: Right, absent: b
 
 // v creates x.
 fn put_name(out: &mut [u8], v: usize, x: Name) -> usize
-    requires { Pair out.old 0 1 v (columnOf x) }
-    ensures { Tells out.old out.new 0 (createsName v x ∷ []) result }
+    requires { Pair out.old 0 1 v (column_of x) }
+    ensures { Tells out.old out.new 0 (creates_name v x ∷ []) result }
 {
     match x {
         Name::Subject(w) => put_create(out, 0, v, w),
@@ -213,7 +215,7 @@ pub fn put_creation(
     held: bool,
 ) -> usize
     requires { Part out.old 0 3 v s x y }
-    ensures { Tells out.old out.new 0 (createsName v x ∷ cond held [] (finish v s x y absent false)) result }
+    ensures { Tells out.old out.new 0 (creates_name v x ∷ cond held [] (finish v s x y absent false)) result }
 {
     let next = put_name(out, v, x);
     if held {
@@ -232,7 +234,7 @@ fn subject(x: u8) -> usize
 // v destroys the first m subjects of the path, the last first.
 pub fn put_destroys(out: &mut [u8], v: usize, path: &[u8; MOST_SUBJECTS], m: usize) -> usize
     requires { PathRoom out.old v m }
-    ensures { Tells out.old out.new 0 (destroysAll v (listed path.now m)) result }
+    ensures { Tells out.old out.new 0 (destroys_all v (listed path.now m)) result }
 {
     for t in 0..m {
         let w = subject(path[m - 1 - t]);
@@ -243,7 +245,7 @@ pub fn put_destroys(out: &mut [u8], v: usize, path: &[u8; MOST_SUBJECTS], m: usi
 
 // Whether s is one of the first m subjects of the path.
 pub fn is_among(path: &[u8; MOST_SUBJECTS], m: usize, s: usize) -> bool
-    requires { m ≤ mostSubjects }
+    requires { m ≤ most_subjects }
     ensures { result ≡ among s (listed path.now m) }
 {
     for t in 0..m {
@@ -256,7 +258,7 @@ pub fn is_among(path: &[u8; MOST_SUBJECTS], m: usize, s: usize) -> bool
 
 // Whether s holds the right y as soon as v owns the name: own makes every right held but control.
 pub fn owns_then(v: usize, s: usize, y: Right) -> bool
-    ensures { result ≡ (heldByOwn y && eqb s v) }
+    ensures { result ≡ (held_by_own y && eqb s v) }
 {
     match y {
         Right::Own => s == v,
@@ -267,7 +269,7 @@ pub fn owns_then(v: usize, s: usize, y: Right) -> bool
 
 // Whether s holds the right y over x as soon as v creates x, and so owns it.
 pub fn held_when_made(v: usize, s: usize, x: Name, y: Right) -> bool
-    ensures { result ≡ madeHeld v s x y }
+    ensures { result ≡ made_held v s x y }
 {
     match y {
         Right::Own => owns_then(v, s, y),

@@ -4,12 +4,12 @@ use Rattle.std.proofs.Common.{arith, sym, ◌∙◌, ap, ap₂, ⊎_elim, length
 use Rattle.std.proofs.Math.Path.{refl}
 use borrow.Author.Tests.{leb-true, leb-false, le-ltb, lt-ltb, ne_eqb}
 use Rattle.matrix.specs.Numbers.{numbers}
-use Rattle.matrix.specs.Tests.{firstFailed}
+use Rattle.matrix.specs.Tests.{first_failed}
 use Rattle.matrix.specs.Shape.{limits, shape_of}
-use Rattle.matrix.specs.Record.{recordRefusal}
-use Rattle.matrix.specs.CommandList.{wellFormed}
-use Rattle.matrix.specs.Calls.{questionFits}
-use Rattle.matrix.specs.FirstHeld.{firstOn, firstHeldRefusal, firstHeldResult, Lent}
+use Rattle.matrix.specs.Record.{record_refusal}
+use Rattle.matrix.specs.CommandList.{well_formed}
+use Rattle.matrix.specs.Calls.{question_fits}
+use Rattle.matrix.specs.FirstHeld.{first_on, first_held_refusal, first_held_result, Lent}
 use Rattle.laws.specs.Tests.{way}
 
 -- the refusal after 1 to 5, where the numbers do not fit, the copy is short, or the list is not of the right form
@@ -17,11 +17,11 @@ abbrev pub later : Bool → Bool → Bool → ℕ
 later unfit short unformed = cond unfit 7 (cond short 15 (cond unformed 16 0))
 
 -- where there is none, none of the three is so
-pub later-none : (unfit short unformed : Bool) → later unfit short unformed ≡ 0 → (unfit ≡ false) × (short ≡ false) × (unformed ≡ false)
-later-none true short unformed h = let z : ◌≡◌ {A = ℕ} 7 0 = h in absurd (omega arith)
-later-none false true unformed h = let z : ◌≡◌ {A = ℕ} 15 0 = h in absurd (omega arith)
-later-none false false true h = let z : ◌≡◌ {A = ℕ} 16 0 = h in absurd (omega arith)
-later-none false false false h = (refl, refl, refl)
+pub later_none : (unfit short unformed : Bool) → later unfit short unformed ≡ 0 → (unfit ≡ false) × (short ≡ false) × (unformed ≡ false)
+later_none true short unformed h = let z : ◌≡◌ {A = ℕ} 7 0 = h in absurd (omega arith)
+later_none false true unformed h = let z : ◌≡◌ {A = ℕ} 15 0 = h in absurd (omega arith)
+later_none false false true h = let z : ◌≡◌ {A = ℕ} 16 0 = h in absurd (omega arith)
+later_none false false false h = (refl, refl, refl)
 
 -- as the definition tests
 tested : (fits formed : Bool) (size room : ℕ) → cond fits (cond (leb size room) (cond formed 0 16) 15) 7 ≡ later (not fits) (ltb room size) (not formed)
@@ -35,39 +35,39 @@ tested true formed size room =
     by false = refl
 
 -- r is the refusal after 1 to 5
-module _ (b l : List ℕ) (s o right room : ℕ) {r : ℕ} (passed : recordRefusal limits b ≡ 0)
-    (e : r ≡ later (not (questionFits (shape_of b) s o right)) (ltb room (length b)) (not (wellFormed l))) where
-  refusal : firstHeldRefusal limits b l s o right room ≡ r
-  refusal = tests ∙ tested (questionFits (shape_of b) s o right) (wellFormed l) (length b) room ∙ sym e
+module _ (b l : List ℕ) (s o right room : ℕ) {r : ℕ} (passed : record_refusal limits b ≡ 0)
+    (e : r ≡ later (not (question_fits (shape_of b) s o right)) (ltb room (length b)) (not (well_formed l))) where
+  refusal : first_held_refusal limits b l s o right room ≡ r
+  refusal = tests ∙ tested (question_fits (shape_of b) s o right) (well_formed l) (length b) room ∙ sym e
     where
-      tests : firstHeldRefusal limits b l s o right room ≡ cond (questionFits (shape_of b) s o right) (cond (leb (length b) room) (cond (wellFormed l) 0 16) 15) 7
-      tests = unfold firstHeldRefusal firstFailed in rw passed refl
+      tests : first_held_refusal limits b l s o right room ≡ cond (question_fits (shape_of b) s o right) (cond (leb (length b) room) (cond (well_formed l) 0 16) 15) 7
+      tests = unfold first_held_refusal first_failed in rw passed refl
 
-  pub refused : (r ≡ 0 → ⊥) → numbers r 0 ≡ firstHeldResult limits b l s o right room
-  unfolding firstHeldResult
+  pub refused : (r ≡ 0 → ⊥) → numbers r 0 ≡ first_held_result limits b l s o right room
+  unfolding first_held_result
   refused n = rw (refusal, ne_eqb r 0 n) refl
 
-  pub answered : r ≡ 0 → numbers 0 (firstOn b l s o right) ≡ firstHeldResult limits b l s o right room
-  unfolding firstHeldResult
+  pub answered : r ≡ 0 → numbers 0 (first_on b l s o right) ≡ first_held_result limits b l s o right room
+  unfolding first_held_result
   answered n = rw (refusal, n) refl
 
 -- 1 to 5 turn the record down
-pub turned_down : (b l : List ℕ) (s o right room : ℕ) {m : ℕ} → m ≡ recordRefusal limits b → (m ≡ 0 → ⊥) → numbers m 0 ≡ firstHeldResult limits b l s o right room
-unfolding firstHeldResult
+pub turned_down : (b l : List ℕ) (s o right room : ℕ) {m : ℕ} → m ≡ record_refusal limits b → (m ≡ 0 → ⊥) → numbers m 0 ≡ first_held_result limits b l s o right room
+unfolding first_held_result
 turned_down b l s o right room {m} e n = rw (refusal, no) (ap (λ (m : ℕ). numbers m 0) e)
   where
-    no : eqb (recordRefusal limits b) 0 ≡ false
-    no = ne_eqb (recordRefusal limits b) 0 (λ z. n (e ∙ z))
+    no : eqb (record_refusal limits b) 0 ≡ false
+    no = ne_eqb (record_refusal limits b) 0 (λ z. n (e ∙ z))
 
-    refusal : firstHeldRefusal limits b l s o right room ≡ recordRefusal limits b
-    refusal = unfold firstHeldRefusal firstFailed in rw no refl
+    refusal : first_held_refusal limits b l s o right room ≡ record_refusal limits b
+    refusal = unfold first_held_refusal first_failed in rw no refl
 
 -- the lent copy is as it was; or its first bytes are others, as many
-pub lent-kept : (refusal used : ℕ) (copy : List ℕ) → Lent refusal used copy copy
-lent-kept refusal used copy = record { kept = λ n. refl; later = refl; size = refl }
+pub lent_kept : (refusal used : ℕ) (copy : List ℕ) → Lent refusal used copy copy
+lent_kept refusal used copy = record { kept = λ n. refl; later = refl; size = refl }
 
-pub lent-used : (used : ℕ) (x copy : List ℕ) → length x ≡ used → used ≤ length copy → Lent 0 used copy (x ++ drop used copy)
-lent-used used x copy e h =
+pub lent_used : (used : ℕ) (x copy : List ℕ) → length x ≡ used → used ≤ length copy → Lent 0 used copy (x ++ drop used copy)
+lent_used used x copy e h =
     record {
       kept = λ n. absurd (n refl);
       later = drop_at x (drop used copy) used e;

@@ -10,63 +10,63 @@ use Rattle.matrix.specs.declared.Name.{Name}
 use Rattle.matrix.specs.declared.Right.{Right}
 use Rattle.matrix.specs.declared.Shape.{Shape}
 use Rattle.matrix.specs.Names.{name_of}
-use Rattle.matrix.specs.Rights.{rightOf}
+use Rattle.matrix.specs.Rights.{right_of}
 use Rattle.matrix.specs.State.{State, held}
 use Rattle.matrix.specs.Shape.{shape_of}
 use Rattle.matrix.specs.Reading.{state_of}
-use Rattle.matrix.specs.CommandList.{fields_at, commandPlace, commandsFrom}
-use Rattle.matrix.specs.Calls.{holdsOn, refusalOn, nextOn}
-use Rattle.matrix.specs.FirstHeld.{firstFrom, firstOn}
+use Rattle.matrix.specs.CommandList.{fields_at, command_place, commands_from}
+use Rattle.matrix.specs.Calls.{holds_on, refusal_on, next_on}
+use Rattle.matrix.specs.FirstHeld.{first_from, first_on}
 use Rattle.short_ways.specs.Answered.{Answered}
 use Rattle.runs.specs.Reached.{Reached}
-use Rattle.runs.specs.Steps.{here, is-refused, reached-more}
+use Rattle.runs.specs.Steps.{here, is_refused, reached_more}
 
 -- what commands come to on a state of the record b₀'s shape
 abbrev pub found_from : List ℕ → ℕ → ℕ → ℕ → ℕ → State → List Fields → ℕ
-found_from b₀ s o right j S cs = firstFrom j (shape_of b₀) S cs (rightOf right) s (name_of (shape_of b₀).n o)
+found_from b₀ s o right j S cs = first_from j (shape_of b₀) S cs (right_of right) s (name_of (shape_of b₀).n o)
 
 module _ (j : ℕ) (f : Shape) (S : State) (x : Right) (s : ℕ) (o : Name) where
-  first-held : (cs : List Fields) → held S x s o ≡ true → firstFrom j f S cs x s o ≡ j + 1
-  unfolding firstFrom
-  first-held [] h = rw h refl
-  first-held (c ∷ cs) h = rw h refl
+  first_held : (cs : List Fields) → held S x s o ≡ true → first_from j f S cs x s o ≡ j + 1
+  unfolding first_from
+  first_held [] h = rw h refl
+  first_held (c ∷ cs) h = rw h refl
 
-  first-none : (l : List ℕ) (i : ℕ) → held S x s o ≡ false → firstFrom j f S (commandsFrom l i 0) x s o ≡ 0
-  unfolding firstFrom commandsFrom
-  first-none l i h = rw h refl
+  first_none : (l : List ℕ) (i : ℕ) → held S x s o ≡ false → first_from j f S (commands_from l i 0) x s o ≡ 0
+  unfolding first_from commands_from
+  first_none l i h = rw h refl
 
   module _ (c : Fields) (cs : List Fields) (h : held S x s o ≡ false) where
-    first-later : refusalOn f S c ≡ 0 → firstFrom j f S (c ∷ cs) x s o ≡ firstFrom (j + 1) f (nextOn f S c) cs x s o
-    unfolding firstFrom
-    first-later e = rw (h, e) refl
+    first_later : refusal_on f S c ≡ 0 → first_from j f S (c ∷ cs) x s o ≡ first_from (j + 1) f (next_on f S c) cs x s o
+    unfolding first_from
+    first_later e = rw (h, e) refl
 
-    first-refused : eqb (refusalOn f S c) 0 ≡ false → firstFrom j f S (c ∷ cs) x s o ≡ 0
-    unfolding firstFrom
-    first-refused e = rw (h, e) refl
+    first_refused : eqb (refusal_on f S c) 0 ≡ false → first_from j f S (c ∷ cs) x s o ≡ 0
+    unfolding first_from
+    first_refused e = rw (h, e) refl
 
 module _ (s o right : ℕ) {b₀ b l : List ℕ} {f : Shape} {m j : ℕ} (h : Reached (found_from b₀ s o right) b₀ b l f m j) where
   -- whether the right is held here, with the name of the first record's shape
-  held-here : {t v : Bool} → t ≡ holdsOn b s o right → t ≡ v → held (state_of b) (rightOf right) s (name_of (shape_of b₀).n o) ≡ v
-  held-here e d = ap (λ (g : Shape). held (state_of b) (rightOf right) s (name_of g.n o)) (sym h.shape) ∙ sym e ∙ d
+  held_here : {t v : Bool} → t ≡ holds_on b s o right → t ≡ v → held (state_of b) (right_of right) s (name_of (shape_of b₀).n o) ≡ v
+  held_here e d = ap (λ (g : Shape). held (state_of b) (right_of right) s (name_of g.n o)) (sym h.shape) ∙ sym e ∙ d
 
-  pub found : {t : Bool} → t ≡ holdsOn b s o right → t ≡ true → j + 1 ≡ firstOn b₀ l s o right
-  found e d = sym (first-held j (shape_of b₀) (state_of b) (rightOf right) s (name_of (shape_of b₀).n o) (commandsFrom l j (m - j)) (held-here e d)) ∙ h.rest
+  pub found : {t : Bool} → t ≡ holds_on b s o right → t ≡ true → j + 1 ≡ first_on b₀ l s o right
+  found e d = sym (first_held j (shape_of b₀) (state_of b) (right_of right) s (name_of (shape_of b₀).n o) (commands_from l j (m - j)) (held_here e d)) ∙ h.rest
 
   -- it is not, and there are no more commands
-  pub found-never : {t : Bool} → t ≡ holdsOn b s o right → t ≡ false → m ≤ j → 0 ≡ firstOn b₀ l s o right
-  found-never e d more =
+  pub found_never : {t : Bool} → t ≡ holds_on b s o right → t ≡ false → m ≤ j → 0 ≡ first_on b₀ l s o right
+  found_never e d more =
       let z : m - j ≡ 0 = omega arith in
-      sym (first-none j (shape_of b₀) (state_of b) (rightOf right) s (name_of (shape_of b₀).n o) l j (held-here e d))
-      ∙ ap (λ (k : ℕ). found_from b₀ s o right j (state_of b) (commandsFrom l j k)) (sym z) ∙ h.rest
+      sym (first_none j (shape_of b₀) (state_of b) (right_of right) s (name_of (shape_of b₀).n o) l j (held_here e d))
+      ∙ ap (λ (k : ℕ). found_from b₀ s o right j (state_of b) (commands_from l j k)) (sym z) ∙ h.rest
 
-  module _ {b' : List ℕ} {c : Fields} {r : Answer} {t : Bool} (e : t ≡ holdsOn b s o right) (d : t ≡ false) (more : j < m) (read : c ≡ fields_at l (commandPlace j)) (w : Answered b b' c r) where
+  module _ {b' : List ℕ} {c : Fields} {r : Answer} {t : Bool} (e : t ≡ holds_on b s o right) (d : t ≡ false) (more : j < m) (read : c ≡ fields_at l (command_place j)) (w : Answered b b' c r) where
     -- the next command is refused
-    pub found-refused : {x k : ℕ} → r ≡ Refused k x → 0 ≡ firstOn b₀ l s o right
-    found-refused q =
-        sym (first-refused j (shape_of b₀) (state_of b) (rightOf right) s (name_of (shape_of b₀).n o) c (commandsFrom l (j + 1) (m - (j + 1))) (held-here e d) (is-refused h more read w q))
+    pub found_refused : {x k : ℕ} → r ≡ Refused k x → 0 ≡ first_on b₀ l s o right
+    found_refused q =
+        sym (first_refused j (shape_of b₀) (state_of b) (right_of right) s (name_of (shape_of b₀).n o) c (commands_from l (j + 1) (m - (j + 1))) (held_here e d) (is_refused h more read w q))
         ∙ here h more read w
 
     -- it is accepted, and the search goes on after it
-    pub found-later : {x : ℕ} → r ≡ Accepted x → Reached (found_from b₀ s o right) b₀ b' l f m (j + 1)
-    found-later q =
-        reached-more h more read w (λ cs. first-later j (shape_of b₀) (state_of b) (rightOf right) s (name_of (shape_of b₀).n o) c cs (held-here e d)) q
+    pub found_later : {x : ℕ} → r ≡ Accepted x → Reached (found_from b₀ s o right) b₀ b' l f m (j + 1)
+    found_later q =
+        reached_more h more read w (λ cs. first_later j (shape_of b₀) (state_of b) (right_of right) s (name_of (shape_of b₀).n o) c cs (held_here e d)) q

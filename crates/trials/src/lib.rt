@@ -1,9 +1,11 @@
 // The commands of a list tried in turn on a lent copy of a record, for the first after which a right is held.
 
+#![tactic(auto)]
+
 ghost use Rattle.std.specs.Prelude.{◌≡◌, true, ◌<◌, length};
 ghost use Rattle.matrix.specs.Shape.{limits, bits_of};
-ghost use Rattle.matrix.specs.CommandList.{wellFormed};
-ghost use Rattle.matrix.specs.FirstHeld.{firstOn, firstHeldResult, Lent};
+ghost use Rattle.matrix.specs.CommandList.{well_formed};
+ghost use Rattle.matrix.specs.FirstHeld.{first_on, first_held_result, Lent};
 ghost use Rattle.cells.specs.Station.{Cell};
 ghost use Rattle.states.specs.Needs.{Guessed};
 ghost use Rattle.trials.specs.Answers.{later};
@@ -23,8 +25,8 @@ fn first_on(
     o: usize,
     right: usize,
 ) -> usize
-    requires { Guessed b.old f owners.old × Cell b.old f s o × (right < bits_of f) × (wellFormed l.now ≡ true) }
-    ensures { result ≡ firstOn b.old l.now s o right }
+    requires { Guessed b.old f owners.old × Cell b.old f s o × (right < bits_of f) × (well_formed l.now ≡ true) }
+    ensures { result ≡ first_on b.old l.now s o right }
 {
     let mut at = 0;
     loop {
@@ -54,8 +56,8 @@ fn try_on(
     right: usize,
     copy: &mut [u8],
 ) -> usize
-    requires { Guessed b.now f owners.old × Cell b.now f s o × (right < bits_of f) × (wellFormed l.now ≡ true) × (length copy.old ≡ length b.now) }
-    ensures { result ≡ firstOn b.now l.now s o right }
+    requires { Guessed b.now f owners.old × Cell b.now f s o × (right < bits_of f) × (well_formed l.now ≡ true) × (length copy.old ≡ length b.now) }
+    ensures { result ≡ first_on b.now l.now s o right }
 {
     bytes::copy(b, copy);
     first_on(copy, f, owners, l, s, o, right)
@@ -78,7 +80,7 @@ fn refusal_of(unfit: bool, short: bool, unformed: bool) -> u64
 
 // After which command of a list a right is first held, on any bytes and numbers: the number of commands before, and one; 0 where after none.
 pub fn first_held(b: &[u8], l: &[u8], s: usize, o: usize, right: usize, copy: &mut [u8]) -> Numbers
-    ensures result { result ≡ firstHeldResult limits b.now l.now s o right (length copy.old) }
+    ensures result { result ≡ first_held_result limits b.now l.now s o right (length copy.old) }
     ensures lent { Lent result.refusal (length b.now) copy.old copy.new }
 {
     let mut owners = [0u8; MOST_SUBJECTS];

@@ -5,25 +5,25 @@ use Rattle.std.proofs.Math.Path.{sym, ap₂}
 use Rattle.std.proofs.lemmas.List.{length-replicate}
 use Rattle.matrix.specs.Bounded.{all}
 use Rattle.matrix.specs.declared.Shape.{Shape}
-use Rattle.matrix.specs.Shape.{mostSubjects, shape_of}
+use Rattle.matrix.specs.Shape.{most_subjects, shape_of}
 use Rattle.matrix.specs.Reading.{state_of}
-use Rattle.matrix.specs.Record.{validMatrix}
+use Rattle.matrix.specs.Record.{valid_matrix}
 use Rattle.laws.specs.Bounded.{all_same}
 use Rattle.cells.specs.Station.{Station}
 use Rattle.lanes.specs.declared.Matrix.{Matrix}
-use Rattle.lanes.specs.Lists.{Holds, Stored, stored-none, stored-step, Filled}
-use Rattle.lanes.specs.Lanes.{lows, paired, mark_of, place_of, upperAt, bitIn, seen_at}
+use Rattle.lanes.specs.Lists.{Holds, Stored, stored_none, stored_step, Filled}
+use Rattle.lanes.specs.Lanes.{lows, paired, mark_of, place_of, upper_at, bit_in, seen_at}
 use Rattle.tallies.specs.Blocks.{at_once, Several}
 use Rattle.pairs.specs.Pairs.{taken}
-use Rattle.columns.specs.Cells.{mostCounted, lanes_of, lastLane, matrixOf}
-use Rattle.columns.specs.Checks.{present, counts, countTest, subjectTest}
-use Rattle.columns.specs.Loops.{counts-test}
-use Rattle.plains.specs.Checks.{plainTest}
-use Rattle.plains.specs.Parts.{lanes-single}
-use Rattle.few_subjects.specs.Counts.{fewTest, tally-is, odd_is, since-is}
-use Rattle.owner_table.specs.Table.{lowerTest, lower-rooted}
-use Rattle.validity.specs.Passed.{ownerAt}
-use Rattle.validity.specs.Whole.{Scanned, owners-left}
+use Rattle.columns.specs.Cells.{most_counted, lanes_of, last_lane, matrix_of}
+use Rattle.columns.specs.Checks.{present, counts, count_test, subject_test}
+use Rattle.columns.specs.Loops.{counts_test}
+use Rattle.plains.specs.Checks.{plain_test}
+use Rattle.plains.specs.Parts.{lanes_single}
+use Rattle.few_subjects.specs.Counts.{few_test, tally_is, odd_is, since_is}
+use Rattle.owner_table.specs.Table.{lower_test, lower_rooted}
+use Rattle.validity.specs.Passed.{owner_at}
+use Rattle.validity.specs.Whole.{Scanned, owners_left}
 
 -- a shape with cells of one lane, few subjects and few plain columns, but as many columns as are counted at once
 pub record FewColumns (f : Shape) : Type 0 where
@@ -37,51 +37,51 @@ written : (room m : ℕ) (g : ℕ → ℕ) → List ℕ
 written room zero g = replicate room 0
 written room (suc m) g = set (written room m g) m (g m)
 
-written-stored : (room m : ℕ) (g : ℕ → ℕ) → m ≤ room → Stored m g (replicate room 0) (written room m g)
+written_stored : (room m : ℕ) (g : ℕ → ℕ) → m ≤ room → Stored m g (replicate room 0) (written room m g)
 unfolding written
-written-stored room zero g l = stored-none g _
-written-stored room (suc m) g l =
-    let s = written-stored room m g (omega arith) in
+written_stored room zero g l = stored_none g _
+written_stored room (suc m) g l =
+    let s = written_stored room m g (omega arith) in
     let e : m + 1 ≡ suc m = omega arith in
     subst (λ (i : ℕ). Stored i g (replicate room 0) (set (written room m g) m (g m))) e
-    (stored-step m g _ _ (g m) s (omega (arith, s.size, length-replicate {A = ℕ} room 0)) refl)
+    (stored_step m g _ _ (g m) s (omega (arith, s.size, length-replicate {A = ℕ} room 0)) refl)
 
 holds : (room m : ℕ) (g : ℕ → ℕ) → m ≤ room → Holds room m g (written room m g)
-holds room m g l = let s = written-stored room m g l in record { size = s.size ∙ length-replicate {A = ℕ} room 0; value = s.below }
+holds room m g l = let s = written_stored room m g l in record { size = s.size ∙ length-replicate {A = ℕ} room 0; value = s.below }
 
-single : (s : ℕ) → lastLane 1 s ≡ s
-unfolding lastLane
+single : (s : ℕ) → last_lane 1 s ≡ s
+unfolding last_lane
 single s = omega arith
 
 -- Such a record, whose lanes are counted over all rows.
-module _ (b : List ℕ) (f : Shape) (m : Matrix) (station : Station b f) (few : FewColumns f) (lanes : m ≡ matrixOf f) (low odd owned : List ℕ) (k : Several b m 0 m.rows low odd owned) where
+module _ (b : List ℕ) (f : Shape) (m : Matrix) (station : Station b f) (few : FewColumns f) (lanes : m ≡ matrix_of f) (low odd owned : List ℕ) (k : Several b m 0 m.rows low odd owned) where
   abbrev n : ℕ
   n = m.rows
 
-  subjects-few : n ≤ at_once
-  subjects-few = omega (arith, few.subjects, ap (λ (x : Matrix). x.rows) lanes)
+  subjects_few : n ≤ at_once
+  subjects_few = omega (arith, few.subjects, ap (λ (x : Matrix). x.rows) lanes)
 
   small : 3 * n < 256
-  small = omega (arith, subjects-few)
+  small = omega (arith, subjects_few)
 
   -- the lists that hold what is counted
   abbrev filled : (ℕ → ℕ) → List ℕ
-  filled = written mostCounted (lanes_of 1 n)
+  filled = written most_counted (lanes_of 1 n)
 
   abbrev tally : List ℕ
-  tally = filled (λ j. lows n (λ v. upperAt b m v j))
+  tally = filled (λ j. lows n (λ v. upper_at b m v j))
 
   abbrev parity : List ℕ
-  parity = filled (λ j. paired n (λ v. upperAt b m v j) % 4)
+  parity = filled (λ j. paired n (λ v. upper_at b m v j) % 4)
 
   abbrev marks : List ℕ
-  marks = filled (λ j. mark_of n (bitIn b m 0 j))
+  marks = filled (λ j. mark_of n (bit_in b m 0 j))
 
-  filled-holds : (g : ℕ → ℕ) → Holds mostCounted (lanes_of 1 n) g (filled g)
-  filled-holds g = holds mostCounted (lanes_of 1 n) g (omega (arith, lanes-single n, subjects-few))
+  filled_holds : (g : ℕ → ℕ) → Holds most_counted (lanes_of 1 n) g (filled g)
+  filled_holds g = holds most_counted (lanes_of 1 n) g (omega (arith, lanes_single n, subjects_few))
 
-  filled_at : (g : ℕ → ℕ) (s : ℕ) → s < n → get_or (filled g) (lastLane 1 s) 0 ≡ g s
-  filled_at g s l = ap (λ (i : ℕ). get_or (filled g) i 0) (single s) ∙ (filled-holds g).value s (omega (arith, lanes-single n))
+  filled_at : (g : ℕ → ℕ) (s : ℕ) → s < n → get_or (filled g) (last_lane 1 s) 0 ≡ g s
+  filled_at g s l = ap (λ (i : ℕ). get_or (filled g) i 0) (single s) ∙ (filled_holds g).value s (omega (arith, lanes_single n))
 
   scanned : Scanned b f 1 m tally parity marks
   scanned =
@@ -89,35 +89,35 @@ module _ (b : List ℕ) (f : Shape) (m : Matrix) (station : Station b f) (few : 
         station = station;
         cells = ap (λ (i : ℕ). i / 2) (sym few.width);
         lanes = lanes;
-        kept = record { sums = filled-holds _; parity = filled-holds _; owner = filled-holds _ };
+        kept = record { sums = filled_holds _; parity = filled_holds _; owner = filled_holds _ };
       }
 
   -- the counts of a subject are those of the lists
-  counts_same : (s : ℕ) → s < n → countTest 1 tally parity s ≡ fewTest low odd s
-  unfolding countTest fewTest
+  counts_same : (s : ℕ) → s < n → count_test 1 tally parity s ≡ few_test low odd s
+  unfolding count_test few_test
   counts_same s l =
-      ap₂ (λ (x y : ℕ). counts s x y) (filled_at _ s l ∙ sym (tally-is b m low odd owned k small s (omega (arith, subjects-few))))
-      (filled_at _ s l ∙ sym (odd_is b m low odd owned k small s (omega (arith, subjects-few))))
+      ap₂ (λ (x y : ℕ). counts s x y) (filled_at _ s l ∙ sym (tally_is b m low odd owned k small s (omega (arith, subjects_few))))
+      (filled_at _ s l ∙ sym (odd_is b m low odd owned k small s (omega (arith, subjects_few))))
 
   -- where all subjects exist and their counts fit, they pass their tests
-  subjects-pass : all n (present 1 b m) ≡ true → all n (fewTest low odd) ≡ true → all n (subjectTest 1 b m (seen_at b m) tally parity) ≡ true
-  subjects-pass p c = sym (counts-test 1 b m (seen_at b m) tally parity p) ∙ all_same n _ _ counts_same ∙ c
+  subjects_pass : all n (present 1 b m) ≡ true → all n (few_test low odd) ≡ true → all n (subject_test 1 b m (seen_at b m) tally parity) ≡ true
+  subjects_pass p c = sym (counts_test 1 b m (seen_at b m) tally parity p) ∙ all_same n _ _ counts_same ∙ c
 
   -- the owners are put at their subjects' places
-  owners-put : (owners table : List ℕ) → Filled 0 at_once (λ x. place_of n (taken owned 256 (x - 0))) owners table → Stored n (ownerAt 1 marks) table table
-  owners-put owners table put =
+  owners_put : (owners table : List ℕ) → Filled 0 at_once (λ x. place_of n (taken owned 256 (x - 0))) owners table → Stored n (owner_at 1 marks) table table
+  owners_put owners table put =
       record {
         size = refl;
         below =
-            λ s l. put.inside s (omega arith) (omega (arith, subjects-few)) ∙ ap (λ (i : ℕ). place_of n (taken owned 256 i)) (omega arith)
-            ∙ ap (place_of n) (since-is b m low odd owned k small s (omega (arith, subjects-few))) ∙ sym (filled_at _ s l);
+            λ s l. put.inside s (omega arith) (omega (arith, subjects_few)) ∙ ap (λ (i : ℕ). place_of n (taken owned 256 i)) (omega arith)
+            ∙ ap (place_of n) (since_is b m low odd owned k small s (omega (arith, subjects_few))) ∙ sym (filled_at _ s l);
         above = λ s l. refl;
       }
 
   -- where the plain columns pass too, and each owner has a lower number, the matrix is valid
-  pub surely : (owners table : List ℕ) → length table ≡ mostSubjects → Filled 0 at_once (λ x. place_of n (taken owned 256 (x - 0))) owners table
-      → all n (present 1 b m) ≡ true → all n (fewTest low odd) ≡ true → all f.p (λ i. plainTest 1 (seen_at b m) (n + i)) ≡ true → all n (lowerTest table) ≡ true
-      → true ≡ validMatrix (shape_of b) (state_of b)
+  pub surely : (owners table : List ℕ) → length table ≡ most_subjects → Filled 0 at_once (λ x. place_of n (taken owned 256 (x - 0))) owners table
+      → all n (present 1 b m) ≡ true → all n (few_test low odd) ≡ true → all f.p (λ i. plain_test 1 (seen_at b m) (n + i)) ≡ true → all n (lower_test table) ≡ true
+      → true ≡ valid_matrix (shape_of b) (state_of b)
   surely owners table size put p c plain lower =
-      (owners-left b f 1 m tally parity marks scanned table size table (subjects-pass p c) plain (owners-put owners table put) true
-      (sym (lower-rooted n table (omega (arith, subjects-few)) lower))).0
+      (owners_left b f 1 m tally parity marks scanned table size table (subjects_pass p c) plain (owners_put owners table put) true
+      (sym (lower_rooted n table (omega (arith, subjects_few)) lower))).0

@@ -4,59 +4,59 @@ use Rattle.std.proofs.Common.{arith, sym, ◌∙◌, ap, le-leb}
 use Rattle.std.proofs.Math.Path.{refl}
 use Rattle.std.proofs.lemmas.Bool.{lt-leb}
 use Rattle.matrix.specs.declared.Shape.{Shape}
-use Rattle.matrix.specs.Shape.{limits, headerBytes, shape_of, knownVersion, columns, in_range, sized}
+use Rattle.matrix.specs.Shape.{limits, header_bytes, shape_of, known_version, columns, in_range, sized}
 use Rattle.matrix.specs.Reading.{state_of}
-use Rattle.matrix.specs.Tests.{firstFailed}
-use Rattle.matrix.specs.Record.{validMatrix, recordRefusal}
-use Rattle.codec.specs.ShapeRight.{two-or-four}
-use Rattle.cells.specs.Station.{Station, right-shape}
+use Rattle.matrix.specs.Tests.{first_failed}
+use Rattle.matrix.specs.Record.{valid_matrix, record_refusal}
+use Rattle.codec.specs.ShapeRight.{two_or_four}
+use Rattle.cells.specs.Station.{Station, right_shape}
 use Rattle.lanes.specs.declared.Matrix.{Matrix}
-use Rattle.lanes.specs.Lanes.{rowPlace}
-use Rattle.columns.specs.Cells.{cellLanes, lanes_of, matrixOf, rows-size, lanes-more, lanes-of-width}
+use Rattle.lanes.specs.Lanes.{row_place}
+use Rattle.columns.specs.Cells.{cell_lanes, lanes_of, matrix_of, rows_size, lanes_more, lanes_of_width}
 use Rattle.columns.specs.Checks.{Celled}
 
 -- the lanes of the cells of a record's bytes
-pub lanes-celled : (b : List ℕ) (f : Shape) (m : Matrix) → Station b f → m ≡ matrixOf f → Celled (cellLanes f) b m
-lanes-celled b f m s e =
-    let h = right-shape s in
-    let size : rowPlace m m.rows ≡ length b =
-    ap (λ (x : Matrix). rowPlace x x.rows) (e ∙ ap matrixOf s.shape) ∙ sym (rows-size b) ∙ sym s.shaped.size in
+pub lanes_celled : (b : List ℕ) (f : Shape) (m : Matrix) → Station b f → m ≡ matrix_of f → Celled (cell_lanes f) b m
+lanes_celled b f m s e =
+    let h = right_shape s in
+    let size : row_place m m.rows ≡ length b =
+    ap (λ (x : Matrix). row_place x x.rows) (e ∙ ap matrix_of s.shape) ∙ sym (rows_size b) ∙ sym s.shaped.size in
     let rows : m.rows ≡ f.n = ap (λ (x : Matrix). x.rows) e in
-    let cells = (lanes-of-width f (two-or-four f h)).0 in
-    let width : m.lanes ≡ lanes_of (cellLanes f) (columns f) = ap (λ (x : Matrix). x.lanes) e in
+    let cells = (lanes_of_width f (two_or_four f h)).0 in
+    let width : m.lanes ≡ lanes_of (cell_lanes f) (columns f) = ap (λ (x : Matrix). x.lanes) e in
     record {
       laid = record { some = omega (arith, h.low); holds = omega arith };
       cells = cells;
       subjects = omega (arith, h.high);
-      inside = rw width (lanes-more cells m.rows (columns f) (omega arith));
+      inside = rw width (lanes_more cells m.rows (columns f) (omega arith));
     }
 
 -- ---- the refusals, one by one
 
 module _ (b : List ℕ) where
-  pub refused-1 : length b < headerBytes → 1 ≡ recordRefusal limits b
-  unfolding recordRefusal firstFailed
-  refused-1 h = rw (lt-leb headerBytes (length b) h) refl
+  pub refused_1 : length b < header_bytes → 1 ≡ record_refusal limits b
+  unfolding record_refusal first_failed
+  refused_1 h = rw (lt-leb header_bytes (length b) h) refl
 
-  module _ (long : headerBytes ≤ length b) where
-    pub refused-2 : knownVersion (shape_of b).version ≡ false → 2 ≡ recordRefusal limits b
-    unfolding recordRefusal firstFailed
-    refused-2 h = rw (le-leb headerBytes (length b) long, h) refl
+  module _ (long : header_bytes ≤ length b) where
+    pub refused_2 : known_version (shape_of b).version ≡ false → 2 ≡ record_refusal limits b
+    unfolding record_refusal first_failed
+    refused_2 h = rw (le-leb header_bytes (length b) long, h) refl
 
-    module _ (version : knownVersion (shape_of b).version ≡ true) where
-      pub refused-3 : in_range limits (shape_of b) ≡ false → 3 ≡ recordRefusal limits b
-      unfolding recordRefusal firstFailed
-      refused-3 h = rw (le-leb headerBytes (length b) long, version, h) refl
+    module _ (version : known_version (shape_of b).version ≡ true) where
+      pub refused_3 : in_range limits (shape_of b) ≡ false → 3 ≡ record_refusal limits b
+      unfolding record_refusal first_failed
+      refused_3 h = rw (le-leb header_bytes (length b) long, version, h) refl
 
       module _ (range : in_range limits (shape_of b) ≡ true) where
-        pub refused-4 : sized b ≡ false → 4 ≡ recordRefusal limits b
-        unfolding recordRefusal firstFailed
-        refused-4 h = rw (le-leb headerBytes (length b) long, version, range, h) refl
+        pub refused_4 : sized b ≡ false → 4 ≡ record_refusal limits b
+        unfolding record_refusal first_failed
+        refused_4 h = rw (le-leb header_bytes (length b) long, version, range, h) refl
 
-        pub refused-5 : sized b ≡ true → validMatrix (shape_of b) (state_of b) ≡ false → 5 ≡ recordRefusal limits b
-        unfolding recordRefusal firstFailed
-        refused-5 s h = rw (le-leb headerBytes (length b) long, version, range, s, h) refl
+        pub refused_5 : sized b ≡ true → valid_matrix (shape_of b) (state_of b) ≡ false → 5 ≡ record_refusal limits b
+        unfolding record_refusal first_failed
+        refused_5 s h = rw (le-leb header_bytes (length b) long, version, range, s, h) refl
 
-        pub refused_none : sized b ≡ true → validMatrix (shape_of b) (state_of b) ≡ true → 0 ≡ recordRefusal limits b
-        unfolding recordRefusal firstFailed
-        refused_none s h = rw (le-leb headerBytes (length b) long, version, range, s, h) refl
+        pub refused_none : sized b ≡ true → valid_matrix (shape_of b) (state_of b) ≡ true → 0 ≡ record_refusal limits b
+        unfolding record_refusal first_failed
+        refused_none s h = rw (le-leb header_bytes (length b) long, version, range, s, h) refl

@@ -1,8 +1,11 @@
 // Whether a record is turned down, and by which of the refusals 1 to 5.
+
+#![tactic(auto)]
+
 ghost use Rattle.std.specs.Prelude.{◌≡◌, true, length, replicate};
-ghost use Rattle.matrix.specs.Shape.{limits, mostSubjects, shape_of};
+ghost use Rattle.matrix.specs.Shape.{limits, most_subjects, shape_of};
 ghost use Rattle.matrix.specs.Reading.{state_of};
-ghost use Rattle.matrix.specs.Record.{validMatrix, recordRefusal};
+ghost use Rattle.matrix.specs.Record.{valid_matrix, record_refusal};
 ghost use Rattle.cells.specs.Station.{Station};
 ghost use Rattle.codec.specs.ShapeRight.{ShapeRight};
 ghost use Rattle.validity.specs.Few.{FewColumns};
@@ -15,9 +18,9 @@ use tallies::AT_ONCE;
 // The matrix of a record of this shape is valid, by the tests of its subjects, its plain columns and its table of owners, one after another. Its
 // cells are lanes, one each or two. The table `owners` is left with a guess of who owns each subject, of which nothing is promised.
 fn tested(b: &[u8], f: Shape, owners: &mut [u8; MOST_SUBJECTS]) -> bool
-    requires { Station b.now f × (length owners.old ≡ mostSubjects) }
-    ensures verdict { result ≡ validMatrix (shape_of b.now) (state_of b.now) }
-    ensures table { length owners.new ≡ mostSubjects }
+    requires { Station b.now f × (length owners.old ≡ most_subjects) }
+    ensures verdict { result ≡ valid_matrix (shape_of b.now) (state_of b.now) }
+    ensures table { length owners.new ≡ most_subjects }
 {
     let n = f.n;
     let q = f.width / 2;
@@ -68,9 +71,9 @@ fn few_columns(f: Shape) -> bool
 // The matrix of such a record is valid, by the same tests with its counts in a few numbers. They pass only where all subjects exist and each owner
 // has a lower number than what it owns, as in most records; where they fail, nothing is said.
 fn few_valid(b: &[u8], f: Shape, owners: &mut [u8; MOST_SUBJECTS]) -> bool
-    requires { Station b.now f × FewColumns f × (length owners.old ≡ mostSubjects) }
-    ensures verdict { result ≡ true → true ≡ validMatrix (shape_of b.now) (state_of b.now) }
-    ensures table { length owners.new ≡ mostSubjects }
+    requires { Station b.now f × FewColumns f × (length owners.old ≡ most_subjects) }
+    ensures verdict { result ≡ true → true ≡ valid_matrix (shape_of b.now) (state_of b.now) }
+    ensures table { length owners.new ≡ most_subjects }
 {
     let n = f.n;
     let m = Matrix {
@@ -97,9 +100,9 @@ fn few_valid(b: &[u8], f: Shape, owners: &mut [u8; MOST_SUBJECTS]) -> bool
 
 // The matrix of a record of this shape is valid, where that is soon seen; where it is not, nothing is said.
 fn surely_valid(b: &[u8], f: Shape, owners: &mut [u8; MOST_SUBJECTS]) -> bool
-    requires { Station b.now f × (length owners.old ≡ mostSubjects) }
-    ensures verdict { result ≡ true → true ≡ validMatrix (shape_of b.now) (state_of b.now) }
-    ensures table { length owners.new ≡ mostSubjects }
+    requires { Station b.now f × (length owners.old ≡ most_subjects) }
+    ensures verdict { result ≡ true → true ≡ valid_matrix (shape_of b.now) (state_of b.now) }
+    ensures table { length owners.new ≡ most_subjects }
 {
     if few_columns(f) {
         return few_valid(b, f, owners);
@@ -109,9 +112,9 @@ fn surely_valid(b: &[u8], f: Shape, owners: &mut [u8; MOST_SUBJECTS]) -> bool
 
 // The matrix of a record of this shape is valid.
 fn valid(b: &[u8], f: Shape, owners: &mut [u8; MOST_SUBJECTS]) -> bool
-    requires { Station b.now f × (length owners.old ≡ mostSubjects) }
-    ensures verdict { result ≡ validMatrix (shape_of b.now) (state_of b.now) }
-    ensures table { length owners.new ≡ mostSubjects }
+    requires { Station b.now f × (length owners.old ≡ most_subjects) }
+    ensures verdict { result ≡ valid_matrix (shape_of b.now) (state_of b.now) }
+    ensures table { length owners.new ≡ most_subjects }
 {
     if surely_valid(b, f, owners) {
         return true;
@@ -122,9 +125,9 @@ fn valid(b: &[u8], f: Shape, owners: &mut [u8; MOST_SUBJECTS]) -> bool
 // The refusal, 1 to 5, of a record, or 0 if it is valid. The table `owners`, of zeros at first, is left with a guess of who owns each
 // subject, for callers that follow owners: they test each guess, so nothing is promised of it.
 pub fn refusal_with(b: &[u8], owners: &mut [u8; MOST_SUBJECTS]) -> usize
-    requires { owners.old ≡ replicate mostSubjects 0 }
-    ensures refusal { result ≡ recordRefusal limits b.now }
-    ensures table { length owners.new ≡ mostSubjects }
+    requires { owners.old ≡ replicate most_subjects 0 }
+    ensures refusal { result ≡ record_refusal limits b.now }
+    ensures table { length owners.new ≡ most_subjects }
 {
     if b.len() < HEADER_BYTES {
         return 1;
@@ -144,7 +147,7 @@ pub fn refusal_with(b: &[u8], owners: &mut [u8; MOST_SUBJECTS]) -> usize
 
 // The refusal, 1 to 5, of a record, or 0 if it is valid.
 pub fn refusal(b: &[u8]) -> usize
-    ensures { result ≡ recordRefusal limits b.now }
+    ensures { result ≡ record_refusal limits b.now }
 {
     let mut owners = [0u8; MOST_SUBJECTS];
     refusal_with(b, &mut owners)

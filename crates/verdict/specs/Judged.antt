@@ -4,8 +4,8 @@ use Rattle.matrix.specs.declared.Command.{Command}
 use Rattle.matrix.specs.declared.Shape.{Shape}
 use Rattle.matrix.specs.State.{State}
 use Rattle.matrix.specs.Commands.{kind_of}
-use Rattle.matrix.specs.Tests.{kindFits, permitted, deletable}
-use Rattle.matrix.specs.Step.{refusalOf, linksWith}
+use Rattle.matrix.specs.Tests.{kind_fits, permitted, deletable}
+use Rattle.matrix.specs.Step.{refusal_of, links_with}
 use Rattle.matrix.specs.Reading.{state_of}
 use Rattle.rules.specs.Needs.{CommandIn}
 use Rattle.verdict.specs.declared.Verdict.{Verdict}
@@ -14,16 +14,16 @@ use Rattle.verdict.specs.Stages.{late}
 -- a command whose o is of the kind needed, whose initiator has the right needed, and which deletes no bit that is not set
 pub record Entitled (b : List ℕ) (f : Shape) (c : Command) : Type 0 where
   pub command : CommandIn b f c
-  pub kind : kindFits (kind_of c.act) c.o ≡ true
+  pub kind : kind_fits (kind_of c.act) c.o ≡ true
   pub right : permitted (state_of b) c c.act ≡ true
   pub set : deletable (state_of b) c c.act ≡ true
 
 -- the second stage's first failure, with the links that go with it
 pub record JudgedLate (S : State) (c : Command) (v : Verdict) : Type 0 where
   pub refusal : v.refusal ≡ late S c
-  pub links : v.links ≡ linksWith (late S c) S c
+  pub links : v.links ≡ links_with (late S c) S c
 
 -- the verdict on a command is the definition's refusal, with the links that go with it
 pub record Judged (S : State) (c : Command) (v : Verdict) : Type 0 where
-  pub refusal : v.refusal ≡ refusalOf S c
-  pub links : v.links ≡ linksWith (refusalOf S c) S c
+  pub refusal : v.refusal ≡ refusal_of S c
+  pub links : v.links ≡ links_with (refusal_of S c) S c

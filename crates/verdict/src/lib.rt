@@ -1,9 +1,11 @@
 // The verdict on a command: the tests 8 to 12, 19, 13 and 14, one after another, with the links of the owner walk.
 
+#![tactic(auto)]
+
 ghost use Rattle.std.specs.Prelude.{◌≡◌, true};
 ghost use Rattle.matrix.specs.Commands.{kind_of};
 ghost use Rattle.matrix.specs.Valid.{Valid};
-ghost use Rattle.matrix.specs.Tests.{kindFits};
+ghost use Rattle.matrix.specs.Tests.{kind_fits};
 ghost use Rattle.matrix.specs.Reading.{state_of};
 ghost use Rattle.states.specs.Needs.{Guessed};
 ghost use Rattle.rules.specs.Needs.{CommandIn};
@@ -13,7 +15,7 @@ ghost use Rattle.verdict.specs.Judged.{Entitled, Judged, JudgedLate};
 use matrix::{Act, Command, Kind, MOST_SUBJECTS, Name, Right, Shape, Walked};
 
 // The first test that is not passed, 0 if none, and the links of the walk.
-#[derive(Drop)]
+#[derive(Clone, Copy)]
 pub struct Verdict {
     pub refusal: usize,
     pub links: usize,
@@ -107,7 +109,7 @@ fn granted(b: &[u8], f: Shape, c: Command, y: Right) -> Verdict
 
 // The tests 12, 19, 13 and 14.
 fn judge_late(b: &[u8], f: Shape, owners: &[u8; MOST_SUBJECTS], c: Command) -> Verdict
-    requires { CommandIn b.now f c × (kindFits (kind_of c.act) c.o ≡ true) × Guessed b.now f owners.now }
+    requires { CommandIn b.now f c × (kind_fits (kind_of c.act) c.o ≡ true) × Guessed b.now f owners.now }
     ensures { JudgedLate (state_of b.now) c result }
 {
     if !rules::is_permitted(b, f, c) {

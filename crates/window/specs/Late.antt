@@ -7,8 +7,8 @@ use Rattle.std.proofs.Math.Path.{ap}
 use Rattle.std.proofs.Math.ListN.{length}
 use Rattle.std.proofs.lemmas.List.{drop-append-le}
 use Rattle.laws.specs.Tests.{way}
-use Rattle.history.specs.Entries.{Entry, refused, windowEntries, late, refusedBy, refusedOfLate}
-use Rattle.history.specs.Window.{noEntry}
+use Rattle.history.specs.Entries.{Entry, refused, window_entries, late, refused_by, refused_of_late}
+use Rattle.history.specs.Window.{no_entry}
 
 -- 1 where the entry is a refusal of the number's command
 abbrev pub hits : ℕ → Entry → ℕ
@@ -18,33 +18,33 @@ hits_few : (t : Bool) → cond t 1 0 ≤ 1
 hits_few true = omega arith
 hits_few false = omega arith
 
-refusedBy-append : (number : ℕ) (xs ys : List Entry) → refusedBy number (xs ++ ys) ≡ refusedBy number xs + refusedBy number ys
-unfolding refusedBy
-refusedBy-append number [] ys = omega arith
-refusedBy-append number (x ∷ xs) ys =
-    let e : refusedBy number (xs ++ ys) ≡ refusedBy number xs + refusedBy number ys = refusedBy-append number xs ys in
+refused_by_append : (number : ℕ) (xs ys : List Entry) → refused_by number (xs ++ ys) ≡ refused_by number xs + refused_by number ys
+unfolding refused_by
+refused_by_append number [] ys = omega arith
+refused_by_append number (x ∷ xs) ys =
+    let e : refused_by number (xs ++ ys) ≡ refused_by number xs + refused_by number ys = refused_by_append number xs ys in
     omega arith
 
-refusedBy-one : (number : ℕ) (e : Entry) → refusedBy number (e ∷ []) ≡ hits number e
-unfolding refusedBy
-refusedBy-one number e = omega arith
+refused_by_one : (number : ℕ) (e : Entry) → refused_by number (e ∷ []) ≡ hits number e
+unfolding refused_by
+refused_by_one number e = omega arith
 
-refusedBy-length : (number : ℕ) (h : List Entry) → refusedBy number h ≤ length h
-unfolding refusedBy
-refusedBy-length number [] = omega arith
-refusedBy-length number (e ∷ h) =
-    let l : refusedBy number h ≤ length h = refusedBy-length number h in
+refused_by_length : (number : ℕ) (h : List Entry) → refused_by number h ≤ length h
+unfolding refused_by
+refused_by_length number [] = omega arith
+refused_by_length number (e ∷ h) =
+    let l : refused_by number h ≤ length h = refused_by_length number h in
     omega (arith, hits_few (refused e && eqb e.initiator number))
 
 -- a count is at most 256
-pub late-few : (number : ℕ) (h : List Entry) → refusedOfLate number h ≤ windowEntries
-late-few number h =
-    let l : length (late h) ≡ length h - (length h - windowEntries) = length-drop (length h - windowEntries) h in
-    omega (arith, refusedBy-length number (late h))
+pub late_few : (number : ℕ) (h : List Entry) → refused_of_late number h ≤ window_entries
+late_few number h =
+    let l : length (late h) ≡ length h - (length h - window_entries) = length-drop (length h - window_entries) h in
+    omega (arith, refused_by_length number (late h))
 
 -- the entry that leaves when one more comes, if there are 256
 abbrev pub leaving : List Entry → Entry
-leaving h = cond (leb windowEntries (length h)) (get_or h (length h - windowEntries) noEntry) noEntry
+leaving h = cond (leb window_entries (length h)) (get_or h (length h - window_entries) no_entry) no_entry
 
 -- a history with one entry more
 pub length_more : (h : List Entry) (e : Entry) → length (h ++ (e ∷ [])) ≡ length h + 1
@@ -52,32 +52,32 @@ length_more h e = length-append h (e ∷ [])
 
 module _ (number : ℕ) (h : List Entry) (e : Entry) where
   -- after the entries that are left out of both
-  counted : (k : ℕ) → k ≤ length h → refusedBy number (drop k (h ++ (e ∷ []))) ≡ refusedBy number (drop k h) + hits number e
+  counted : (k : ℕ) → k ≤ length h → refused_by number (drop k (h ++ (e ∷ []))) ≡ refused_by number (drop k h) + hits number e
   counted k l =
-      ap (refusedBy number) (drop-append-le k h (e ∷ []) l) ∙ refusedBy-append number (drop k h) (e ∷ [])
-      ∙ ap (λ (x : ℕ). refusedBy number (drop k h) + x) (refusedBy-one number e)
+      ap (refused_by number) (drop-append-le k h (e ∷ []) l) ∙ refused_by_append number (drop k h) (e ∷ [])
+      ∙ ap (λ (x : ℕ). refused_by number (drop k h) + x) (refused_by_one number e)
 
-  full : windowEntries ≤ length h
-      → refusedOfLate number (h ++ (e ∷ [])) + hits number (get_or h (length h - windowEntries) noEntry) ≡ refusedOfLate number h + hits number e
-  unfolding refusedBy
+  full : window_entries ≤ length h
+      → refused_of_late number (h ++ (e ∷ [])) + hits number (get_or h (length h - window_entries) no_entry) ≡ refused_of_late number h + hits number e
+  unfolding refused_by
   full l =
-      let k : ℕ = length h - windowEntries in
-      let cut : length (h ++ (e ∷ [])) - windowEntries ≡ suc k = omega (arith, length_more h e) in
-      let new : refusedOfLate number (h ++ (e ∷ [])) ≡ refusedBy number (drop (suc k) h) + hits number e
-      = ap (λ (j : ℕ). refusedBy number (drop j (h ++ (e ∷ [])))) cut ∙ counted (suc k) (omega arith) in
-      let old : refusedOfLate number h ≡ hits number (get_or h k noEntry) + refusedBy number (drop (suc k) h)
-      = ap (refusedBy number) (drop-cons h k noEntry (omega arith)) in
+      let k : ℕ = length h - window_entries in
+      let cut : length (h ++ (e ∷ [])) - window_entries ≡ suc k = omega (arith, length_more h e) in
+      let new : refused_of_late number (h ++ (e ∷ [])) ≡ refused_by number (drop (suc k) h) + hits number e
+      = ap (λ (j : ℕ). refused_by number (drop j (h ++ (e ∷ [])))) cut ∙ counted (suc k) (omega arith) in
+      let old : refused_of_late number h ≡ hits number (get_or h k no_entry) + refused_by number (drop (suc k) h)
+      = ap (refused_by number) (drop-cons h k no_entry (omega arith)) in
       omega arith
 
-  few : length h < windowEntries → refusedOfLate number (h ++ (e ∷ [])) ≡ refusedOfLate number h + hits number e
+  few : length h < window_entries → refused_of_late number (h ++ (e ∷ [])) ≡ refused_of_late number h + hits number e
   few l =
-      let cut : length (h ++ (e ∷ [])) - windowEntries ≡ 0 = omega (arith, length_more h e) in
-      let none : length h - windowEntries ≡ 0 = omega arith in
-      ap (λ (j : ℕ). refusedBy number (drop j (h ++ (e ∷ [])))) cut ∙ counted 0 (omega arith)
-      ∙ ap (λ (j : ℕ). refusedBy number (drop j h) + hits number e) (sym none)
+      let cut : length (h ++ (e ∷ [])) - window_entries ≡ 0 = omega (arith, length_more h e) in
+      let none : length h - window_entries ≡ 0 = omega arith in
+      ap (λ (j : ℕ). refused_by number (drop j (h ++ (e ∷ [])))) cut ∙ counted 0 (omega arith)
+      ∙ ap (λ (j : ℕ). refused_by number (drop j h) + hits number e) (sym none)
 
   -- one entry more: what is counted, with the entry that leaves, is what was counted, with the new one
-  pub late-more : refusedOfLate number (h ++ (e ∷ [])) + hits number (leaving h) ≡ refusedOfLate number h + hits number e
-  late-more =
-      ⊎_elim (λ t. rw t (full (leb-true windowEntries (length h) t)))
-      (λ t. rw t (let z = few (leb-false windowEntries (length h) t) in omega arith)) (way (leb windowEntries (length h)))
+  pub late_more : refused_of_late number (h ++ (e ∷ [])) + hits number (leaving h) ≡ refused_of_late number h + hits number e
+  late_more =
+      ⊎_elim (λ t. rw t (full (leb-true window_entries (length h) t)))
+      (λ t. rw t (let z = few (leb-false window_entries (length h) t) in omega arith)) (way (leb window_entries (length h)))

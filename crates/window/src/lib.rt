@@ -1,12 +1,14 @@
 // The window of late refusals, which counts for each of 64 subject numbers what was refused of the commands of late. Bytes of any length and
 // content are answered.
 
+#![tactic(auto)]
+
 ghost use Rattle.std.specs.Prelude.{◌≡◌, ◌≤◌, ◌<◌, length};
-ghost use Rattle.matrix.specs.Bytes.{number_at, setNumber};
-ghost use Rattle.history.specs.Entries.{windowNumbers, windowRefusal};
-ghost use Rattle.history.specs.Window.{countPlace, windowBytes};
+ghost use Rattle.matrix.specs.Bytes.{number_at, set_number};
+ghost use Rattle.history.specs.Entries.{window_numbers, window_refusal};
+ghost use Rattle.history.specs.Window.{count_place, window_bytes};
 ghost use Rattle.history.specs.Calls.{Emptied, Put, Counted};
-ghost use Rattle.window.specs.Changed.{refusedOne, lowered, entered};
+ghost use Rattle.window.specs.Changed.{refused_one, lowered, entered};
 
 use history::{COUNTS_PLACE, NEXT_PLACE, WINDOW_BYTES, WINDOW_ENTRIES, WINDOW_NUMBERS};
 use lists::wide;
@@ -14,7 +16,7 @@ use matrix::Numbers;
 
 // 17 where the number has no count, else 0.
 fn refusal_of(number: u64) -> u64
-    ensures { result ≡ windowRefusal number }
+    ensures { result ≡ window_refusal number }
 {
     if number < WINDOW_NUMBERS as u64 {
         0
@@ -25,15 +27,15 @@ fn refusal_of(number: u64) -> u64
 
 // 1 for the outcome of a refused command, 0 for that of an accepted one.
 fn refused_one(outcome: u64) -> usize
-    ensures { result ≡ refusedOne outcome }
+    ensures { result ≡ refused_one outcome }
 {
     if outcome == 0 { 0 } else { 1 }
 }
 
 // The count of a number.
 fn count_at(w: &[u8], number: usize) -> usize
-    requires { (length w.now ≡ windowBytes) × (number < windowNumbers) }
-    ensures { (result ≡ number_at w.now (countPlace number) 2) × (result < 65536) }
+    requires { (length w.now ≡ window_bytes) × (number < window_numbers) }
+    ensures { (result ≡ number_at w.now (count_place number) 2) × (result < 65536) }
 {
     let at = COUNTS_PLACE + 2 * number;
     let high = wide(w[at]);
@@ -43,8 +45,8 @@ fn count_at(w: &[u8], number: usize) -> usize
 
 // The count of a number becomes v.
 fn set_count(w: &mut [u8], number: usize, v: usize)
-    requires { (length w.old ≡ windowBytes) × (number < windowNumbers) }
-    ensures { w.new ≡ setNumber w.old (countPlace number) 2 v }
+    requires { (length w.old ≡ window_bytes) × (number < window_numbers) }
+    ensures { w.new ≡ set_number w.old (count_place number) 2 v }
 {
     let at = COUNTS_PLACE + 2 * number;
     w[at] = (v / 256 % 256) as u8;
@@ -55,7 +57,7 @@ fn set_count(w: &mut [u8], number: usize, v: usize)
 // one lower. Where it was accepted, so that the byte is 0, the count of the last number is stored as it was: the way through the code does not
 // depend on the outcome of what leaves. A byte above 64 is no entry's.
 fn lower(w: &mut [u8], leaving: usize)
-    requires { (length w.old ≡ windowBytes) × (leaving < 256) }
+    requires { (length w.old ≡ window_bytes) × (leaving < 256) }
     ensures { w.new ≡ lowered w.old leaving }
 {
     if WINDOW_NUMBERS < leaving {
@@ -70,7 +72,7 @@ fn lower(w: &mut [u8], leaving: usize)
 
 // An entry takes the place of the one that has to leave, and its initiator's count is higher by one where it was refused.
 fn enter(w: &mut [u8], number: usize, refused: usize)
-    requires { (length w.old ≡ windowBytes) × (number < windowNumbers) × (refused ≤ 1) }
+    requires { (length w.old ≡ window_bytes) × (number < window_numbers) × (refused ≤ 1) }
     ensures { w.new ≡ entered w.old number refused }
 {
     let place = wide(w[NEXT_PLACE]);

@@ -4,97 +4,97 @@ use Rattle.std.proofs.Common.{not-suc-le-zero, arith, sym, ◌∙◌, ap, ap₂}
 use Rattle.std.proofs.lemmas.List.Edits.{sets}
 use Rattle.std.proofs.Math.Seq.{length-sets}
 use Rattle.matrix.specs.declared.Fields.{Fields}
-use Rattle.matrix.specs.CommandList.{recordBytes, lengthByte, commandPlace, fields_at, commandsFrom}
-use Rattle.lists.specs.Forms.{fields-of}
-use Rattle.writing.specs.Put.{putCommand, put_all}
-use Rattle.writing.specs.Stores.{getD-sets-other, getD-sets-same, six-stores}
+use Rattle.matrix.specs.CommandList.{record_bytes, length_byte, command_place, fields_at, commands_from}
+use Rattle.lists.specs.Forms.{fields_of}
+use Rattle.writing.specs.Put.{put_command, put_all}
+use Rattle.writing.specs.Stores.{get_or_sets_other, get_or_sets_same, six_stores}
 
 -- the six bytes of a command
-abbrev pub commandBytes : Fields → List ℕ
-commandBytes c = lengthByte ∷ c.code ∷ c.i ∷ c.s ∷ c.o ∷ c.k ∷ []
+abbrev pub command_bytes : Fields → List ℕ
+command_bytes c = length_byte ∷ c.code ∷ c.i ∷ c.s ∷ c.o ∷ c.k ∷ []
 
 -- ---- one command
 
-pub putCommand-sets : (out : List ℕ) (j : ℕ) (c : Fields) → putCommand out j c ≡ sets out (commandPlace j) (commandBytes c)
-unfolding putCommand
-putCommand-sets out j c = six-stores out (commandPlace j) lengthByte c.code c.i c.s c.o c.k
+pub put_command_sets : (out : List ℕ) (j : ℕ) (c : Fields) → put_command out j c ≡ sets out (command_place j) (command_bytes c)
+unfolding put_command
+put_command_sets out j c = six_stores out (command_place j) length_byte c.code c.i c.s c.o c.k
 
-pub length-putCommand : (out : List ℕ) (j : ℕ) (c : Fields) → length (putCommand out j c) ≡ length out
-length-putCommand out j c = ap length (putCommand-sets out j c) ∙ length-sets out (commandPlace j) (commandBytes c)
+pub length_put_command : (out : List ℕ) (j : ℕ) (c : Fields) → length (put_command out j c) ≡ length out
+length_put_command out j c = ap length (put_command_sets out j c) ∙ length-sets out (command_place j) (command_bytes c)
 
-pub putCommand-other : (out : List ℕ) (j : ℕ) (c : Fields) (i : ℕ) → (commandPlace j ≤ i → i < commandPlace j + recordBytes → ⊥)
-    → get_or (putCommand out j c) i 0 ≡ get_or out i 0
-putCommand-other out j c i h =
-    ap (λ (l : List ℕ). get_or l i 0) (putCommand-sets out j c) ∙ getD-sets-other (commandBytes c) out (commandPlace j) i h
+pub put_command_other : (out : List ℕ) (j : ℕ) (c : Fields) (i : ℕ) → (command_place j ≤ i → i < command_place j + record_bytes → ⊥)
+    → get_or (put_command out j c) i 0 ≡ get_or out i 0
+put_command_other out j c i h =
+    ap (λ (l : List ℕ). get_or l i 0) (put_command_sets out j c) ∙ get_or_sets_other (command_bytes c) out (command_place j) i h
 
-pub putCommand-byte : (out : List ℕ) (j : ℕ) (c : Fields) (k : ℕ) → commandPlace j + recordBytes ≤ length out → k < recordBytes
-    → get_or (putCommand out j c) (commandPlace j + k) 0 ≡ get_or (commandBytes c) k 0
-putCommand-byte out j c k h b =
-    ap (λ (l : List ℕ). get_or l (commandPlace j + k) 0) (putCommand-sets out j c) ∙ getD-sets-same (commandBytes c) out (commandPlace j) k h b
+pub put_command_byte : (out : List ℕ) (j : ℕ) (c : Fields) (k : ℕ) → command_place j + record_bytes ≤ length out → k < record_bytes
+    → get_or (put_command out j c) (command_place j + k) 0 ≡ get_or (command_bytes c) k 0
+put_command_byte out j c k h b =
+    ap (λ (l : List ℕ). get_or l (command_place j + k) 0) (put_command_sets out j c) ∙ get_or_sets_same (command_bytes c) out (command_place j) k h b
 
 -- ---- one after another
 
-pub length-putAll : (out : List ℕ) (j : ℕ) (cs : List Fields) → length (put_all out j cs) ≡ length out
+pub length_put_all : (out : List ℕ) (j : ℕ) (cs : List Fields) → length (put_all out j cs) ≡ length out
 unfolding put_all
-length-putAll out j [] = refl
-length-putAll out j (c ∷ cs) = length-putAll (putCommand out j c) (suc j) cs ∙ length-putCommand out j c
+length_put_all out j [] = refl
+length_put_all out j (c ∷ cs) = length_put_all (put_command out j c) (suc j) cs ∙ length_put_command out j c
 
-pub putAll-other : (out : List ℕ) (j : ℕ) (cs : List Fields) (i : ℕ) → (commandPlace j ≤ i → i < commandPlace (j + length cs) → ⊥)
+pub put_all_other : (out : List ℕ) (j : ℕ) (cs : List Fields) (i : ℕ) → (command_place j ≤ i → i < command_place (j + length cs) → ⊥)
     → get_or (put_all out j cs) i 0 ≡ get_or out i 0
 unfolding put_all
-putAll-other out j [] i h = refl
-putAll-other out j (c ∷ cs) i h =
-    putAll-other (putCommand out j c) (suc j) cs i (λ p q. h (omega arith) (omega arith))
-    ∙ putCommand-other out j c i (λ p q. h (omega arith) (omega arith))
+put_all_other out j [] i h = refl
+put_all_other out j (c ∷ cs) i h =
+    put_all_other (put_command out j c) (suc j) cs i (λ p q. h (omega arith) (omega arith))
+    ∙ put_command_other out j c i (λ p q. h (omega arith) (omega arith))
 
 -- the bytes of the command at a place of the list
-pub putAll-first : (out : List ℕ) (j : ℕ) (c : Fields) (cs : List Fields) (k : ℕ) → commandPlace j + recordBytes ≤ length out → k < recordBytes
-    → get_or (put_all out j (c ∷ cs)) (commandPlace j + k) 0 ≡ get_or (commandBytes c) k 0
+pub put_all_first : (out : List ℕ) (j : ℕ) (c : Fields) (cs : List Fields) (k : ℕ) → command_place j + record_bytes ≤ length out → k < record_bytes
+    → get_or (put_all out j (c ∷ cs)) (command_place j + k) 0 ≡ get_or (command_bytes c) k 0
 unfolding put_all
-putAll-first out j c cs k h b =
-    putAll-other (putCommand out j c) (suc j) cs (commandPlace j + k) (λ p q. omega arith) ∙ putCommand-byte out j c k h b
+put_all_first out j c cs k h b =
+    put_all_other (put_command out j c) (suc j) cs (command_place j + k) (λ p q. omega arith) ∙ put_command_byte out j c k h b
 
-pub putAll-lengths : (out : List ℕ) (j : ℕ) (cs : List Fields) (k : ℕ) → commandPlace (j + length cs) ≤ length out → k < length cs
-    → get_or (put_all out j cs) (commandPlace (j + k)) 0 ≡ lengthByte
+pub put_all_lengths : (out : List ℕ) (j : ℕ) (cs : List Fields) (k : ℕ) → command_place (j + length cs) ≤ length out → k < length cs
+    → get_or (put_all out j cs) (command_place (j + k)) 0 ≡ length_byte
 unfolding put_all
-putAll-lengths out j [] k h b = absurd (not-suc-le-zero b)
-putAll-lengths out j (c ∷ cs) zero h b =
-    let e : commandPlace (j + zero) ≡ commandPlace j + 0 = omega arith in
-    ap (λ (i : ℕ). get_or (put_all out j (c ∷ cs)) i 0) e ∙ putAll-first out j c cs 0 (omega arith) (omega arith)
-putAll-lengths out j (c ∷ cs) (suc k) h b =
-    let e : commandPlace (j + suc k) ≡ commandPlace (suc j + k) = omega arith in
-    let q : length (putCommand out j c) ≡ length out = length-putCommand out j c in
-    ap (λ (i : ℕ). get_or (put_all out j (c ∷ cs)) i 0) e ∙ putAll-lengths (putCommand out j c) (suc j) cs k (omega arith) (omega arith)
+put_all_lengths out j [] k h b = absurd (not-suc-le-zero b)
+put_all_lengths out j (c ∷ cs) zero h b =
+    let e : command_place (j + zero) ≡ command_place j + 0 = omega arith in
+    ap (λ (i : ℕ). get_or (put_all out j (c ∷ cs)) i 0) e ∙ put_all_first out j c cs 0 (omega arith) (omega arith)
+put_all_lengths out j (c ∷ cs) (suc k) h b =
+    let e : command_place (j + suc k) ≡ command_place (suc j + k) = omega arith in
+    let q : length (put_command out j c) ≡ length out = length_put_command out j c in
+    ap (λ (i : ℕ). get_or (put_all out j (c ∷ cs)) i 0) e ∙ put_all_lengths (put_command out j c) (suc j) cs k (omega arith) (omega arith)
 
-pub putAll-commands : (out : List ℕ) (j : ℕ) (cs : List Fields) → commandPlace (j + length cs) ≤ length out
-    → commandsFrom (put_all out j cs) j (length cs) ≡ cs
-unfolding commandsFrom put_all
-putAll-commands out j [] h = refl
-putAll-commands out j (c ∷ cs) h =
-    let e : length (putCommand out j c) ≡ length out = length-putCommand out j c in
-    ap₂ (λ (d : Fields) (ds : List Fields). d ∷ ds) (sym first) (putAll-commands (putCommand out j c) (suc j) cs (omega arith))
+pub put_all_commands : (out : List ℕ) (j : ℕ) (cs : List Fields) → command_place (j + length cs) ≤ length out
+    → commands_from (put_all out j cs) j (length cs) ≡ cs
+unfolding commands_from put_all
+put_all_commands out j [] h = refl
+put_all_commands out j (c ∷ cs) h =
+    let e : length (put_command out j c) ≡ length out = length_put_command out j c in
+    ap₂ (λ (d : Fields) (ds : List Fields). d ∷ ds) (sym first) (put_all_commands (put_command out j c) (suc j) cs (omega arith))
   where
     whole : List ℕ
     whole = put_all out j (c ∷ cs)
 
-    byte : (k : ℕ) → k < recordBytes → get_or (commandBytes c) k 0 ≡ get_or whole (commandPlace j + k) 0
-    byte k b = sym (putAll-first out j c cs k (omega arith) b)
+    byte : (k : ℕ) → k < record_bytes → get_or (command_bytes c) k 0 ≡ get_or whole (command_place j + k) 0
+    byte k b = sym (put_all_first out j c cs k (omega arith) b)
 
-    first : c ≡ fields_at whole (commandPlace j)
+    first : c ≡ fields_at whole (command_place j)
     first =
-        fields-of whole (commandPlace j) (byte 1 (omega arith)) (byte 2 (omega arith)) (byte 3 (omega arith)) (byte 4 (omega arith)) (byte 5 (omega arith))
+        fields_of whole (command_place j) (byte 1 (omega arith)) (byte 2 (omega arith)) (byte 3 (omega arith)) (byte 4 (omega arith)) (byte 5 (omega arith))
 
 -- commands of lists that agree at their places
-pub commands-agree : (a b : List ℕ) (j m : ℕ) → ((i : ℕ) → commandPlace j ≤ i → i < commandPlace (j + m) → get_or a i 0 ≡ get_or b i 0)
-    → commandsFrom a j m ≡ commandsFrom b j m
-unfolding commandsFrom
-commands-agree a b j zero h = refl
-commands-agree a b j (suc m) h =
-    ap₂ (λ (d : Fields) (ds : List Fields). d ∷ ds) first (commands-agree a b (suc j) m (λ i p q. h i (omega arith) (omega arith)))
+pub commands_agree : (a b : List ℕ) (j m : ℕ) → ((i : ℕ) → command_place j ≤ i → i < command_place (j + m) → get_or a i 0 ≡ get_or b i 0)
+    → commands_from a j m ≡ commands_from b j m
+unfolding commands_from
+commands_agree a b j zero h = refl
+commands_agree a b j (suc m) h =
+    ap₂ (λ (d : Fields) (ds : List Fields). d ∷ ds) first (commands_agree a b (suc j) m (λ i p q. h i (omega arith) (omega arith)))
   where
-    byte : (k : ℕ) → k < recordBytes → get_or a (commandPlace j + k) 0 ≡ get_or b (commandPlace j + k) 0
-    byte k l = h (commandPlace j + k) (omega arith) (omega arith)
+    byte : (k : ℕ) → k < record_bytes → get_or a (command_place j + k) 0 ≡ get_or b (command_place j + k) 0
+    byte k l = h (command_place j + k) (omega arith) (omega arith)
 
-    first : fields_at a (commandPlace j) ≡ fields_at b (commandPlace j)
+    first : fields_at a (command_place j) ≡ fields_at b (command_place j)
     first =
-        fields-of b (commandPlace j) (byte 1 (omega arith)) (byte 2 (omega arith)) (byte 3 (omega arith)) (byte 4 (omega arith)) (byte 5 (omega arith))
+        fields_of b (command_place j) (byte 1 (omega arith)) (byte 2 (omega arith)) (byte 3 (omega arith)) (byte 4 (omega arith)) (byte 5 (omega arith))

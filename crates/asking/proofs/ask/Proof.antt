@@ -2,7 +2,7 @@
 use native.Mathlib.Omega.{arith}
 use mathlib.Core.Path.{sym}
 use lib.Seq.{length-take-le}
-use Rattle.asking.specs.Input.{too_long, too_short, asked-so}
+use Rattle.asking.specs.Input.{too_long, too_short, asked_so}
 use borrow.Author.Rules.{rules}
 use Rattle.asking.proofs.ask.Statement.{statement}
 use Rattle.asking.proofs.ask.Tie as tie
@@ -45,7 +45,7 @@ same_length c = search rules
 
 returns-3 : tie.Need-returns-3
 returns-3 c =
-    asked-so _ _ c.before.before.before.before.before.before.before.before.before.if2.false c.before.before.before.before.before.before.before.before.before.before.if1.false c.before.before.before.before.before.before.before.before.mask.ensures c.before.before.before.before.before.before.before.byte.ensures c.before.before.before.before.before.before.byte2.ensures c.before.before.before.before.before.byte3.ensures c.before.before.safety.ensures
+    asked_so _ _ c.before.before.before.before.before.before.before.before.before.if2.false c.before.before.before.before.before.before.before.before.before.before.if1.false c.before.before.before.before.before.before.before.before.mask.ensures c.before.before.before.before.before.before.before.byte.ensures c.before.before.before.before.before.before.byte2.ensures c.before.before.before.before.before.byte3.ensures c.before.before.safety.ensures
 
 pub ask-spec : {M : Type 1} → statement M
 ask-spec =

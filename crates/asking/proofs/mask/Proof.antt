@@ -4,7 +4,7 @@ use native.Mathlib.Omega.{arith}
 use mathlib.Core.Path.{◌∙◌, ap₂}
 use Rattle.matrix.specs.Shaped.{Octets}
 use Rattle.lists.specs.Forms.{four_below}
-use Rattle.asking.specs.Numbers.{eight-bytes}
+use Rattle.asking.specs.Numbers.{eight_bytes}
 use borrow.Author.Rules.{rules}
 use Rattle.asking.proofs.mask.Statement.{statement}
 use Rattle.asking.proofs.mask.Tie as tie
@@ -32,7 +32,7 @@ add-result c = omega (arith, small c)
 
 returns : tie.Need-returns
 returns c =
-    ap₂ (λ (h l : ℕ). h * 4294967296 + l) c.before.number.ensures c.number2.ensures ∙ eight-bytes c.before.before.before.args.l.now c.before.before.before.args.at
+    ap₂ (λ (h l : ℕ). h * 4294967296 + l) c.before.number.ensures c.number2.ensures ∙ eight_bytes c.before.before.before.args.l.now c.before.before.before.args.at
 
 pub mask-spec : {M : Type 1} → statement M
 mask-spec =

@@ -5,7 +5,7 @@ use mathlib.Core.Path.{◌≡◌, sym, subst}
 use mathlib.Core.List.{List}
 use Rattle.matrix.specs.declared.Shape.{Shape}
 use Rattle.cells.specs.Station.{Station}
-use Rattle.cells.specs.Places.{not-two}
+use Rattle.cells.specs.Places.{not_two}
 use Rattle.bits.proofs.clear_row.Statement.{statement}
 use Rattle.bits.proofs.clear_row.Tie as tie
 
@@ -20,7 +20,7 @@ clear-cells-requires : tie.Need-clear-cells-requires
 clear-cells-requires c κs = row_in c.in-width.ensures c.before.before.before.before.before.requires
 
 in-width-requires-2 : tie.Need-in-width-requires-2
-in-width-requires-2 c κs = sym (not-two c.before.before.before.before.requires.0 c.before.if1.false)
+in-width-requires-2 c κs = sym (not_two c.before.before.before.before.requires.0 c.before.if1.false)
 
 clear-cells-requires-2 : tie.Need-clear-cells-requires-2
 clear-cells-requires-2 c κs = row_in c.in-width2.ensures c.before.before.before.before.before.requires

@@ -1,5 +1,5 @@
 -- `bunvespo::bunvespo_command` meets its contract.
-use Rattle.matrix.specs.Numbers.{commandNumbers}
+use Rattle.matrix.specs.Numbers.{command_numbers}
 use Rattle.bunvespo.specs.Laws.{numbers_of}
 use borrow.Author.Rules.{rules}
 use Rattle.bunvespo.proofs.bunvespo_command.Statement.{statement}
@@ -18,13 +18,13 @@ same_length : tie.Need-same-length
 same_length c = search rules
 
 returns : tie.Need-returns
-returns c = (numbers_of commandNumbers c.before.before.before.before.before.command.ensures.0 c.before.answer.given.1, c.before.before.before.before.before.command.ensures.1.0)
+returns c = (numbers_of command_numbers c.before.before.before.before.before.command.ensures.0 c.before.answer.given.1, c.before.before.before.before.before.command.ensures.1.0)
 
 same-length-2 : tie.Need-same-length-2
 same-length-2 c = search rules
 
 returns-2 : tie.Need-returns-2
-returns-2 c = (numbers_of commandNumbers c.before.before.before.before.before.command.ensures.0 c.before.answer2.given.1, c.before.before.before.before.before.command.ensures.1.0)
+returns-2 c = (numbers_of command_numbers c.before.before.before.before.before.command.ensures.0 c.before.answer2.given.1, c.before.before.before.before.before.command.ensures.1.0)
 
 pub bunvespo-command-spec : {M : Type 1} → statement M
 bunvespo-command-spec =

@@ -4,14 +4,14 @@ use Prim.Native.Nat.{ℕ, ◌+◌, ◌≤◌}
 use native.Mathlib.Omega.{arith}
 use mathlib.Core.Path.{◌≡◌, sym, ◌∙◌, ap}
 use lib.ListN.{length, length-set}
-use Rattle.matrix.specs.Bytes.{setNumber}
-use Rattle.cell_words.specs.Words.{not-two, two-turned, four-turned}
+use Rattle.matrix.specs.Bytes.{set_number}
+use Rattle.cell_words.specs.Words.{not_two, two_turned, four_turned}
 use Rattle.cell_words.proofs.put_word.Statement.{statement}
 use Rattle.cell_words.proofs.put_word.Tie as tie
 
 -- four bytes are there where the width is not two
 four : (c : tie.Else1) → c.before.args.width ≡ 4
-four c = not-two c.before.requires.0 c.if1.false
+four c = not_two c.before.requires.0 c.if1.false
 
 room : (c : tie.Else1) → c.before.args.at + 4 ≤ length c.before.args.out.now
 room c = omega (arith, four c, c.before.requires.1)
@@ -35,7 +35,7 @@ same_length : tie.Need-same-length
 same_length c = search rules
 
 returns : tie.Need-returns
-returns c = let a = c.before.args in λ m t. two-turned a.out.now a.at a.v m t ∙ ap (λ (w : ℕ). setNumber a.out.now a.at w m) (sym c.if1.true)
+returns c = let a = c.before.args in λ m t. two_turned a.out.now a.at a.v m t ∙ ap (λ (w : ℕ). set_number a.out.now a.at w m) (sym c.if1.true)
 
 cast-out-3 : tie.Need-overflow-cast-out-3
 cast-out-3 c = search rules
@@ -74,7 +74,7 @@ same-length-2 : tie.Need-same-length-2
 same-length-2 c = search rules
 
 returns-2 : tie.Need-returns-2
-returns-2 c = let a = c.before.args in λ m t. four-turned a.out.now a.at a.v m t ∙ ap (λ (w : ℕ). setNumber a.out.now a.at w m) (sym (four c))
+returns-2 c = let a = c.before.args in λ m t. four_turned a.out.now a.at a.v m t ∙ ap (λ (w : ℕ). set_number a.out.now a.at w m) (sym (four c))
 
 pub put-word-spec : {M : Type 1} → statement M
 put-word-spec =

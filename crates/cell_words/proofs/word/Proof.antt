@@ -6,7 +6,7 @@ use mathlib.Core.Path.{◌≡◌, sym, subst}
 use lib.ListN.{length, get_or}
 use Rattle.matrix.specs.Bytes.{number_at}
 use Rattle.matrix.specs.Shaped.{Octets}
-use Rattle.cell_words.specs.Words.{Turned, two-least, not-two, turned_two, turned-four}
+use Rattle.cell_words.specs.Words.{Turned, two_least, not_two, turned_two, turned_four}
 use Rattle.cell_words.proofs.word.Statement.{statement}
 use Rattle.cell_words.proofs.word.Tie as tie
 
@@ -18,10 +18,10 @@ byte : (c : tie.After-shared-slice-known) (j : ℕ) → get_or c.before.args.b.n
 byte c j = (octets c).octet j
 
 two : (c : tie.After-shared-slice-known) → c.before.args.at + 2 ≤ length c.before.args.b.now
-two c = omega (arith, two-least c.before.requires.0, c.before.requires.1)
+two c = omega (arith, two_least c.before.requires.0, c.before.requires.1)
 
 four : (c : tie.Else1) → c.before.before.before.args.width ≡ 4
-four c = not-two c.before.before.before.requires.0 c.if1.false
+four c = not_two c.before.before.before.requires.0 c.if1.false
 
 shared-slice-read-two : tie.Need-shared-slice-read-two
 shared-slice-read-two c = omega (arith, two c)
@@ -96,7 +96,7 @@ returns-2 c =
     let k = e.before.before in
     let l = k.before.args.b.now in
     let at = k.before.args.at in
-    subst (λ (w : ℕ). Turned (get_or l at 0 + get_or l (at + 1) 0 * 256 + get_or l (at + 2) 0 * 65536 + get_or l (at + 3) 0 * 16777216) (number_at l at w)) (sym (four e)) (turned-four l (octets k) at)
+    subst (λ (w : ℕ). Turned (get_or l at 0 + get_or l (at + 1) 0 * 256 + get_or l (at + 2) 0 * 65536 + get_or l (at + 3) 0 * 16777216) (number_at l at w)) (sym (four e)) (turned_four l (octets k) at)
 
 pub word-spec : {M : Type 1} → statement M
 word-spec =

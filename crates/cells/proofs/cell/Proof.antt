@@ -5,8 +5,8 @@ use native.Mathlib.Omega.{arith}
 use mathlib.Core.Path.{◌≡◌, ◌∙◌, ap, ap₂}
 use lib.ListN.{length}
 use Rattle.matrix.specs.Bytes.{number_at}
-use Rattle.cells.specs.Station.{right-shape}
-use Rattle.cells.specs.Places.{place-below, cell-two, cell-four, not-two}
+use Rattle.cells.specs.Station.{right_shape}
+use Rattle.cells.specs.Places.{place_below, cell_two, cell_four, not_two}
 use Rattle.cells.proofs.cell.Statement.{statement}
 use Rattle.cells.proofs.cell.Tie as tie
 
@@ -15,23 +15,23 @@ inside : (c : tie.After-place) → c.place.result + c.before.before.args.f.width
 inside c =
     let a = c.before.before.args in
     let q = c.before.before.requires in
-    omega (arith, place-below a.b.now a.f q.station a.r a.c q.row q.column, c.place.ensures)
+    omega (arith, place_below a.b.now a.f q.station a.r a.c q.row q.column, c.place.ensures)
 
 -- a cell that has not two bytes has four
 four : (c : tie.Else1) → c.before.before.before.before.before.args.f.width ≡ 4
-four c = not-two c.before.before.before.before.before.requires.station c.if1.false
+four c = not_two c.before.before.before.before.before.requires.station c.if1.false
 
 place-requires : tie.Need-place-requires
-place-requires c κs = let q = c.before.requires in (right-shape q.station, q.row, q.column)
+place-requires c κs = let q = c.before.requires in (right_shape q.station, q.row, q.column)
 
 two-requires : tie.Need-two-requires
-two-requires c κs = omega (arith, inside c, (right-shape c.before.before.requires.station).width-least)
+two-requires c κs = omega (arith, inside c, (right_shape c.before.before.requires.station).width_least)
 
 returns : tie.Need-returns
 returns c =
     let s = c.before.before.before.before.before in
     c.before.before.two.ensures.0 ∙ ap (λ (i : ℕ). number_at s.args.b.now i 2) c.before.before.before.place.ensures
-    ∙ cell-two _ s.args.f s.requires.station s.args.r s.args.c c.if1.true
+    ∙ cell_two _ s.args.f s.requires.station s.args.r s.args.c c.if1.true
 
 mul-result : tie.Need-overflow-mul-result
 mul-result c = search rules
@@ -52,7 +52,7 @@ returns-2 c =
     let p = e.before.before.before.place.ensures in
     let b = s.args.b.now in
     ap₂ (λ (x y : ℕ). x * 65536 + y) (e.before.before.two.ensures.0 ∙ ap (λ (i : ℕ). number_at b i 2) p) (c.two2.ensures.0 ∙ ap (λ (i : ℕ). number_at b (i + 2) 2) p)
-    ∙ cell-four b s.args.f s.requires.station s.args.r s.args.c (four e)
+    ∙ cell_four b s.args.f s.requires.station s.args.r s.args.c (four e)
 
 pub cell-spec : {M : Type 1} → statement M
 cell-spec =

@@ -5,13 +5,13 @@ use native.Mathlib.Omega.{arith}
 use mathlib.Core.Path.{sym, ◌∙◌, ap}
 use lib.ListN.{get_or}
 use Rattle.matrix.specs.Bytes.{bit}
-use Rattle.cells.specs.Station.{right-shape}
-use Rattle.cells.specs.Places.{bit_below, bit-there}
+use Rattle.cells.specs.Station.{right_shape}
+use Rattle.cells.specs.Places.{bit_below, bit_there}
 use Rattle.cells.proofs.has.Statement.{statement}
 use Rattle.cells.proofs.has.Tie as tie
 
 bit-place-requires : tie.Need-bit-place-requires
-bit-place-requires c κs = let q = c.before.requires in (right-shape q.0.station, q.0.row, q.0.column, q.1)
+bit-place-requires c κs = let q = c.before.requires in (right_shape q.0.station, q.0.row, q.0.column, q.1)
 
 shared-slice-read-bit-of : tie.Need-shared-slice-read-bit-of
 shared-slice-read-bit-of c =
@@ -29,8 +29,8 @@ returns : tie.Need-returns
 returns c =
     let a = c.before.before.before.before.args in
     let q = c.before.before.before.before.requires in
-    c.bit-of.ensures ∙ ap (λ (i : ℕ). bit (a.j % 8) (get_or a.b.now i 0)) c.before.before.bit-place.ensures
-    ∙ sym (bit-there a.b.now a.f q.0.station a.r a.c a.j q.1)
+    c.bit_of.ensures ∙ ap (λ (i : ℕ). bit (a.j % 8) (get_or a.b.now i 0)) c.before.before.bit-place.ensures
+    ∙ sym (bit_there a.b.now a.f q.0.station a.r a.c a.j q.1)
 
 pub has-spec : {M : Type 1} → statement M
 has-spec =

@@ -1,7 +1,7 @@
 -- `cells::put_two` meets its contract.
 use borrow.Author.Rules.{rules}
 use mathlib.Core.Path.{sym}
-use Rattle.codec.specs.Numbers.{two-stored}
+use Rattle.codec.specs.Numbers.{two_stored}
 use Rattle.cells.proofs.put_two.Statement.{statement}
 use Rattle.cells.proofs.put_two.Tie as tie
 
@@ -24,7 +24,7 @@ same_length : tie.Need-same-length
 same_length c = search rules
 
 returns : tie.Need-returns
-returns c = sym (two-stored c.args.b.now c.args.at c.args.v)
+returns c = sym (two_stored c.args.b.now c.args.at c.args.v)
 
 pub put-two-spec : {M : Type 1} → statement M
 put-two-spec =

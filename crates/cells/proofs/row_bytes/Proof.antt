@@ -3,7 +3,7 @@ use borrow.Author.Rules.{rules}
 use Prim.Native.Nat.{ℕ, ◌*◌, ◌≤◌}
 use native.Mathlib.Omega.{arith}
 use mathlib.Core.Path.{sym, ap, subst}
-use Rattle.codec.specs.ShapeRight.{mostBytes}
+use Rattle.codec.specs.ShapeRight.{most_bytes}
 use Rattle.cells.specs.Places.{row_small}
 use Rattle.cells.proofs.row_bytes.Statement.{statement}
 use Rattle.cells.proofs.row_bytes.Tie as tie
@@ -14,7 +14,7 @@ columns-of-requires c κs = search rules
 mul-result : tie.Need-overflow-mul-result
 mul-result c =
     let z = c.before.before in
-    omega (arith, subst (λ (m : ℕ). z.args.f.width * m ≤ mostBytes) (sym c.before.columns_of.ensures) (row_small z.args.f z.requires))
+    omega (arith, subst (λ (m : ℕ). z.args.f.width * m ≤ most_bytes) (sym c.before.columns_of.ensures) (row_small z.args.f z.requires))
 
 returns : tie.Need-returns
 returns c = ap (λ (m : ℕ). c.before.before.args.f.width * m) c.before.columns_of.ensures

@@ -4,7 +4,7 @@ use Prim.Native.Nat.{◌+◌, ◌<◌}
 use native.Mathlib.Omega.{arith}
 use mathlib.Core.Path.{sym}
 use lib.ListN.{get_or}
-use Rattle.codec.specs.Numbers.{two-read}
+use Rattle.codec.specs.Numbers.{two_read}
 use Rattle.cells.proofs.two.Statement.{statement}
 use Rattle.cells.proofs.two.Tie as tie
 
@@ -37,7 +37,7 @@ add-result : tie.Need-overflow-add-result
 add-result c = omega (arith, first c, second c)
 
 returns : tie.Need-returns
-returns c = (sym (two-read c.before.before.args.b.now c.before.before.args.at), omega (arith, first c, second c))
+returns c = (sym (two_read c.before.before.args.b.now c.before.before.args.at), omega (arith, first c, second c))
 
 pub two-spec : {M : Type 1} → statement M
 two-spec =

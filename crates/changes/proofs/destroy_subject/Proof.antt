@@ -1,6 +1,6 @@
 -- `changes::destroy_subject` meets its contract: what s owns is inherited before its column and its row are cleared.
 use native.Mathlib.Omega.{arith}
-use Rattle.bits.specs.Steps.{station-after, length-after}
+use Rattle.bits.specs.Steps.{station_after, length_after}
 use Rattle.changes.specs.Effects.{destroyed}
 use borrow.Author.Rules.{rules}
 use Rattle.changes.proofs.destroy_subject.Statement.{statement}
@@ -11,12 +11,12 @@ inherit-own-requires c κs = search rules
 
 clear-column-requires : tie.Need-clear-column-requires
 clear-column-requires c κs =
-    (station-after c.before.before.before.before.before.before.requires.station c.before.before.before.inherit-own.ensures, omega (arith, c.before.before.before.before.before.before.requires.subject))
+    (station_after c.before.before.before.before.before.before.requires.station c.before.before.before.inherit-own.ensures, omega (arith, c.before.before.before.before.before.before.requires.subject))
 
 clear-row-requires : tie.Need-clear-row-requires
 clear-row-requires c κs =
     let q = c.before.before.before.before.before.before.before.before.before.before.requires in
-    (station-after (station-after q.station c.before.before.before.before.before.before.before.inherit-own.ensures) c.before.before.before.clear-column.ensures, omega arith)
+    (station_after (station_after q.station c.before.before.before.before.before.before.before.inherit-own.ensures) c.before.before.before.clear-column.ensures, omega arith)
 
 returns : tie.Need-returns
 returns c =
@@ -25,7 +25,7 @@ returns c =
     c.before.before.before.before.before.before.before.before.before.before.inherit-own.ensures c.before.before.before.before.before.before.clear-column.ensures c.before.before.clear-row.ensures
 
 same_length : tie.Need-same-length
-same_length c = length-after c.before.before.before.before.before.before.before.before.before.before.before.before.before.requires.station (returns c)
+same_length c = length_after c.before.before.before.before.before.before.before.before.before.before.before.before.before.requires.station (returns c)
 
 pub destroy-subject-spec : {M : Type 1} → statement M
 destroy-subject-spec =

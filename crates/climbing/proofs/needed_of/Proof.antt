@@ -5,8 +5,8 @@ use native.Mathlib.Omega.{arith}
 use mathlib.Core.Path.{sym, ◌∙◌}
 use Rattle.matrix.specs.declared.Name.TheVariants.{Plain}
 use Rattle.matrix.specs.Reading.{state_of}
-use Rattle.cells.specs.Station.{right-shape}
-use Rattle.climbing.specs.Needed.{Counted, counted-first, counted_next, counted-here, counted-all}
+use Rattle.cells.specs.Station.{right_shape}
+use Rattle.climbing.specs.Needed.{Counted, counted_first, counted_next, counted_here, counted_all}
 use Rattle.climbing.proofs.needed_of.Statement.{statement}
 use Rattle.climbing.proofs.needed_of.Tie as tie
 
@@ -17,7 +17,7 @@ abbrev decreases-loop : tie.decreases-loop
 decreases-loop b f o path m t₀ t = m - t
 
 loop-holds : tie.Need-loop-init invariant-loop decreases-loop
-loop-holds c = (omega arith, counted-first _ _ _ _)
+loop-holds c = (omega arith, counted_first _ _ _ _)
 
 sub-has-bit : tie.Need-overflow-sub-has-bit invariant-loop decreases-loop
 sub-has-bit c = omega arith
@@ -29,7 +29,7 @@ cast-has-bit : tie.Need-overflow-cast-has-bit invariant-loop decreases-loop
 cast-has-bit c =
     let q = c.before.before.before.before.requires in
     let low = q.1.entries (c.before.before.before.before.args.m - c.before.before.loop.t) (omega (arith, c.before.before.loop.invariant.0)) in
-    record { fits = omega (arith, low, (right-shape q.0.station).high) }
+    record { fits = omega (arith, low, (right_shape q.0.station).high) }
 
 has-bit-requires : tie.Need-has-bit-requires invariant-loop decreases-loop
 has-bit-requires c κs =
@@ -39,7 +39,7 @@ has-bit-requires c κs =
 returns : tie.Need-returns invariant-loop decreases-loop
 returns c =
     let z = c.before.before.before.before.before.before.args in
-    counted-here (state_of z.b.now).owns (Plain z.o) z.path.now z.m c.before.before.before.before.loop.invariant.1 c.before.before.before.loop-test.true (sym c.before.has-bit.ensures ∙ c.if1.true)
+    counted_here (state_of z.b.now).owns (Plain z.o) z.path.now z.m c.before.before.before.before.loop.invariant.1 c.before.before.before.loop-test.true (sym c.before.has-bit.ensures ∙ c.if1.true)
 
 add-t : tie.Need-overflow-add-t invariant-loop decreases-loop
 add-t c = search rules
@@ -55,7 +55,7 @@ loop-again c =
 returns-2 : tie.Need-returns-2 invariant-loop decreases-loop
 returns-2 c =
     let z = c.before.before.before.args in
-    counted-all (state_of z.b.now).owns (Plain z.o) z.path.now z.m c.before.loop.invariant.1 c.loop-test.false
+    counted_all (state_of z.b.now).owns (Plain z.o) z.path.now z.m c.before.loop.invariant.1 c.loop-test.false
 
 pub needed-of-spec : {M : Type 1} → statement M
 needed-of-spec =

@@ -8,38 +8,38 @@ use mathlib.Core.Bool.{false}
 use lib.ListN.{length}
 use Rattle.matrix.specs.declared.Name.TheVariants.{Plain}
 use Rattle.matrix.specs.Bounded.{any}
-use Rattle.matrix.specs.Shape.{mostSubjects}
+use Rattle.matrix.specs.Shape.{most_subjects}
 use Rattle.matrix.specs.Reading.{state_of}
-use Rattle.laws.specs.Bounded.{any-miss}
-use Rattle.row_search.specs.Blocks.{blockHas}
-use Rattle.states.specs.Reads.{named-plain}
-use Rattle.question.specs.Trust.{trustedBy}
+use Rattle.laws.specs.Bounded.{any_miss}
+use Rattle.row_search.specs.Blocks.{block_has}
+use Rattle.states.specs.Reads.{named_plain}
+use Rattle.question.specs.Trust.{trusted_by}
 use Rattle.ways.specs.Ways.{riser}
 use Rattle.rising.specs.Shut.{ShutAll, shut_none}
-use Rattle.masks.specs.Lowest.{least-most, none-lower}
-use Rattle.climbing.specs.Over.{climbs-met, climbs-none, unowned}
+use Rattle.masks.specs.Lowest.{least_most, none_lower}
+use Rattle.climbing.specs.Over.{climbs_met, climbs_none, unowned}
 use Rattle.climbing.proofs.way_over_plain.Statement.{statement}
 use Rattle.climbing.proofs.way_over_plain.Tie as tie
 
 abbrev invariant-loop : tie.invariant-loop
 invariant-loop b f trust o owners path₀ n first closed₀ w₀ path closed w =
-    (length path ≡ mostSubjects) × (any w (riser (state_of b) (trustedBy trust) (Plain o)) ≡ false) × ShutAll (state_of b) (trustedBy trust) closed
+    (length path ≡ most_subjects) × (any w (riser (state_of b) (trusted_by trust) (Plain o)) ≡ false) × ShutAll (state_of b) (trusted_by trust) closed
 
 abbrev decreases-loop : tie.decreases-loop
 decreases-loop b f trust o owners path₀ n first closed₀ w₀ path closed w = n - w
 
 first-block-requires : tie.Need-first-block-requires invariant-loop decreases-loop
-first-block-requires c κs = let q = c.before.requires in (q.0.station, named-plain q.0 refl, omega arith)
+first-block-requires c κs = let q = c.before.requires in (q.0.station, named_plain q.0 refl, omega arith)
 
 mul-first : tie.Need-overflow-mul-first invariant-loop decreases-loop
 mul-first c =
     let z = c.before.before.args in
-    record { fits = omega (arith, c.First-Block.ensures, least-most (z.f.n / 4) (blockHas z.b.now z.o 0)) }
+    record { fits = omega (arith, c.First-Block.ensures, least_most (z.f.n / 4) (block_has z.b.now z.o 0)) }
 
 loop-holds : tie.Need-loop-init invariant-loop decreases-loop
 loop-holds c =
     let z = c.before.before in
-    (z.requires.2, unowned (trustedBy z.args.trust) z.requires.0 c.First-Block.ensures, shut_none _ _)
+    (z.requires.2, unowned (trusted_by z.args.trust) z.requires.0 c.First-Block.ensures, shut_none _ _)
 
 owner-rise-requires : tie.Need-owner-rise-requires invariant-loop decreases-loop
 owner-rise-requires c κs =
@@ -56,7 +56,7 @@ enum-told-2 c = search rules
 returns : tie.Need-returns invariant-loop decreases-loop
 returns c =
     let before-loop = c.before.before.before.before.before in
-    climbs-met before-loop.before.before.before.before.requires.0.station before-loop.loop-test.true before-loop.before.loop.invariant.1 c.before.before.owner-rise.ensures.0 c.enum-told2.given.1
+    climbs_met before-loop.before.before.before.before.requires.0.station before-loop.loop-test.true before-loop.before.loop.invariant.1 c.before.before.owner-rise.ensures.0 c.enum-told2.given.1
 
 add-w : tie.Need-overflow-add-w invariant-loop decreases-loop
 add-w c = search rules
@@ -67,13 +67,13 @@ loop-less c = search rules
 loop-again : tie.Need-loop-preserved invariant-loop decreases-loop
 loop-again c =
     let e = c.before.before.owner-rise.ensures in
-    (e.0.size, rw add-one (any-miss _ _ c.before.before.before.before.before.before.loop.invariant.1 (e.0.missed c.enum_told.given.1)), e.1)
+    (e.0.size, rw add-one (any_miss _ _ c.before.before.before.before.before.before.loop.invariant.1 (e.0.missed c.enum_told.given.1)), e.1)
 
 returns-2 : tie.Need-returns-2 invariant-loop decreases-loop
 returns-2 c =
     let z = c.before.before.before.before in
     let i = c.before.loop.invariant in
-    climbs-none z.requires.0.station (none-lower (riser (state_of z.args.b.now) (trustedBy z.args.trust) (Plain z.args.o)) c.loop-test.false i.1) i.0
+    climbs_none z.requires.0.station (none_lower (riser (state_of z.args.b.now) (trusted_by z.args.trust) (Plain z.args.o)) c.loop-test.false i.1) i.0
 
 pub way-over-plain-spec : {M : Type 1} → statement M
 way-over-plain-spec =

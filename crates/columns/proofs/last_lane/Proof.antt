@@ -1,23 +1,23 @@
 -- `columns::last_lane` meets its contract.
 use native.Mathlib.Omega.{arith}
 use mathlib.Core.Path.{refl}
-use Rattle.columns.specs.Cells.{mostColumns, lanes_of, lastLane, lanes-some, lanes-most, last-inside}
+use Rattle.columns.specs.Cells.{most_columns, lanes_of, last_lane, lanes_some, lanes_most, last_inside}
 use Rattle.columns.proofs.last_lane.Statement.{statement}
 use Rattle.columns.proofs.last_lane.Tie as tie
 
 mul-result : tie.Need-overflow-mul-result
-unfolding lanes_of lastLane
-mul-result c = record { fits = omega (arith, lanes-most c.requires.0 c.args.c) }
+unfolding lanes_of last_lane
+mul-result c = record { fits = omega (arith, lanes_most c.requires.0 c.args.c) }
 
 sub-result : tie.Need-overflow-sub-result
-sub-result c = lanes-some c.requires.0
+sub-result c = lanes_some c.requires.0
 
 add-result : tie.Need-overflow-add-result
-unfolding lanes_of lastLane
-add-result c = record { fits = omega (arith, last-inside c.requires.0 c.args.c _ c.requires.1, lanes-most c.requires.0 mostColumns) }
+unfolding lanes_of last_lane
+add-result c = record { fits = omega (arith, last_inside c.requires.0 c.args.c _ c.requires.1, lanes_most c.requires.0 most_columns) }
 
 returns : tie.Need-returns
-unfolding lanes_of lastLane
+unfolding lanes_of last_lane
 returns c = refl
 
 pub last-lane-spec : {M : Type 1} → statement M

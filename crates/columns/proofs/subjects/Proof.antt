@@ -6,9 +6,9 @@ use mathlib.Core.Logic.{inl, inr}
 use mathlib.Core.Bool.{true}
 use borrow.Author.Tests.{not-false}
 use Rattle.matrix.specs.Bounded.{all}
-use Rattle.columns.specs.Cells.{not-one}
-use Rattle.columns.specs.Checks.{present, countTest}
-use Rattle.columns.specs.Loops.{counts-test}
+use Rattle.columns.specs.Cells.{not_one}
+use Rattle.columns.specs.Checks.{present, count_test}
+use Rattle.columns.specs.Loops.{counts_test}
 use Rattle.columns.proofs.subjects.Statement.{statement}
 use Rattle.columns.proofs.subjects.Tie as tie
 
@@ -34,14 +34,14 @@ counts-fit-requires-2 c κs = let s = c.before.before.before.before in (inr refl
 returns-2 : tie.Need-returns-2
 returns-2 c =
     let s = c.before.before.before.before.before in
-    c.counts-fit.ensures ∙ ap (λ (q : ℕ). all s.args.m.rows (countTest q s.args.tally.now s.args.odd.now)) (sym c.before.if2.true)
-    ∙ counts-test s.args.q s.args.b.now s.args.m _ s.args.tally.now s.args.odd.now (present-all c.before.before)
+    c.counts-fit.ensures ∙ ap (λ (q : ℕ). all s.args.m.rows (count_test q s.args.tally.now s.args.odd.now)) (sym c.before.if2.true)
+    ∙ counts_test s.args.q s.args.b.now s.args.m _ s.args.tally.now s.args.odd.now (present-all c.before.before)
 
 returns-3 : tie.Need-returns-3
 returns-3 c =
     let s = c.before.before.before.before.before in
-    c.counts-fit2.ensures ∙ ap (λ (q : ℕ). all s.args.m.rows (countTest q s.args.tally.now s.args.odd.now)) (sym (not-one s.requires.0.cells c.before.if2.false))
-    ∙ counts-test s.args.q s.args.b.now s.args.m _ s.args.tally.now s.args.odd.now (present-all c.before.before)
+    c.counts-fit2.ensures ∙ ap (λ (q : ℕ). all s.args.m.rows (count_test q s.args.tally.now s.args.odd.now)) (sym (not_one s.requires.0.cells c.before.if2.false))
+    ∙ counts_test s.args.q s.args.b.now s.args.m _ s.args.tally.now s.args.odd.now (present-all c.before.before)
 
 pub subjects-spec : {M : Type 1} → statement M
 subjects-spec =

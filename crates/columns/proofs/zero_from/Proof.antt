@@ -4,7 +4,7 @@ use Prim.Native.Nat.{◌+◌, ◌-◌, ◌≤◌}
 use mathlib.Core.Path.{◌≡◌}
 use lib.ListN.{get_or}
 use Rattle.lanes.specs.Lanes.{merged}
-use Rattle.lanes.specs.Zeros.{merged-none, merged-more, merged-done}
+use Rattle.lanes.specs.Zeros.{merged_none, merged_more, merged_done}
 use Rattle.columns.proofs.zero_from.Statement.{statement}
 use Rattle.columns.proofs.zero_from.Tie as tie
 
@@ -15,7 +15,7 @@ abbrev decreases-loop : tie.decreases-loop
 decreases-loop b at bytes any₀ j₀ any j = bytes - j
 
 loop-holds : tie.Need-loop-init invariant-loop decreases-loop
-loop-holds c = (search rules, merged-none _)
+loop-holds c = (search rules, merged_none _)
 
 add-any : tie.Need-overflow-add-any invariant-loop decreases-loop
 add-any c = search rules
@@ -32,10 +32,10 @@ loop-less c = search rules
 loop-again : tie.Need-loop-preserved invariant-loop decreases-loop
 loop-again c =
     let l = c.before.before.loop in
-    (search rules, merged-more l.j (λ i. get_or c.before.before.before.args.b.now (c.before.before.before.args.at + i) 0) l.any l.invariant.1)
+    (search rules, merged_more l.j (λ i. get_or c.before.before.before.args.b.now (c.before.before.before.args.at + i) 0) l.any l.invariant.1)
 
 returns : tie.Need-returns invariant-loop decreases-loop
-returns c = merged-done _ _ _ _ c.before.loop.invariant.0 c.loop-test.false c.before.loop.invariant.1
+returns c = merged_done _ _ _ _ c.before.loop.invariant.0 c.loop-test.false c.before.loop.invariant.1
 
 pub zero-from-spec : {M : Type 1} → statement M
 zero-from-spec =

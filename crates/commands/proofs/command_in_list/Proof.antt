@@ -8,10 +8,10 @@ use Rattle.matrix.specs.declared.Answer.TheVariants.{Accepted}
 use Rattle.matrix.specs.declared.Fields.{Fields}
 use Rattle.matrix.specs.Reading.{state_of}
 use Rattle.matrix.specs.Valid.{Valid}
-use Rattle.cells.specs.Station.{Station, right-shape}
-use Rattle.states.specs.Needs.{Guessed, guessed-at}
+use Rattle.cells.specs.Station.{Station, right_shape}
+use Rattle.states.specs.Needs.{Guessed, guessed_at}
 use Rattle.short_ways.specs.Answered.{Answered}
-use Rattle.short_ways.specs.Ready.{row-i, row-s}
+use Rattle.short_ways.specs.Ready.{row_i, row_s}
 use borrow.Author.Rules.{rules}
 use Rattle.commands.proofs.command_in_list.Statement.{statement}
 use Rattle.commands.proofs.command_in_list.Tie as tie
@@ -52,7 +52,7 @@ command-on-requires : tie.Need-command-on-requires
 command-on-requires c κs =
     let z = c.before.before.before.before.before.before.before.before.before.before.before.before.before.before.before.before.before.before.before in
     let e = c.before.before.before.before.before.before.over-subject.ensures.stays (not-true _ c.before.before.before.if3.true) ∙ c.before.before.before.before.before.before.before.before.before.before.before.over-object.ensures.stays c.before.before.before.before.before.before.before.before.if2.false ∙ c.before.before.before.before.before.before.before.before.before.before.before.before.before.before.before.before.by_right.ensures.stays c.before.before.before.before.before.before.before.before.before.before.before.before.before.if1.false in
-    guessed-at (subst (λ (b : List ℕ). Guessed b z.args.f z.args.owners.now) (sym e) z.requires) refl
+    guessed_at (subst (λ (b : List ℕ). Guessed b z.args.f z.args.owners.now) (sym e) z.requires) refl
 
 same-length-3 : tie.Need-same-length-3
 same-length-3 c = search rules
@@ -67,9 +67,9 @@ returns-3 c =
 follow-fields-requires : tie.Need-follow-fields-requires
 follow-fields-requires c κs =
     let z = c.before.before.before.before.before.before.before.before.before.before.before.before.before.before.before.before.before in
-    let few = (right-shape z.requires.station).high in
+    let few = (right_shape z.requires.station).high in
     let names = (c.before.before.before.before.over-subject.ensures.holds (not-false _ c.before.if3.false)).1 in
-    (z.requires.size, lt_of_lt_of_le (row-s z.args.f z.args.c names) few, lt_of_lt_of_le (row-i z.args.f z.args.c names) few)
+    (z.requires.size, lt_of_lt_of_le (row_s z.args.f z.args.c names) few, lt_of_lt_of_le (row_i z.args.f z.args.c names) few)
 
 same-length-4 : tie.Need-same-length-4
 same-length-4 c = search rules

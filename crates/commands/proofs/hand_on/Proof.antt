@@ -3,15 +3,15 @@ use borrow.Author.Rules.{rules}
 use Prim.Native.Nat.{◌-◌, ◌≤◌}
 use mathlib.Core.Path.{◌≡◌, ◌∙◌}
 use lib.ListN.{length, length-set}
-use Rattle.matrix.specs.Shape.{mostSubjects}
+use Rattle.matrix.specs.Shape.{most_subjects}
 use Rattle.commands.proofs.hand_on.Statement.{statement}
 use Rattle.commands.proofs.hand_on.Tie as tie
 
 abbrev invariant-loop : tie.invariant-loop
-invariant-loop owners₀ s i from to v₀ owners v = (v ≤ mostSubjects) × (length owners ≡ mostSubjects)
+invariant-loop owners₀ s i from to v₀ owners v = (v ≤ most_subjects) × (length owners ≡ most_subjects)
 
 abbrev decreases-loop : tie.decreases-loop
-decreases-loop owners₀ s i from to v₀ owners v = mostSubjects - v
+decreases-loop owners₀ s i from to v₀ owners v = most_subjects - v
 
 cast-from : tie.Need-overflow-cast-from invariant-loop decreases-loop
 cast-from c = search rules

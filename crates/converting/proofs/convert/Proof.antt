@@ -9,11 +9,11 @@ use lib.ListN.{length, drop}
 use lib.Seq.{length-take-le}
 use borrow.Author.Tests.{ltb-false}
 use Rattle.matrix.specs.Numbers.{numbers}
-use Rattle.matrix.specs.Shape.{basicsOf, size_of}
+use Rattle.matrix.specs.Shape.{basics_of, size_of}
 use Rattle.matrix.specs.Reading.{state_of}
-use Rattle.matrix.specs.Converting.{basicFrom}
-use Rattle.cell_words.specs.Wanted.{Wanted, wanted-in, wanted-right}
-use Rattle.converting.specs.Answers.{later, later-none, refused, answered}
+use Rattle.matrix.specs.Converting.{basic_from}
+use Rattle.cell_words.specs.Wanted.{Wanted, wanted_in, wanted_right}
+use Rattle.converting.specs.Answers.{later, later_none, refused, answered}
 use Rattle.converting.proofs.convert.Statement.{statement}
 use Rattle.converting.proofs.convert.Tie as tie
 
@@ -21,10 +21,10 @@ shape-in-requires : tie.Need-shape-in-requires
 shape-in-requires c κs = search rules
 
 wanted : (c : tie.After-shape-in) → Wanted c.before.before.before.args.b.now c.before.before.before.args.f c.shape-in.result
-wanted c = let z = c.before.before.before in wanted-in z.args.version z.requires.0 z.requires.2 c.shape-in.ensures
+wanted c = let z = c.before.before.before in wanted_in z.args.version z.requires.0 z.requires.2 c.shape-in.ensures
 
 size-of-requires : tie.Need-size-of-requires
-size-of-requires c κs = wanted-right (wanted c)
+size-of-requires c κs = wanted_right (wanted c)
 
 too-wide-requires : tie.Need-too-wide-requires
 too-wide-requires c κs = wanted c.before
@@ -36,7 +36,7 @@ refusal-of-requires c κs = search rules
 refusal : (c : tie.After-refusal-of) →
     let g = c.before.before.before.shape-in.result in
     let a = c.before.before.before.before.before.before.args in
-    c.refusal-of.result ≡ later (basicFrom (basicsOf g) a.f (state_of a.b.now)) (ltb (length a.out.now) (size_of g))
+    c.refusal-of.result ≡ later (basic_from (basics_of g) a.f (state_of a.b.now)) (ltb (length a.out.now) (size_of g))
 refusal c =
     let a = c.before.before.before.before.before.before.args in
     c.refusal-of.ensures ∙ ap₂ later c.before.too_wide.ensures (ap (ltb (length a.out.now)) c.before.before.type_size.ensures)
@@ -47,7 +47,7 @@ none : (c : tie.Else1) →
 none c =
     let r = c.before in
     let s = r.before.before in
-    later-none r.before.too_wide.result (ltb (length s.before.before.before.before.args.out.now) s.type_size.result) (sym r.refusal-of.ensures ∙ c.if1.false)
+    later_none r.before.too_wide.result (ltb (length s.before.before.before.before.args.out.now) s.type_size.result) (sym r.refusal-of.ensures ∙ c.if1.false)
 
 room : (c : tie.Else1) → c.before.before.before.type_size.result ≤ length c.before.before.before.before.before.before.before.args.out.now
 room c = let s = c.before.before.before in ltb-false (length s.before.before.before.before.args.out.now) s.type_size.result (none c).1

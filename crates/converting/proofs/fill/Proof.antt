@@ -1,14 +1,14 @@
 -- `converting::fill` meets its contract: a record of the wanted version is the record itself.
 use native.Mathlib.Omega.{arith}
 use mathlib.Core.Path.{sym, ◌∙◌}
-use Rattle.laws.specs.Copied.{copied-over}
-use Rattle.converting.specs.Copying.{own-record, own-size}
+use Rattle.laws.specs.Copied.{copied_over}
+use Rattle.converting.specs.Copying.{own_record, own_size}
 use borrow.Author.Rules.{rules}
 use Rattle.converting.proofs.fill.Statement.{statement}
 use Rattle.converting.proofs.fill.Tie as tie
 
 copy-requires : tie.Need-copy-requires
-copy-requires c κs = let z = c.before.before.before.before.before.before in omega (arith, z.requires.1, own-size z.requires.0.wanted c.before.if1.true)
+copy-requires c κs = let z = c.before.before.before.before.before.before in omega (arith, z.requires.1, own_size z.requires.0.wanted c.before.if1.true)
 
 same_length : tie.Need-same-length
 same_length c = search rules
@@ -17,7 +17,7 @@ returns : tie.Need-returns
 returns c =
     let z = c.before.before.before.before.before.before.before.before.before in
     let e = c.before.before.before.before.if1.true in
-    c.before.before.copy.ensures.1 ∙ copied-over z.args.b.now z.args.out.now (z.requires.1 ∙ sym (own-size z.requires.0.wanted e)) ∙ own-record z.requires.0.wanted e
+    c.before.before.copy.ensures.1 ∙ copied_over z.args.b.now z.args.out.now (z.requires.1 ∙ sym (own_size z.requires.0.wanted e)) ∙ own_record z.requires.0.wanted e
 
 write-requires : tie.Need-write-requires
 write-requires c κs = search rules

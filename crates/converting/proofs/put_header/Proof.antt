@@ -4,10 +4,10 @@ use Prim.Native.Nat.{ℕ, ◌-◌, ◌≤◌}
 use native.Mathlib.Omega.{arith}
 use mathlib.Core.Path.{sym, subst}
 use lib.ListN.{length, set, length-set}
-use Rattle.matrix.specs.Bytes.{setNumber}
-use Rattle.matrix.specs.Shape.{headerBytes}
+use Rattle.matrix.specs.Bytes.{set_number}
+use Rattle.matrix.specs.Shape.{header_bytes}
 use Rattle.cells.specs.Station.{Station}
-use Rattle.converting.specs.Header.{putHeader, version-byte, header-room, header-station}
+use Rattle.converting.specs.Header.{put_header, version_byte, header_room, header_station}
 use Rattle.converting.proofs.put_header.Statement.{statement}
 use Rattle.converting.proofs.put_header.Tie as tie
 
@@ -18,11 +18,11 @@ sub-count : tie.Need-overflow-sub-count
 sub-count c = search rules
 
 -- the header's bytes are there
-room : (c : tie.After-size-of) → headerBytes ≤ length c.before.before.args.out.now
-room c = let z = c.before.before in header-room z.args.out.now z.args.g z.requires.0 z.requires.1
+room : (c : tie.After-size-of) → header_bytes ≤ length c.before.before.args.out.now
+room c = let z = c.before.before in header_room z.args.out.now z.args.g z.requires.0 z.requires.1
 
 cast-out : tie.Need-overflow-cast-out
-cast-out c = let z = c.before.before.before in omega (arith, version-byte z.args.g z.requires.0)
+cast-out c = let z = c.before.before.before in omega (arith, version_byte z.args.g z.requires.0)
 
 slice-write-out : tie.Need-slice-write-out
 slice-write-out c = search rules
@@ -67,14 +67,14 @@ same_length : tie.Need-same-length
 same_length c = search rules
 
 returns : tie.Need-returns
-unfolding putHeader setNumber
+unfolding put_header set_number
 returns c =
     let s = c.before.before.before in
     let z = s.before.before in
     let o = z.args.out.now in
     let g = z.args.g in
-    subst (λ (x : ℕ). Station (set (set (setNumber (set o 0 g.version) 1 4 (x - 5)) 5 g.n) 6 g.p) g) (sym s.type_size.ensures)
-    (header-station o g z.requires.0 z.requires.1 (record { octet = λ j. (s.before.slice-known.given j).fits }))
+    subst (λ (x : ℕ). Station (set (set (set_number (set o 0 g.version) 1 4 (x - 5)) 5 g.n) 6 g.p) g) (sym s.type_size.ensures)
+    (header_station o g z.requires.0 z.requires.1 (record { octet = λ j. (s.before.slice-known.given j).fits }))
 
 pub put-header-spec : {M : Type 1} → statement M
 put-header-spec =

@@ -3,21 +3,21 @@ use borrow.Author.Rules.{rules}
 use Prim.Native.Nat.{ℕ, ◌+◌, ◌*◌, ◌≤◌}
 use native.Mathlib.Omega.{arith}
 use mathlib.Core.Path.{sym, ap, subst}
-use Rattle.codec.specs.ShapeRight.{mostBytes, size-most}
-use Rattle.cell_words.specs.Places.{cells-most}
+use Rattle.codec.specs.ShapeRight.{most_bytes, size_most}
+use Rattle.cell_words.specs.Places.{cells_most}
 use Rattle.converting.proofs.size_of.Statement.{statement}
 use Rattle.converting.proofs.size_of.Tie as tie
 
 columns-of-requires : tie.Need-columns-of-requires
 columns-of-requires c κs = search rules
 
-cells : (c : tie.After-columns-of) → c.before.args.f.n * c.columns_of.result ≤ mostBytes
-cells c = let f = c.before.args.f in subst (λ (m : ℕ). f.n * m ≤ mostBytes) (sym c.columns_of.ensures) (cells-most f c.before.requires)
+cells : (c : tie.After-columns-of) → c.before.args.f.n * c.columns_of.result ≤ most_bytes
+cells c = let f = c.before.args.f in subst (λ (m : ℕ). f.n * m ≤ most_bytes) (sym c.columns_of.ensures) (cells_most f c.before.requires)
 
-size : (c : tie.After-columns-of) → c.before.args.f.first + c.before.args.f.width * (c.before.args.f.n * c.columns_of.result) ≤ mostBytes
+size : (c : tie.After-columns-of) → c.before.args.f.first + c.before.args.f.width * (c.before.args.f.n * c.columns_of.result) ≤ most_bytes
 size c =
     let f = c.before.args.f in
-    subst (λ (m : ℕ). f.first + f.width * (f.n * m) ≤ mostBytes) (sym c.columns_of.ensures) (size-most f c.before.requires)
+    subst (λ (m : ℕ). f.first + f.width * (f.n * m) ≤ most_bytes) (sym c.columns_of.ensures) (size_most f c.before.requires)
 
 mul-result : tie.Need-overflow-mul-result
 mul-result c = omega (arith, cells c.before)

@@ -5,12 +5,12 @@ use native.Mathlib.Omega.{arith}
 use mathlib.Core.Path.{◌≡◌, sym, ◌∙◌, ap, subst}
 use lib.ListN.{length}
 use Rattle.matrix.specs.Bytes.{number_at}
-use Rattle.codec.specs.ShapeRight.{mostBytes, two-or-four}
-use Rattle.cells.specs.Station.{right-shape}
-use Rattle.cell_words.specs.Wanted.{wanted-right}
-use Rattle.cell_words.specs.Places.{cells_of, place_of, cells-most, next_place, cell-inside}
+use Rattle.codec.specs.ShapeRight.{most_bytes, two_or_four}
+use Rattle.cells.specs.Station.{right_shape}
+use Rattle.cell_words.specs.Wanted.{wanted_right}
+use Rattle.cell_words.specs.Places.{cells_of, place_of, cells_most, next_place, cell_inside}
 use Rattle.converting.specs.Needs.{Copied}
-use Rattle.converting.specs.Copying.{copied_none, copied_next, copied_all, copied-length, same-cells}
+use Rattle.converting.specs.Copying.{copied_none, copied_next, copied_all, copied_length, same_cells}
 use Rattle.converting.proofs.write.Statement.{statement}
 use Rattle.converting.proofs.write.Tie as tie
 
@@ -21,19 +21,19 @@ abbrev decreases-loop : tie.decreases-loop
 decreases-loop b f out₀ g cells from₀ to₀ k₀ out from to k = cells - k
 
 put-header-requires : tie.Need-put-header-requires invariant-loop decreases-loop
-put-header-requires c κs = let z = c.before.before.before in (wanted-right z.requires.0.wanted, z.requires.1)
+put-header-requires c κs = let z = c.before.before.before in (wanted_right z.requires.0.wanted, z.requires.1)
 
 columns-of-requires : tie.Need-columns-of-requires invariant-loop decreases-loop
-columns-of-requires c κs = right-shape c.before.before.before.before.before.before.requires.0.wanted.station
+columns-of-requires c κs = right_shape c.before.before.before.before.before.before.requires.0.wanted.station
 
 -- the number of cells as the code has it
 cells : (c : tie.After-struct-known invariant-loop decreases-loop) →
     let f = c.before.before.before.before.before.before.before.before.args.f in
-    (f.n * c.before.columns_of.result ≡ cells_of f) × (f.n * c.before.columns_of.result ≤ mostBytes)
+    (f.n * c.before.columns_of.result ≡ cells_of f) × (f.n * c.before.columns_of.result ≤ most_bytes)
 cells c =
     let z = c.before.before.before.before.before.before.before.before in
     let e = ap (λ (m : ℕ). z.args.f.n * m) c.before.columns_of.ensures in
-    (e, subst (λ (m : ℕ). m ≤ mostBytes) (sym e) (cells-most z.args.f (right-shape z.requires.0.wanted.station)))
+    (e, subst (λ (m : ℕ). m ≤ most_bytes) (sym e) (cells_most z.args.f (right_shape z.requires.0.wanted.station)))
 
 mul-cells : tie.Need-overflow-mul-cells invariant-loop decreases-loop
 mul-cells c = omega (arith, (cells c).1)
@@ -49,30 +49,30 @@ less c = subst (λ (m : ℕ). c.before.loop.k < m) (cells c.before.before).0 c.l
 
 from-inside : (c : tie.In-loop invariant-loop decreases-loop) →
     let z = c.before.before.before.before.before.before.before.before.before.before in
-    (c.before.loop.from + z.args.f.width ≤ length z.args.b.now) × (c.before.loop.from + z.args.f.width ≤ mostBytes)
+    (c.before.loop.from + z.args.f.width ≤ length z.args.b.now) × (c.before.loop.from + z.args.f.width ≤ most_bytes)
 from-inside c =
     let z = c.before.before.before.before.before.before.before.before.before.before in
-    cell-inside z.requires.0.wanted.station c.before.loop.k (less c) c.before.loop.invariant.1
+    cell_inside z.requires.0.wanted.station c.before.loop.k (less c) c.before.loop.invariant.1
 
 to_inside : (c : tie.In-loop invariant-loop decreases-loop) →
     let g = c.before.before.before.before.before.before.before.before.before.before.args.g in
-    (c.before.loop.to + g.width ≤ length c.before.loop.out) × (c.before.loop.to + g.width ≤ mostBytes)
+    (c.before.loop.to + g.width ≤ length c.before.loop.out) × (c.before.loop.to + g.width ≤ most_bytes)
 to_inside c =
     let z = c.before.before.before.before.before.before.before.before.before.before in
     let l = c.before.loop in
-    cell-inside l.invariant.3.station l.k (subst (λ (m : ℕ). l.k < m) (sym (same-cells z.requires.0)) (less c)) l.invariant.2
+    cell_inside l.invariant.3.station l.k (subst (λ (m : ℕ). l.k < m) (sym (same_cells z.requires.0)) (less c)) l.invariant.2
 
 word-requires : tie.Need-word-requires invariant-loop decreases-loop
 word-requires c κs =
     let i = c.before in
     let z = i.before.before.before.before.before.before.before.before.before.before in
-    (two-or-four z.args.f (right-shape z.requires.0.wanted.station), (from-inside i).0)
+    (two_or_four z.args.f (right_shape z.requires.0.wanted.station), (from-inside i).0)
 
 put-word-requires : tie.Need-put-word-requires invariant-loop decreases-loop
 put-word-requires c κs =
     let i = c.before.before in
     let z = i.before.before.before.before.before.before.before.before.before.before in
-    (two-or-four z.args.g (wanted-right z.requires.0.wanted), (to_inside i).0)
+    (two_or_four z.args.g (wanted_right z.requires.0.wanted), (to_inside i).0)
 
 add-from : tie.Need-overflow-add-from invariant-loop decreases-loop
 add-from c = omega (arith, (from-inside c.before.before.before.before.before.before).1)
@@ -101,7 +101,7 @@ loop-again c =
 same_length : tie.Need-same-length invariant-loop decreases-loop
 same_length c =
     let l = c.before in
-    copied-length l.loop.invariant.3 ∙ sym l.before.before.before.before.before.before.before.before.before.requires.1
+    copied_length l.loop.invariant.3 ∙ sym l.before.before.before.before.before.before.before.before.before.requires.1
 
 returns : tie.Need-returns invariant-loop decreases-loop
 returns c =

@@ -4,9 +4,9 @@ use Prim.Native.Nat.{◌-◌, ◌%◌, ◌≤◌, ◌<◌}
 use native.Mathlib.Omega.{arith}
 use mathlib.Core.Path.{◌≡◌, refl}
 use lib.ListN.{length}
-use Rattle.lanes.specs.Lists.{part-next}
-use Rattle.lanes.specs.LaneLaws.{first-room}
-use Rattle.tallies.specs.Blocks.{at_once, Below, below_none, below-sized, below-part, below-done}
+use Rattle.lanes.specs.Lists.{part_next}
+use Rattle.lanes.specs.LaneLaws.{first_room}
+use Rattle.tallies.specs.Blocks.{at_once, Below, below_none, below_sized, below_part, below_done}
 use Rattle.counting.proofs.count.Statement.{statement}
 use Rattle.counting.proofs.count.Tie as tie
 
@@ -30,7 +30,7 @@ one-requires c κs =
     let s = c.before.before.before.before.before.before.before.before.before.before in
     let l = c.before.before.before.before.loop in
     let t : c.before.before.before.before.loop.c < s.args.upto = c.before.before.before.loop-test.true in
-    (s.requires.0, s.requires.1, omega (arith, s.requires.2), omega (arith, s.requires.3, l.invariant.1.sums.size), below-sized _ _ _ _ _ _ _ _ l.invariant.1.sums.size l.invariant.1)
+    (s.requires.0, s.requires.1, omega (arith, s.requires.2), omega (arith, s.requires.3, l.invariant.1.sums.size), below_sized _ _ _ _ _ _ _ _ l.invariant.1.sums.size l.invariant.1)
 
 add-c : tie.Need-overflow-add-c invariant-loop decreases-loop invariant-loop2 decreases-loop2
 add-c c = record { fits = omega (arith, c.before.before.before.before.before.before.before.before.before.before.loop-test.true) }
@@ -42,7 +42,7 @@ loop-again : tie.Need-loop-preserved invariant-loop decreases-loop invariant-loo
 loop-again c =
     let l = c.before.before.before.before.before.before.before.before.before.before.before.loop in
     let s = c.before.before.before.before.before.before.before.before.before.before.before.before.before.before.before.before.before in
-    (search rules, below-part _ _ _ _ _ _ _ _ 1 _ _ _ l.invariant.1 (part-next _ _ _ _ (omega (arith, s.requires.2, c.before.before.before.before.before.before.before.before.before.before.loop-test.true)) refl) c.before.before.before.before.before.before.one.ensures)
+    (search rules, below_part _ _ _ _ _ _ _ _ 1 _ _ _ l.invariant.1 (part_next _ _ _ _ (omega (arith, s.requires.2, c.before.before.before.before.before.before.before.before.before.before.loop-test.true)) refl) c.before.before.before.before.before.before.one.ensures)
 
 same_length : tie.Need-same-length invariant-loop decreases-loop invariant-loop2 decreases-loop2
 same_length c = search rules
@@ -54,7 +54,7 @@ same-length-3 : tie.Need-same-length-3 invariant-loop decreases-loop invariant-l
 same-length-3 c = search rules
 
 returns : tie.Need-returns invariant-loop decreases-loop invariant-loop2 decreases-loop2
-returns c = below-done _ _ _ _ _ _ _ _ c.loop-test.false c.before.before.before.before.before.before.before.requires.2 c.before.loop.invariant.1
+returns c = below_done _ _ _ _ _ _ _ _ c.loop-test.false c.before.before.before.before.before.before.before.requires.2 c.before.loop.invariant.1
 
 mul-if2 : tie.Need-overflow-mul-if2 invariant-loop decreases-loop invariant-loop2 decreases-loop2
 mul-if2 c = search rules
@@ -84,12 +84,12 @@ several-requires : tie.Need-several-requires invariant-loop decreases-loop invar
 several-requires c κs =
     let s = c.before.before.before.before.before.before.before.before.before.before.before.before in
     let l = c.before.before.before.before.before.loop2 in
-    (s.requires.0, s.requires.1, c.part.ensures.within, omega (arith, c.part.ensures.near, s.requires.3, s.requires.4, l.invariant.0, l.invariant.1.sums.size, c.before.before.before.before.loop2-test.true), below-sized _ _ _ _ _ _ _ _ l.invariant.1.sums.size l.invariant.1)
+    (s.requires.0, s.requires.1, c.part.ensures.within, omega (arith, c.part.ensures.near, s.requires.3, s.requires.4, l.invariant.0, l.invariant.1.sums.size, c.before.before.before.before.loop2-test.true), below_sized _ _ _ _ _ _ _ _ l.invariant.1.sums.size l.invariant.1)
 
 add-c-2 : tie.Need-overflow-add-c-2 invariant-loop decreases-loop invariant-loop2 decreases-loop2
 add-c-2 c =
     let s = c.before.before.before.before.before.before.before.before.before.before.before.before.before.before.before.before.before.before.before in
-    record { fits = omega (arith, first-room _ _ s.requires.0, s.requires.2, c.before.before.before.before.before.before.before.before.before.before.before.loop2-test.true) }
+    record { fits = omega (arith, first_room _ _ s.requires.0, s.requires.2, c.before.before.before.before.before.before.before.before.before.before.before.loop2-test.true) }
 
 loop2-less : tie.Need-loop2-smaller invariant-loop decreases-loop invariant-loop2 decreases-loop2
 loop2-less c = search rules
@@ -97,7 +97,7 @@ loop2-less c = search rules
 loop2-again : tie.Need-loop2-preserved invariant-loop decreases-loop invariant-loop2 decreases-loop2
 loop2-again c =
     let l = c.before.before.before.before.before.before.before.before.before.before.before.before.loop2 in
-    (search rules, below-part _ _ _ _ _ _ _ _ at_once _ _ _ l.invariant.1 c.before.before.before.before.before.before.before.part.ensures c.before.before.before.before.before.before.several.ensures)
+    (search rules, below_part _ _ _ _ _ _ _ _ at_once _ _ _ l.invariant.1 c.before.before.before.before.before.before.before.part.ensures c.before.before.before.before.before.before.several.ensures)
 
 same-length-7 : tie.Need-same-length-7 invariant-loop decreases-loop invariant-loop2 decreases-loop2
 same-length-7 c = search rules
@@ -109,7 +109,7 @@ same-length-9 : tie.Need-same-length-9 invariant-loop decreases-loop invariant-l
 same-length-9 c = search rules
 
 returns-3 : tie.Need-returns-3 invariant-loop decreases-loop invariant-loop2 decreases-loop2
-returns-3 c = below-done _ _ _ _ _ _ _ _ c.loop2-test.false c.before.before.before.before.before.before.before.before.requires.2 c.before.loop2.invariant.1
+returns-3 c = below_done _ _ _ _ _ _ _ _ c.loop2-test.false c.before.before.before.before.before.before.before.before.requires.2 c.before.loop2.invariant.1
 
 pub count_spec : {M : Type 1} → statement M
 count_spec =

@@ -4,8 +4,8 @@ use Prim.Native.Nat.{◌-◌, ◌*◌, ◌%◌}
 use native.Mathlib.Omega.{arith}
 use mathlib.Core.Path.{◌≡◌, refl}
 use lib.ListN.{length}
-use Rattle.lanes.specs.LaneLaws.{first-room}
-use Rattle.tallies.specs.Blocks.{at_once, Below, below_none, below-sized, below-part, below-done}
+use Rattle.lanes.specs.LaneLaws.{first_room}
+use Rattle.tallies.specs.Blocks.{at_once, Below, below_none, below_sized, below_part, below_done}
 use Rattle.counting.proofs.count_pairs.Statement.{statement}
 use Rattle.counting.proofs.count_pairs.Tie as tie
 
@@ -28,7 +28,7 @@ pairs-requires : tie.Need-pairs-requires invariant-loop decreases-loop
 pairs-requires c κs =
     let s = c.before.before.before.before.before.before.before.before.before.before in
     let l = c.before.before.before.before.before.loop in
-    (s.requires.0, s.requires.1, c.part.ensures.within, omega (arith, c.part.ensures.near, s.requires.4, s.requires.5, l.invariant.0, l.invariant.1.sums.size, c.before.before.before.before.loop-test.true), below-sized _ _ _ _ _ _ _ _ l.invariant.1.sums.size l.invariant.1)
+    (s.requires.0, s.requires.1, c.part.ensures.within, omega (arith, c.part.ensures.near, s.requires.4, s.requires.5, l.invariant.0, l.invariant.1.sums.size, c.before.before.before.before.loop-test.true), below_sized _ _ _ _ _ _ _ _ l.invariant.1.sums.size l.invariant.1)
 
 mul-c : tie.Need-overflow-mul-c invariant-loop decreases-loop
 mul-c c = search rules
@@ -36,7 +36,7 @@ mul-c c = search rules
 add-c : tie.Need-overflow-add-c invariant-loop decreases-loop
 add-c c =
     let s = c.before.before.before.before.before.before.before.before.before.before.before.before.before.before.before.before.before in
-    record { fits = omega (arith, first-room _ _ s.requires.0, s.requires.3, c.before.before.before.before.before.before.before.before.before.before.before.loop-test.true) }
+    record { fits = omega (arith, first_room _ _ s.requires.0, s.requires.3, c.before.before.before.before.before.before.before.before.before.before.before.loop-test.true) }
 
 loop-less : tie.Need-loop-smaller invariant-loop decreases-loop
 loop-less c = search rules
@@ -44,7 +44,7 @@ loop-less c = search rules
 loop-again : tie.Need-loop-preserved invariant-loop decreases-loop
 loop-again c =
     let l = c.before.before.before.before.before.before.before.before.before.before.before.before.loop in
-    (search rules, below-part _ _ _ _ _ _ _ _ (2 * at_once) _ _ _ l.invariant.1 c.before.before.before.before.before.before.before.part.ensures c.before.before.before.before.before.before.pairs.ensures)
+    (search rules, below_part _ _ _ _ _ _ _ _ (2 * at_once) _ _ _ l.invariant.1 c.before.before.before.before.before.before.before.part.ensures c.before.before.before.before.before.before.pairs.ensures)
 
 same_length : tie.Need-same-length invariant-loop decreases-loop
 same_length c = search rules
@@ -56,7 +56,7 @@ same-length-3 : tie.Need-same-length-3 invariant-loop decreases-loop
 same-length-3 c = search rules
 
 returns : tie.Need-returns invariant-loop decreases-loop
-returns c = below-done _ _ _ _ _ _ _ _ c.loop-test.false c.before.before.before.before.before.before.requires.3 c.before.loop.invariant.1
+returns c = below_done _ _ _ _ _ _ _ _ c.loop-test.false c.before.before.before.before.before.before.requires.3 c.before.loop.invariant.1
 
 pub count-pairs-spec : {M : Type 1} → statement M
 count-pairs-spec =

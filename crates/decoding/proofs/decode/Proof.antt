@@ -2,8 +2,8 @@
 use mathlib.Core.Path.{◌≡◌, sym, ◌∙◌}
 use mathlib.Core.Bool.{true}
 use borrow.Author.Tests.{not-true, not-false}
-use Rattle.matrix.specs.Calls.{namesFit}
-use Rattle.decoding.specs.Decides.{RowFound, found, refused-6, names-7, fields-7, ready}
+use Rattle.matrix.specs.Calls.{names_fit}
+use Rattle.decoding.specs.Decides.{RowFound, found, refused_6, names_7, fields_7, ready}
 use borrow.Author.Rules.{rules}
 use Rattle.decoding.proofs.decode.Statement.{statement}
 use Rattle.decoding.proofs.decode.Tie as tie
@@ -18,13 +18,13 @@ enum_told : tie.Need-enum-told
 enum_told c = search rules
 
 returns : tie.Need-returns
-returns c = refused-6 _ _ c.before.before.rule-of.ensures c.enum_told.given.1
+returns c = refused_6 _ _ c.before.before.rule-of.ensures c.enum_told.given.1
 
 names-fit-requires : tie.Need-names-fit-requires
 names-fit-requires c κs = search rules
 
 returns-2 : tie.Need-returns-2
-returns-2 c = names-7 _ _ (found _ c.before.before.before.before.before.rule-of.ensures c.before.before.before.ruled.given.1) (sym c.before.names-fit.ensures ∙ not-true _ c.if1.true)
+returns-2 c = names_7 _ _ (found _ c.before.before.before.before.before.rule-of.ensures c.before.before.before.ruled.given.1) (sym c.before.names-fit.ensures ∙ not-true _ c.if1.true)
 
 basics-of-requires : tie.Need-basics-of-requires
 basics-of-requires c κs = search rules
@@ -36,13 +36,13 @@ fields-fit-requires c κs = search rules
 row : (c : tie.After-basics-of) → RowFound c.before.before.before.before.before.before.before.args.c c.before.before.before.before.ruled.given.0.0
 row c = found _ c.before.before.before.before.before.before.rule-of.ensures c.before.before.before.before.ruled.given.1
 
-names : (c : tie.After-basics-of) → namesFit c.before.before.before.before.before.before.before.args.f c.before.before.before.before.before.before.before.args.c ≡ true
+names : (c : tie.After-basics-of) → names_fit c.before.before.before.before.before.before.before.args.f c.before.before.before.before.before.before.before.args.c ≡ true
 names c = sym c.before.before.names-fit.ensures ∙ not-false _ c.before.if1.false
 
 returns-3 : tie.Need-returns-3
 returns-3 c =
     let z = c.before.before in
-    fields-7 _ _ (row z) (names z) z.basics-of.ensures (sym c.before.fields_fit.ensures ∙ not-true _ c.if2.true)
+    fields_7 _ _ (row z) (names z) z.basics-of.ensures (sym c.before.fields_fit.ensures ∙ not-true _ c.if2.true)
 
 name-of-requires : tie.Need-name-of-requires
 name-of-requires c κs = search rules

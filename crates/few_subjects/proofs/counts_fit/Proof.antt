@@ -3,20 +3,20 @@ use borrow.Author.Rules.{rules}
 use Prim.Native.Nat.{ℕ, ◌-◌, ◌≤◌}
 use mathlib.Core.Path.{◌≡◌, ◌∙◌, ap}
 use lib.Bits.{bit_or}
-use Rattle.lanes.specs.Lanes.{merged, faultOf}
-use Rattle.lanes.specs.Zeros.{merged-none, merged-more, merged-done, no-fault}
-use Rattle.few_subjects.specs.Counts.{fewTest, few-test}
+use Rattle.lanes.specs.Lanes.{merged, fault_of}
+use Rattle.lanes.specs.Zeros.{merged_none, merged_more, merged_done, no_fault}
+use Rattle.few_subjects.specs.Counts.{few_test, few_test_lem}
 use Rattle.few_subjects.proofs.counts_fit.Statement.{statement}
 use Rattle.few_subjects.proofs.counts_fit.Tie as tie
 
 abbrev invariant-loop : tie.invariant-loop
-invariant-loop low odd n wrong₀ s₀ wrong s = (s ≤ n) × (wrong ≡ merged s (λ i. faultOf (fewTest low odd i)))
+invariant-loop low odd n wrong₀ s₀ wrong s = (s ≤ n) × (wrong ≡ merged s (λ i. fault_of (few_test low odd i)))
 
 abbrev decreases-loop : tie.decreases-loop
 decreases-loop low odd n wrong₀ s₀ wrong s = n - s
 
 loop-holds : tie.Need-loop-init invariant-loop decreases-loop
-loop-holds c = (search rules, merged-none _)
+loop-holds c = (search rules, merged_none _)
 
 mul-tally : tie.Need-overflow-mul-tally invariant-loop decreases-loop
 mul-tally c = search rules
@@ -53,12 +53,12 @@ loop-again c =
     let l = c.before.before.before.before.before.loop in
     let a = c.before.before.before.before.before.before.args in (
       search rules,
-      ap (λ (x : ℕ). bit_or l.wrong x) (c.fault.ensures ∙ ap faultOf (few-test a.low.now a.odd.now l.s _ c.before.counts.ensures))
-          ∙ merged-more l.s (λ i. faultOf (fewTest a.low.now a.odd.now i)) l.wrong l.invariant.1,
+      ap (λ (x : ℕ). bit_or l.wrong x) (c.fault.ensures ∙ ap fault_of (few_test_lem a.low.now a.odd.now l.s _ c.before.counts.ensures))
+          ∙ merged_more l.s (λ i. fault_of (few_test a.low.now a.odd.now i)) l.wrong l.invariant.1,
     )
 
 returns : tie.Need-returns invariant-loop decreases-loop
-returns c = merged-done _ _ _ _ c.before.loop.invariant.0 c.loop-test.false c.before.loop.invariant.1 ∙ no-fault _ _
+returns c = merged_done _ _ _ _ c.before.loop.invariant.0 c.loop-test.false c.before.loop.invariant.1 ∙ no_fault _ _
 
 pub counts-fit-spec : {M : Type 1} → statement M
 counts-fit-spec =

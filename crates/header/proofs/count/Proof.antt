@@ -1,5 +1,5 @@
 -- `header::count` meets its contract. The sum of four bytes fits, each being below 256.
-use Rattle.header.specs.Headed.{count-bytes}
+use Rattle.header.specs.Headed.{count_bytes}
 use mathlib.Core.Path.{sym}
 use native.Mathlib.Omega.{arith}
 use borrow.Author.Rules.{rules}
@@ -49,7 +49,7 @@ add-result-3 : tie.Need-overflow-add-result-3
 add-result-3 c = record { fits = omega (arith, c.shared-slice-known4.given 1, c.shared-slice-known4.given 2, c.shared-slice-known4.given 3, c.shared-slice-known4.given 4) }
 
 returns : tie.Need-returns
-returns c = sym (count-bytes _)
+returns c = sym (count_bytes _)
 
 pub count_spec : {M : Type 1} → statement M
 count_spec =

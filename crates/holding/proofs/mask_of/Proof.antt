@@ -5,15 +5,15 @@ use lib.Bits.{bit_or}
 use lib.Dec.{ltb}
 use mir.Val.{bool_byte}
 use Rattle.laws.specs.Numbers.{digit}
-use Rattle.codec.specs.Bits.{wordBits, one_shifted}
+use Rattle.codec.specs.Bits.{word_bits, one_shifted}
 use Rattle.holding.specs.Mask.{mask_of}
-use Rattle.holding.specs.MaskHolds.{starred-below}
+use Rattle.holding.specs.MaskHolds.{starred_below}
 use borrow.Author.Rules.{rules}
 use Rattle.holding.proofs.mask_of.Statement.{statement}
 use Rattle.holding.proofs.mask_of.Tie as tie
 
-starred-small : (c : ℕ) → c < wordBits → bit_or c (bool_byte (ltb 1 c)) < wordBits
-starred-small c h = subst (λ (d : ℕ). bit_or c d < wordBits) (digit (ltb 1 c)) (starred-below 8 c h)
+starred-small : (c : ℕ) → c < word_bits → bit_or c (bool_byte (ltb 1 c)) < word_bits
+starred-small c h = subst (λ (d : ℕ). bit_or c d < word_bits) (digit (ltb 1 c)) (starred_below 8 c h)
 
 cast-basic : tie.Need-overflow-cast-basic
 cast-basic c = search rules

@@ -1,5 +1,5 @@
 -- `lists::count_right` meets its contract.
-use Rattle.lists.specs.Forms.{wrong-length, too_long, no-multiple, by_lengths}
+use Rattle.lists.specs.Forms.{wrong_length, too_long, no_multiple, by_lengths}
 use borrow.Author.Rules.{rules}
 use Rattle.lists.proofs.count_right.Statement.{statement}
 use Rattle.lists.proofs.count_right.Tie as tie
@@ -8,13 +8,13 @@ add-if1 : tie.Need-overflow-add-if1
 add-if1 c = search rules
 
 returns : tie.Need-returns
-returns c = wrong-length _ _ c.if1.true
+returns c = wrong_length _ _ c.if1.true
 
 returns-2 : tie.Need-returns-2
 returns-2 c = too_long _ _ c.before.if1.false c.if2.true
 
 returns-3 : tie.Need-returns-3
-returns-3 c = no-multiple _ _ c.before.before.if1.false c.before.if2.false c.if3.true
+returns-3 c = no_multiple _ _ c.before.before.if1.false c.before.if2.false c.if3.true
 
 lengths-right-requires : tie.Need-lengths-right-requires
 lengths-right-requires c κs = search rules

@@ -4,12 +4,12 @@ use Prim.Native.Nat.{ℕ, ◌-◌, ◌≤◌}
 use native.Mathlib.Omega.{arith}
 use mathlib.Core.Path.{◌≡◌, sym, subst}
 use mathlib.Core.Bool.{true}
-use Rattle.lists.specs.Forms.{lengthsRight, lengths_none, lengths-more, lengths-wrong}
+use Rattle.lists.specs.Forms.{lengths_right, lengths_none, lengths_more, lengths_wrong}
 use Rattle.lists.proofs.lengths_right.Statement.{statement}
 use Rattle.lists.proofs.lengths_right.Tie as tie
 
 abbrev invariant-loop : tie.invariant-loop
-invariant-loop l m j₀ j = (j ≤ m) × (lengthsRight l j ≡ true)
+invariant-loop l m j₀ j = (j ≤ m) × (lengths_right l j ≡ true)
 
 abbrev decreases-loop : tie.decreases-loop
 decreases-loop l m j₀ j = m - j
@@ -27,7 +27,7 @@ shared-slice-read-if1 : tie.Need-shared-slice-read-if1 invariant-loop decreases-
 shared-slice-read-if1 c = omega arith
 
 returns : tie.Need-returns invariant-loop decreases-loop
-returns c = lengths-wrong _ _ _ c.before.before.loop-test.true c.if1.true
+returns c = lengths_wrong _ _ _ c.before.before.loop-test.true c.if1.true
 
 add-j : tie.Need-overflow-add-j invariant-loop decreases-loop
 add-j c = search rules
@@ -36,12 +36,12 @@ loop-less : tie.Need-loop-smaller invariant-loop decreases-loop
 loop-less c = search rules
 
 loop-again : tie.Need-loop-preserved invariant-loop decreases-loop
-loop-again c = (search rules, lengths-more _ _ c.before.before.before.loop.invariant.1 c.if1.false)
+loop-again c = (search rules, lengths_more _ _ c.before.before.before.loop.invariant.1 c.if1.false)
 
 returns-2 : tie.Need-returns-2 invariant-loop decreases-loop
 returns-2 c =
     let q : c.before.loop.j ≡ c.before.before.args.m = omega arith in
-    sym (subst (λ (m : ℕ). lengthsRight c.before.before.args.l.now m ≡ true) q c.before.loop.invariant.1)
+    sym (subst (λ (m : ℕ). lengths_right c.before.before.args.l.now m ≡ true) q c.before.loop.invariant.1)
 
 pub lengths-right-spec : {M : Type 1} → statement M
 lengths-right-spec =

@@ -1,7 +1,7 @@
 -- `lists::well_formed` meets its contract.
 use Prim.Native.Nat.{ℕ, ◌^◌, ◌<◌}
 use mathlib.Core.Path.{sym, subst}
-use Rattle.lists.specs.Forms.{too_short, other-version, by_count, four_below}
+use Rattle.lists.specs.Forms.{too_short, other_version, by_count, four_below}
 use borrow.Author.Rules.{rules}
 use Rattle.lists.proofs.well_formed.Statement.{statement}
 use Rattle.lists.proofs.well_formed.Tie as tie
@@ -13,7 +13,7 @@ shared-slice-read-if2 : tie.Need-shared-slice-read-if2
 shared-slice-read-if2 c = search rules
 
 returns-2 : tie.Need-returns-2
-returns-2 c = other-version _ c.before.before.if1.false c.if2.true
+returns-2 c = other_version _ c.before.before.if1.false c.if2.true
 
 count-requires : tie.Need-count-requires
 count-requires c κs = search rules
@@ -23,7 +23,7 @@ count-right-requires c κs =
     subst (λ (m : ℕ). m < 256 ^ 4) (sym c.count.ensures) (four_below _ 1 (record { octet = λ j. (c.before.before.before.before.shared-slice-known.given j).fits }))
 
 returns-3 : tie.Need-returns-3
-returns-3 c = by_count _ c.before.before.before.before.if1.false c.before.before.if2.false c.before.count.ensures c.count-right.ensures
+returns-3 c = by_count _ c.before.before.before.before.if1.false c.before.before.if2.false c.before.count.ensures c.count_right.ensures
 
 pub well-formed-spec : {M : Type 1} → statement M
 well-formed-spec =

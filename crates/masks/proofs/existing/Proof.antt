@@ -3,9 +3,9 @@ use borrow.Author.Rules.{rules}
 use Prim.Native.Nat.{◌-◌, ◌≤◌, ◌<◌}
 use native.Mathlib.Omega.{arith}
 use mathlib.Core.Logic.{⊎_elim}
-use Rattle.cells.specs.Station.{right-shape}
-use Rattle.masks.specs.Marks.{maskBits}
-use Rattle.masks.specs.Existing.{Upto, upto-none, room, upto-more, upto-same, upto_all}
+use Rattle.cells.specs.Station.{right_shape}
+use Rattle.masks.specs.Marks.{mask_bits}
+use Rattle.masks.specs.Existing.{Upto, upto_none, room, upto_more, upto_same, upto_all}
 use Rattle.masks.proofs.existing.Statement.{statement}
 use Rattle.masks.proofs.existing.Tie as tie
 
@@ -16,13 +16,13 @@ abbrev decreases-loop : tie.decreases-loop
 decreases-loop b f n m₀ s₀ m s = n - s
 
 loop-holds : tie.Need-loop-init invariant-loop decreases-loop
-loop-holds c = (search rules, upto-none c.before.args.b.now)
+loop-holds c = (search rules, upto_none c.before.args.b.now)
 
 subject-exists-requires : tie.Need-subject-exists-requires invariant-loop decreases-loop
 subject-exists-requires c κs = search rules
 
-few : (c : tie.Then1 invariant-loop decreases-loop) → c.before.before.before.loop.s < maskBits
-few c = omega (arith, (right-shape c.before.before.before.before.before.requires).high)
+few : (c : tie.Then1 invariant-loop decreases-loop) → c.before.before.before.loop.s < mask_bits
+few c = omega (arith, (right_shape c.before.before.before.before.before.requires).high)
 
 shl-m : tie.Need-overflow-shl-m invariant-loop decreases-loop
 shl-m c = few c
@@ -42,8 +42,8 @@ loop-again c =
     let l = c.before.before.before.loop in
     let t = c.before.subject-exists.ensures in (
       search rules,
-      ⊎_elim (λ w. upto-more l.invariant.1 (omega (arith, (right-shape q).high)) t w.0.taken w.1)
-          (λ w. upto-same l.invariant.1 t w.0.left w.1) c.if1.branch,
+      ⊎_elim (λ w. upto_more l.invariant.1 (omega (arith, (right_shape q).high)) t w.0.taken w.1)
+          (λ w. upto_same l.invariant.1 t w.0.left w.1) c.if1.branch,
     )
 
 returns : tie.Need-returns invariant-loop decreases-loop

@@ -1,6 +1,6 @@
 -- `masks::lowest_untrusted` meets its contract: the lowest bit of the untrusted existing subjects, or none where the set is empty.
 use borrow.Author.Rules.{rules}
-use Rattle.masks.specs.Untrusted.{none-untrusted, lowest-untrusted}
+use Rattle.masks.specs.Untrusted.{none_untrusted, lowest_untrusted}
 use Rattle.masks.proofs.lowest_untrusted.Statement.{statement}
 use Rattle.masks.proofs.lowest_untrusted.Tie as tie
 
@@ -15,7 +15,7 @@ size-requires c κs = search rules
 
 returns : tie.Need-returns
 returns c =
-    none-untrusted c.before.before.before.before.before.requires c.before.before.before.existing.ensures
+    none_untrusted c.before.before.before.before.before.requires c.before.before.before.existing.ensures
     c.before.before.untrusted.ensures c.before.size.ensures c.if1.true
 
 lowest-requires : tie.Need-lowest-requires
@@ -23,7 +23,7 @@ lowest-requires c κs = search rules
 
 returns-2 : tie.Need-returns-2
 returns-2 c =
-    lowest-untrusted c.before.before.before.before.before.before.requires c.before.before.before.before.existing.ensures
+    lowest_untrusted c.before.before.before.before.before.before.requires c.before.before.before.before.existing.ensures
     c.before.before.before.untrusted.ensures c.before.before.size.ensures c.before.if1.false c.lowest.ensures
 
 pub lowest-untrusted-spec : {M : Type 1} → statement M

@@ -5,37 +5,37 @@ use Prim.Native.Nat.{ℕ, ◌+◌, ◌*◌, ◌-◌, ◌≤◌, ◌<◌}
 use native.Mathlib.Omega.{arith}
 use mathlib.Core.Path.{◌≡◌, refl, ◌∙◌, ap}
 use lib.ListN.{length}
-use Rattle.lanes.specs.Lanes.{rowPlace, laneIn, laneAt}
-use Rattle.lanes.specs.LaneLaws.{first-place, first-room, next_place, row_room}
-use Rattle.merging.specs.Rows.{Joined, joined-none, joined-first, joined_step, joined-row, joined-all}
+use Rattle.lanes.specs.Lanes.{row_place, lane_in, lane_at}
+use Rattle.lanes.specs.LaneLaws.{first_place, first_room, next_place, row_room}
+use Rattle.merging.specs.Rows.{Joined, joined_none, joined_first, joined_step, joined_row, joined_all}
 use Rattle.merging.proofs.merge.Statement.{statement}
 use Rattle.merging.proofs.merge.Tie as tie
 
 abbrev invariant-loop2 : tie.invariant-loop2
-invariant-loop2 seen₀ b m c k rows at r j₀ seen j = Joined (length seen₀) k (λ v x. laneAt b m v (c + x)) r j seen
+invariant-loop2 seen₀ b m c k rows at r j₀ seen j = Joined (length seen₀) k (λ v x. lane_at b m v (c + x)) r j seen
 
 abbrev decreases-loop2 : tie.decreases-loop2
 decreases-loop2 seen₀ b m c k rows at r j₀ seen j = k - j
 
 abbrev invariant-loop : tie.invariant-loop
-invariant-loop seen₀ b m c k rows at₀ r₀ seen at r = (r ≤ rows) × (at ≡ rowPlace m r + 2 * c) × Joined (length seen₀) k (λ v x. laneAt b m v (c + x)) r 0 seen
+invariant-loop seen₀ b m c k rows at₀ r₀ seen at r = (r ≤ rows) × (at ≡ row_place m r + 2 * c) × Joined (length seen₀) k (λ v x. lane_at b m v (c + x)) r 0 seen
 
 abbrev decreases-loop : tie.decreases-loop
 decreases-loop seen₀ b m c k rows at₀ r₀ seen at r = rows - r
 
 mul_at : tie.Need-overflow-mul-at invariant-loop2 decreases-loop2 invariant-loop decreases-loop
-mul_at c = let s = c.before.before in record { fits = omega (arith, s.requires.1, first-room _ s.args.m s.requires.0) }
+mul_at c = let s = c.before.before in record { fits = omega (arith, s.requires.1, first_room _ s.args.m s.requires.0) }
 
 add_at : tie.Need-overflow-add-at invariant-loop2 decreases-loop2 invariant-loop decreases-loop
-add_at c = let s = c.before.before.before in record { fits = omega (arith, s.requires.1, first-room _ s.args.m s.requires.0) }
+add_at c = let s = c.before.before.before in record { fits = omega (arith, s.requires.1, first_room _ s.args.m s.requires.0) }
 
 loop-holds : tie.Need-loop-init invariant-loop2 decreases-loop2 invariant-loop decreases-loop
 loop-holds c =
     let s = c.before.before.before in
-    (search rules, ap (λ (i : ℕ). i + 2 * s.args.c) (first-place s.args.m), joined-first _ _ _ _ refl s.requires.2 s.requires.3)
+    (search rules, ap (λ (i : ℕ). i + 2 * s.args.c) (first_place s.args.m), joined_first _ _ _ _ refl s.requires.2 s.requires.3)
 
 loop2-holds : tie.Need-loop2-init invariant-loop2 decreases-loop2 invariant-loop decreases-loop
-loop2-holds c = let o = c.before.loop.invariant in joined-none _ _ _ _ _ refl o.2.left
+loop2-holds c = let o = c.before.loop.invariant in joined_none _ _ _ _ _ refl o.2.left
 
 mul-seen : tie.Need-overflow-mul-seen invariant-loop2 decreases-loop2 invariant-loop decreases-loop
 mul-seen c = search rules
@@ -78,12 +78,12 @@ loop2-again c =
     let o = c.before.before.before.before.before.loop in
     let l = c.before.before.before.loop2 in
     joined_step _ _ _ _ _ _ _ l.invariant c.before.before.loop2-test.true (omega (arith, o.invariant.2.size, s.requires.2))
-    (c.lane.ensures.0 ∙ ap (λ (i : ℕ). laneIn s.args.b.now i) (omega (arith, o.invariant.1)))
+    (c.lane.ensures.0 ∙ ap (λ (i : ℕ). lane_in s.args.b.now i) (omega (arith, o.invariant.1)))
 
 mul-at-2 : tie.Need-overflow-mul-at-2 invariant-loop2 decreases-loop2 invariant-loop decreases-loop
 mul-at-2 c =
     let s = c.before.before.before.before.before.before.before.before in
-    record { fits = omega (arith, first-room _ s.args.m s.requires.0) }
+    record { fits = omega (arith, first_room _ s.args.m s.requires.0) }
 
 add-at-2 : tie.Need-overflow-add-at-2 invariant-loop2 decreases-loop2 invariant-loop decreases-loop
 add-at-2 c =
@@ -102,8 +102,8 @@ loop-again c =
     let s = c.before.before.before.before.before.before.before.before in
     let o = c.before.before.before.before.loop in (
       search rules,
-      omega (arith, o.invariant.1, next_place s.args.m o.r (rowPlace s.args.m o.r) refl),
-      joined-row _ _ _ _ _ _ _ o.invariant.2.size c.before.before.loop2.invariant c.before.loop2-test.false,
+      omega (arith, o.invariant.1, next_place s.args.m o.r (row_place s.args.m o.r) refl),
+      joined_row _ _ _ _ _ _ _ o.invariant.2.size c.before.before.loop2.invariant c.before.loop2-test.false,
     )
 
 same_length : tie.Need-same-length invariant-loop2 decreases-loop2 invariant-loop decreases-loop
@@ -112,7 +112,7 @@ same_length c = search rules
 returns : tie.Need-returns invariant-loop2 decreases-loop2 invariant-loop decreases-loop
 returns c =
     let o = c.before.loop in
-    record { size = o.invariant.2.size; value = joined-all _ _ _ _ _ _ o.invariant.0 c.loop-test.false o.invariant.2 }
+    record { size = o.invariant.2.size; value = joined_all _ _ _ _ _ _ o.invariant.0 c.loop-test.false o.invariant.2 }
 
 pub merge-spec : {M : Type 1} → statement M
 merge-spec =

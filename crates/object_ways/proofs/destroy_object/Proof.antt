@@ -2,11 +2,11 @@
 use borrow.Author.Tests.{not-false}
 use Rattle.matrix.specs.declared.Name.{Name}
 use Rattle.matrix.specs.declared.Kind.TheVariants.{PlainName}
-use Rattle.matrix.specs.Tests.{kindFits}
+use Rattle.matrix.specs.Tests.{kind_fits}
 use Rattle.matrix.specs.Reading.{state_of}
-use Rattle.short_ways.specs.Ready.{row-i, column-o}
+use Rattle.short_ways.specs.Ready.{row_i, column_o}
 use Rattle.short_ways.specs.Allowed.{left_alone, made, at_name}
-use Rattle.object_ways.specs.Objects.{own_in, answered-destroy}
+use Rattle.object_ways.specs.Objects.{own_in, answered_destroy}
 use borrow.Author.Rules.{rules}
 use Rattle.object_ways.proofs.destroy_object.Statement.{statement}
 use Rattle.object_ways.proofs.destroy_object.Tie as tie
@@ -24,7 +24,7 @@ returns-2 : tie.Need-returns-2
 returns-2 c = left_alone
 
 has-bit-requires : tie.Need-has-bit-requires
-has-bit-requires c κs = let z = c.before.before.before.before.before.before.before in own_in z.args.c z.requires.0 (row-i z.args.f z.args.c z.requires.0.names) c.before.before.before.before.before.name_of.ensures
+has-bit-requires c κs = let z = c.before.before.before.before.before.before.before in own_in z.args.c z.requires.0 (row_i z.args.f z.args.c z.requires.0.names) c.before.before.before.before.before.name_of.ensures
 
 same_length : tie.Need-same-length
 same_length c = search rules
@@ -33,7 +33,7 @@ returns-3 : tie.Need-returns-3
 returns-3 c = left_alone
 
 clear-column-requires : tie.Need-clear-column-requires
-clear-column-requires c κs = let z = c.before.before.before.before.before.before.before.before.before.before in (z.requires.0.station, column-o z.args.f z.args.c z.requires.0.names)
+clear-column-requires c κs = let z = c.before.before.before.before.before.before.before.before.before.before in (z.requires.0.station, column_o z.args.f z.args.c z.requires.0.names)
 
 same-length-2 : tie.Need-same-length-2
 same-length-2 c = search rules
@@ -43,7 +43,7 @@ returns-4 c =
     let z = c.before.before.before.before.before.before.before.before.before.before.before.before.before in
     let x = c.before.before.before.before.before.before.before.before.before.before.before.name_of.ensures in
     made
-    (answered-destroy z.args.c z.requires.0 (at_name (kindFits PlainName) x c.before.before.before.before.before.before.before.before.kind-fits.ensures (not-false _ c.before.before.before.before.before.before.before.if2.false)) z.requires.1 c.before.before.before.before.before.before.before.before.before.if1.false
+    (answered_destroy z.args.c z.requires.0 (at_name (kind_fits PlainName) x c.before.before.before.before.before.before.before.before.kind-fits.ensures (not-false _ c.before.before.before.before.before.before.before.if2.false)) z.requires.1 c.before.before.before.before.before.before.before.before.before.if1.false
     (at_name (λ (x : Name). (state_of z.args.b.now).owns z.args.c.i x) x c.before.before.before.before.before.has-bit.ensures (not-false _ c.before.before.before.before.if3.false)) c.before.before.clear-column.ensures)
 
 pub destroy-object-spec : {M : Type 1} → statement M

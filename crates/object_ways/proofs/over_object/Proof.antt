@@ -2,7 +2,7 @@
 use Rattle.short_ways.specs.Allowed.{left_alone}
 use mathlib.Core.Path.{sym, ◌∙◌}
 use borrow.Author.Tests.{not-false}
-use Rattle.cells.specs.Station.{right-shape}
+use Rattle.cells.specs.Station.{right_shape}
 use Rattle.short_ways.specs.WithoutBasic.{WithoutBasic}
 use borrow.Author.Rules.{rules}
 use Rattle.object_ways.proofs.over_object.Statement.{statement}
@@ -12,7 +12,7 @@ returns : tie.Need-returns
 returns c = left_alone
 
 names-fit-requires : tie.Need-names-fit-requires
-names-fit-requires c κs = right-shape c.before.before.before.requires.0
+names-fit-requires c κs = right_shape c.before.before.before.requires.0
 
 returns-2 : tie.Need-returns-2
 returns-2 c = left_alone
@@ -48,7 +48,7 @@ same-length-3 : tie.Need-same-length-3
 same-length-3 c = search rules
 
 returns-5 : tie.Need-returns-5
-returns-5 c = c.before.before.create-object.ensures
+returns-5 c = c.before.before.create_object.ensures
 
 destroy-object-requires : tie.Need-destroy-object-requires
 destroy-object-requires c κs = (without-basic c.before.before.before.before.before.before.before.before.before, c.before.if6.true)
@@ -57,7 +57,7 @@ same-length-4 : tie.Need-same-length-4
 same-length-4 c = search rules
 
 returns-6 : tie.Need-returns-6
-returns-6 c = c.before.before.destroy-object.ensures
+returns-6 c = c.before.before.destroy_object.ensures
 
 returns-7 : tie.Need-returns-7
 returns-7 c = left_alone

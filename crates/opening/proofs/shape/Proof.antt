@@ -1,7 +1,7 @@
 -- `opening::shape` meets its contract.
 use borrow.Author.Rules.{rules}
 use mathlib.Core.Path.{◌∙◌}
-use Rattle.matrix.specs.Shape.{shape_of, shapeIn}
+use Rattle.matrix.specs.Shape.{shape_of, shape_in}
 use Rattle.opening.proofs.shape.Statement.{statement}
 use Rattle.opening.proofs.shape.Tie as tie
 
@@ -19,7 +19,7 @@ shape-in-requires c κs = search rules
 
 returns : tie.Need-returns
 unfolding shape_of
-returns c = c.shape-in.ensures ∙ (λ i. shapeIn (c.before.before.before.byte.ensures i) (c.before.before.byte2.ensures i) (c.before.byte3.ensures i))
+returns c = c.shape-in.ensures ∙ (λ i. shape_in (c.before.before.before.byte.ensures i) (c.before.before.byte2.ensures i) (c.before.byte3.ensures i))
 
 pub shape-spec : {M : Type 1} → statement M
 shape-spec =

@@ -4,18 +4,18 @@ use native.Mathlib.Omega.{arith}
 use mathlib.Core.Path.{◌∙◌, ap}
 use borrow.Author.Rules.{rules}
 use Rattle.matrix.specs.Shape.{shape_of}
-use Rattle.opening.specs.Opened.{long-enough, width_read}
+use Rattle.opening.specs.Opened.{long_enough, width_read}
 use Rattle.opening.proofs.valid_shape.Statement.{statement}
 use Rattle.opening.proofs.valid_shape.Tie as tie
 
 byte-requires : tie.Need-byte-requires
-byte-requires c κs = omega (arith, long-enough _ c.before.requires)
+byte-requires c κs = omega (arith, long_enough _ c.before.requires)
 
 byte-requires-2 : tie.Need-byte-requires-2
-byte-requires-2 c κs = omega (arith, long-enough _ c.before.before.requires)
+byte-requires-2 c κs = omega (arith, long_enough _ c.before.before.requires)
 
 byte-requires-3 : tie.Need-byte-requires-3
-byte-requires-3 c κs = omega (arith, long-enough _ c.before.before.before.requires)
+byte-requires-3 c κs = omega (arith, long_enough _ c.before.before.before.requires)
 
 mul-t5 : tie.Need-overflow-mul-t5
 mul-t5 c =

@@ -4,7 +4,7 @@ use Prim.Native.Nat.{◌-◌, ◌≤◌}
 use native.Mathlib.Omega.{arith}
 use mathlib.Core.Path.{refl}
 use lib.ListN.{get_or}
-use Rattle.lanes.specs.Lists.{Stored, stored-none, stored-step, stored-done}
+use Rattle.lanes.specs.Lists.{Stored, stored_none, stored_step, stored_done}
 use Rattle.owner_table.proofs.double.Statement.{statement}
 use Rattle.owner_table.proofs.double.Tie as tie
 
@@ -15,7 +15,7 @@ abbrev decreases-loop : tie.decreases-loop
 decreases-loop t u₀ n s₀ u s = n - s
 
 loop-holds : tie.Need-loop-init invariant-loop decreases-loop
-loop-holds c = (search rules, stored-none _ _)
+loop-holds c = (search rules, stored_none _ _)
 
 element-copy-out-u : tie.Need-element-copy-out-u invariant-loop decreases-loop
 element-copy-out-u c = search rules
@@ -38,10 +38,10 @@ loop-less c = search rules
 loop-again : tie.Need-loop-preserved invariant-loop decreases-loop
 loop-again c =
     let l = c.before.before.before.loop in
-    (search rules, stored-step _ _ _ _ _ l.invariant.1 (search rules) refl)
+    (search rules, stored_step _ _ _ _ _ l.invariant.1 (search rules) refl)
 
 returns : tie.Need-returns invariant-loop decreases-loop
-returns c = stored-done _ _ _ _ _ c.before.loop.invariant.0 c.loop-test.false c.before.loop.invariant.1
+returns c = stored_done _ _ _ _ _ c.before.loop.invariant.0 c.loop-test.false c.before.loop.invariant.1
 
 pub double-spec : {M : Type 1} → statement M
 double-spec =

@@ -4,14 +4,14 @@ use Prim.Native.Nat.{ℕ, ◌+◌, ◌*◌, ◌-◌, ◌≤◌}
 use native.Mathlib.Omega.{arith}
 use mathlib.Core.Path.{◌≡◌, refl, ap}
 use lib.ListN.{length}
-use Rattle.lanes.specs.Lanes.{rowBytes, rowPlace}
-use Rattle.lanes.specs.LaneLaws.{first-place, first-room, next_place, row_room}
-use Rattle.pairs.specs.Pairs.{lower, upper, unit_of, PairRoom, Pairs, pairs-none, pairs-room, pairs_next, pairs-done, pairs-count, pairs-filling}
+use Rattle.lanes.specs.Lanes.{row_bytes, row_place}
+use Rattle.lanes.specs.LaneLaws.{first_place, first_room, next_place, row_room}
+use Rattle.pairs.specs.Pairs.{lower, upper, unit_of, PairRoom, Pairs, pairs_none, pairs_room, pairs_next, pairs_done, pairs_count, pairs_filling}
 use Rattle.pairs.proofs.pairs.Statement.{statement}
 use Rattle.pairs.proofs.pairs.Tie as tie
 
 abbrev invariant-loop : tie.invariant-loop
-invariant-loop tally odd marks b m c rows low₀ parity₀ since₀ at₀ r₀ low parity since at r = (r ≤ rows) × (at ≡ rowPlace m r + 2 * c) × Pairs b m c r low parity since
+invariant-loop tally odd marks b m c rows low₀ parity₀ since₀ at₀ r₀ low parity since at r = (r ≤ rows) × (at ≡ row_place m r + 2 * c) × Pairs b m c r low parity since
 
 abbrev decreases-loop : tie.decreases-loop
 decreases-loop tally odd marks b m c rows low₀ parity₀ since₀ at₀ r₀ low parity since at r = rows - r
@@ -24,11 +24,11 @@ room : (c : tie.After-since invariant-loop decreases-loop) →
 room c =
     let s = c.before.before.before.before.before.before.before.before.before.before in
     let l = c.before.before.before.before.loop in
-    pairs-room _ _ _ _ _ _ _ _ l.invariant.2 l.invariant.1 s.requires.0 s.requires.1 c.before.before.before.loop-test.true s.requires.2
+    pairs_room _ _ _ _ _ _ _ _ l.invariant.2 l.invariant.1 s.requires.0 s.requires.1 c.before.before.before.loop-test.true s.requires.2
 
 inside : (c : tie.After-struct-known2 invariant-loop decreases-loop) →
     let a = c.before.before.before.before.before.before.before.before.before.before.before.before.args in
-    rowPlace a.m c.before.before.before.before.before.before.loop.r + rowBytes a.m ≤ length a.b.now
+    row_place a.m c.before.before.before.before.before.before.loop.r + row_bytes a.m ≤ length a.b.now
 inside c = row_room _ _ _ c.before.before.before.before.before.before.before.before.before.before.before.before.requires.0 c.before.before.before.before.before.loop-test.true
 
 -- from the rows' end: the function's start, and what the halves count of all rows
@@ -39,18 +39,18 @@ counted : (c : tie.After-loop invariant-loop decreases-loop) →
     let a = (start c).args in
     let l = c.before.loop in
     Pairs a.b.now a.m a.c a.m.rows l.low l.parity l.since
-counted c = let l = c.before.loop in pairs-done _ _ _ _ _ _ _ _ l.invariant.0 c.loop-test.false l.invariant.2
+counted c = let l = c.before.loop in pairs_done _ _ _ _ _ _ _ _ l.invariant.0 c.loop-test.false l.invariant.2
 
 mul_at : tie.Need-overflow-mul-at invariant-loop decreases-loop
-mul_at c = record { fits = omega (arith, first-room _ _ c.before.before.before.before.requires.0) }
+mul_at c = record { fits = omega (arith, first_room _ _ c.before.before.before.before.requires.0) }
 
 add_at : tie.Need-overflow-add-at invariant-loop decreases-loop
-add_at c = record { fits = omega (arith, first-room _ _ c.before.before.before.before.before.requires.0) }
+add_at c = record { fits = omega (arith, first_room _ _ c.before.before.before.before.before.requires.0) }
 
 loop-holds : tie.Need-loop-init invariant-loop decreases-loop
 loop-holds c =
     let a = c.before.before.before.before.before.args in
-    (search rules, ap (λ (i : ℕ). i + 2 * a.c) (first-place a.m), pairs-none _ _ _)
+    (search rules, ap (λ (i : ℕ). i + 2 * a.c) (first_place a.m), pairs_none _ _ _)
 
 row-of-pairs-requires : tie.Need-row-of-pairs-requires invariant-loop decreases-loop
 row-of-pairs-requires c κs = room c
@@ -72,7 +72,7 @@ loop-again c =
     let l = c.before.before.before.before.before.before.loop in
     let m = c.before.before.before.before.before.before.before.before.before.before.before.before.args.m in (
       search rules,
-      omega (arith, next_place m l.r (rowPlace m l.r) refl),
+      omega (arith, next_place m l.r (row_place m l.r) refl),
       pairs_next _ _ _ _ _ _ _ _ l.invariant.2 l.invariant.1 (room c.before.before) _ _ _ c.before.row-of-pairs.ensures,
     )
 
@@ -99,17 +99,17 @@ unfolding unit_of
 put-places-requires c κs =
     let e = c.before.before.before.before.before.before.before.before.before.before.before.before.before.before.before.before.before.before.before.before.before.before in
     let s = start e in
-    (search rules, omega (arith, s.pre.3, s.pre.4.owner), omega (arith, s.pre.1), pairs-count _ _ _ _ _ _ s.pre.1 (counted e) lower)
+    (search rules, omega (arith, s.pre.3, s.pre.4.owner), omega (arith, s.pre.1), pairs_count _ _ _ _ _ _ s.pre.1 (counted e) lower)
 
 add-put-places : tie.Need-overflow-add-put-places invariant-loop decreases-loop
-add-put-places c = let s = start c.before.before.before.before.before.before.before.before.before.before.before.before.before.before.before.before.before.before.before.before.before.before.before.before.before.before in record { fits = omega (arith, first-room _ _ s.pre.0, s.pre.2) }
+add-put-places c = let s = start c.before.before.before.before.before.before.before.before.before.before.before.before.before.before.before.before.before.before.before.before.before.before.before.before.before.before in record { fits = omega (arith, first_room _ _ s.pre.0, s.pre.2) }
 
 put-places-requires-2 : tie.Need-put-places-requires-2 invariant-loop decreases-loop
 unfolding unit_of
 put-places-requires-2 c κs =
     let e = c.before.before.before.before.before.before.before.before.before.before.before.before.before.before.before.before.before.before.before.before.before.before.before.before.before.before.before in
     let s = start e in
-    (search rules, omega (arith, s.pre.3, s.pre.4.owner, c.before.before.before.before.put-places.ensures.size), omega (arith, s.pre.1), pairs-count _ _ _ _ _ _ s.pre.1 (counted e) upper)
+    (search rules, omega (arith, s.pre.3, s.pre.4.owner, c.before.before.before.before.put-places.ensures.size), omega (arith, s.pre.1), pairs_count _ _ _ _ _ _ s.pre.1 (counted e) upper)
 
 same_length : tie.Need-same-length invariant-loop decreases-loop
 same_length c = search rules
@@ -129,7 +129,7 @@ returns c =
     let tally = first-odd.before.before.before.before.before in
     let first-tally = tally.before.before.before.before.before in
     let e = first-tally.before.before.before in
-    pairs-filling _ _ _ _ _ _ (start e).requires.1 (counted e) _ _ _ _ _ _ _ _ _ first-tally.put.ensures tally.put2.ensures first-odd.put3.ensures odd.put4.ensures first_Marks.put-places.ensures marks.put-places2.ensures
+    pairs_filling _ _ _ _ _ _ (start e).requires.1 (counted e) _ _ _ _ _ _ _ _ _ first-tally.put.ensures tally.put2.ensures first-odd.put3.ensures odd.put4.ensures first_Marks.put-places.ensures marks.put-places2.ensures
 
 pub pairs-spec : {M : Type 1} → statement M
 pairs-spec =

@@ -3,7 +3,7 @@ use borrow.Author.Rules.{rules}
 use Prim.Native.Nat.{ℕ, ◌-◌, ◌≤◌}
 use native.Mathlib.Omega.{arith}
 use mathlib.Core.Path.{ap}
-use Rattle.lanes.specs.Lists.{Filled, filled_none, filled-step, filled-done}
+use Rattle.lanes.specs.Lists.{Filled, filled_none, filled_step, filled_done}
 use Rattle.tallies.specs.Blocks.{at_once}
 use Rattle.pairs.specs.Pairs.{taken}
 use Rattle.pairs.proofs.put.Statement.{statement}
@@ -46,13 +46,13 @@ loop-again : tie.Need-loop-preserved invariant-loop decreases-loop
 loop-again c =
     let l = c.before.before.loop in
     let a = c.before.before.before.args in
-    (search rules, filled-step _ _ _ _ _ _ l.invariant.1 (search rules) (ap (λ (i : ℕ). taken a.counts.now a.unit i) (omega arith)))
+    (search rules, filled_step _ _ _ _ _ _ l.invariant.1 (search rules) (ap (λ (i : ℕ). taken a.counts.now a.unit i) (omega arith)))
 
 same_length : tie.Need-same-length invariant-loop decreases-loop
 same_length c = search rules
 
 returns : tie.Need-returns invariant-loop decreases-loop
-returns c = let l = c.before.loop in filled-done _ _ _ _ _ _ l.invariant.0 c.loop-test.false l.invariant.1
+returns c = let l = c.before.loop in filled_done _ _ _ _ _ _ l.invariant.0 c.loop-test.false l.invariant.1
 
 pub put_spec : {M : Type 1} → statement M
 put_spec =

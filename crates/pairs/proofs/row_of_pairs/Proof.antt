@@ -3,19 +3,19 @@ use borrow.Author.Rules.{rules}
 use Prim.Native.Nat.{◌-◌, ◌≤◌}
 use native.Mathlib.Nat.{le_refl}
 use native.Mathlib.Omega.{arith}
-use Rattle.tallies.specs.Blocks.{at_once, Joined, joined-none, joined_step, joined-done}
-use Rattle.pairs.specs.Pairs.{lower, upper, half, pairsFrom, ownBoth}
+use Rattle.tallies.specs.Blocks.{at_once, Joined, joined_none, joined_step, joined_done}
+use Rattle.pairs.specs.Pairs.{lower, upper, half, pairs_from, own_both}
 use Rattle.pairs.proofs.row_of_pairs.Statement.{statement}
 use Rattle.pairs.proofs.row_of_pairs.Tie as tie
 
 abbrev invariant-loop : tie.invariant-loop
-invariant-loop low₀ odd₀ since₀ b at j₀ low odd since j = (j ≤ at_once) × Joined (pairsFrom b at) (pairsFrom b at) ownBoth j low₀ odd₀ since₀ low odd since
+invariant-loop low₀ odd₀ since₀ b at j₀ low odd since j = (j ≤ at_once) × Joined (pairs_from b at) (pairs_from b at) own_both j low₀ odd₀ since₀ low odd since
 
 abbrev decreases-loop : tie.decreases-loop
 decreases-loop low₀ odd₀ since₀ b at j₀ low odd since j = at_once - j
 
 loop-holds : tie.Need-loop-init invariant-loop decreases-loop
-loop-holds c = (search rules, joined-none _ _ _ _ _ _)
+loop-holds c = (search rules, joined_none _ _ _ _ _ _)
 
 mul-pair : tie.Need-overflow-mul-pair invariant-loop decreases-loop
 mul-pair c = search rules
@@ -38,7 +38,7 @@ add_low c =
     let l = c.before.before.before.loop in
     let p = c.before.before.before.before.before.requires in
     let t = c.before.before.loop-test.true in
-    record { fits = omega (arith, l.invariant.1.sums.above l.j (le_refl l.j), p.low-room lower l.j t, p.low-room upper l.j t, c.before.pair.ensures) }
+    record { fits = omega (arith, l.invariant.1.sums.above l.j (le_refl l.j), p.low_room lower l.j t, p.low_room upper l.j t, c.before.pair.ensures) }
 
 mul-low-2 : tie.Need-overflow-mul-low-2 invariant-loop decreases-loop
 mul-low-2 c = search rules
@@ -88,7 +88,7 @@ add-since-2 c =
     let i = c.before.before.before.before.before.before in
     let l = i.before.loop in
     let p = i.before.before.before.requires in
-    record { fits = omega (arith, l.invariant.1.owned.above l.j (le_refl l.j), p.since-room lower l.j i.loop-test.true, p.since-room upper l.j i.loop-test.true) }
+    record { fits = omega (arith, l.invariant.1.owned.above l.j (le_refl l.j), p.since_room lower l.j i.loop-test.true, p.since_room upper l.j i.loop-test.true) }
 
 mul-since-5 : tie.Need-overflow-mul-since-5 invariant-loop decreases-loop
 mul-since-5 c = search rules
@@ -109,7 +109,7 @@ loop-again c =
     (search rules, joined_step _ _ _ _ _ _ _ _ _ _ _ _ l.invariant.1 i.before.before.before.before.requires.sized i.before.loop-test.true i.pair.ensures i.pair.ensures)
 
 returns : tie.Need-returns invariant-loop decreases-loop
-returns c = let l = c.before.loop in joined-done _ _ _ _ _ _ _ _ _ _ _ l.invariant.0 c.loop-test.false l.invariant.1
+returns c = let l = c.before.loop in joined_done _ _ _ _ _ _ _ _ _ _ _ l.invariant.0 c.loop-test.false l.invariant.1
 
 pub row-of-pairs-spec : {M : Type 1} → statement M
 row-of-pairs-spec =

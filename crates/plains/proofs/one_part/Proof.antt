@@ -5,8 +5,8 @@ use native.Mathlib.Omega.{arith}
 use mathlib.Core.Path.{◌≡◌, refl, sym, ◌∙◌, ap, subst}
 use mathlib.Core.Logic.{inl}
 use lib.Dec.{eqb}
-use Rattle.columns.specs.Cells.{lanes_of, lanes-added}
-use Rattle.plains.specs.Parts.{at_once, whole_cells, cells-fewer, tested-once}
+use Rattle.columns.specs.Cells.{lanes_of, lanes_added}
+use Rattle.plains.specs.Parts.{at_once, whole_cells, cells_fewer, tested_once}
 use Rattle.plains.proofs.one_part.Statement.{statement}
 use Rattle.plains.proofs.one_part.Tie as tie
 
@@ -23,10 +23,10 @@ step_is c =
     subst (λ (k : ℕ). (lanes_of s.args.q k ≡ at_once) × (1 ≤ k)) (sym c.cells_in.ensures) (whole_cells s.requires.1 (inl refl))
 
 step_fits : (c : tie.After-cells-in) → let f = c.before.before.before.args.f in c.cells_in.result ≤ f.n + f.p
-step_fits c = let s = c.before.before.before in cells-fewer s.requires.1 _ _ (omega (arith, (step_is c).0, s.requires.4, s.requires.3))
+step_fits c = let s = c.before.before.before in cells_fewer s.requires.1 _ _ (omega (arith, (step_is c).0, s.requires.4, s.requires.3))
 
 step-enough : (c : tie.After-cells-in) → c.before.before.before.args.f.p ≤ c.cells_in.result
-step-enough c = let s = c.before.before.before in cells-fewer s.requires.1 _ _ (omega (arith, (step_is c).0, s.requires.5))
+step-enough c = let s = c.before.before.before in cells_fewer s.requires.1 _ _ (omega (arith, (step_is c).0, s.requires.5))
 
 sub-a : tie.Need-overflow-sub-a
 sub-a c = step_fits c
@@ -50,7 +50,7 @@ part-wrong-requires c κs =
         number = h;
         first = omega (arith, (step_is e).1, step_fits e, s.requires.2);
         few = omega arith;
-        inside = omega (arith, lanes-added h (f.n + f.p - step) step, ap (lanes_of s.args.q) whole, (step_is e).0, s.requires.3);
+        inside = omega (arith, lanes_added h (f.n + f.p - step) step, ap (lanes_of s.args.q) whole, (step_is e).0, s.requires.3);
         left = omega (arith, step_fits e, e.cells_in.ensures);
       },
       omega arith,
@@ -61,8 +61,8 @@ returns : tie.Need-returns
 returns c =
     let e = c.before.before.before in
     let f = e.before.before.before.args.f in
-    ap (λ (v : ℕ). eqb v 0) c.before.part-wrong.ensures
-    ∙ tested-once _ _ f.n f.p (f.n + f.p - e.cells_in.result) _ _ (omega (arith, step-enough e, step_fits e)) (omega (arith, step_fits e, e.cells_in.ensures))
+    ap (λ (v : ℕ). eqb v 0) c.before.part_wrong.ensures
+    ∙ tested_once _ _ f.n f.p (f.n + f.p - e.cells_in.result) _ _ (omega (arith, step-enough e, step_fits e)) (omega (arith, step_fits e, e.cells_in.ensures))
 
 pub one-part-spec : {M : Type 1} → statement M
 one-part-spec =

@@ -6,14 +6,14 @@ use mathlib.Core.Path.{◌≡◌, refl, sym, ◌∙◌, ap, subst}
 use lib.Bits.{bit_or}
 use Rattle.lanes.specs.Lists.{Part}
 use Rattle.lanes.specs.Lanes.{seen_at}
-use Rattle.columns.specs.Cells.{lanes_of, lanes-added, lanes-more}
-use Rattle.plains.specs.Checks.{plainTest, plainWrong, wrongOf}
-use Rattle.plains.specs.Parts.{whole_cells, lanes-few, cells-fewer, Tested, tested-none, tested-all, tested-part}
+use Rattle.columns.specs.Cells.{lanes_of, lanes_added, lanes_more}
+use Rattle.plains.specs.Checks.{plain_test, plain_wrong, wrong_of}
+use Rattle.plains.specs.Parts.{whole_cells, lanes_few, cells_fewer, Tested, tested_none, tested_all, tested_part}
 use Rattle.plains.proofs.parts_right.Statement.{statement}
 use Rattle.plains.proofs.parts_right.Tie as tie
 
 abbrev invariant-loop : tie.invariant-loop
-invariant-loop b m q n all wrong₀ c₀ wrong c = (n ≤ c) × Tested (plainTest q (seen_at b m)) n all c wrong
+invariant-loop b m q n all wrong₀ c₀ wrong c = (n ≤ c) × Tested (plain_test q (seen_at b m)) n all c wrong
 
 abbrev decreases-loop : tie.decreases-loop
 decreases-loop b m q n all wrong₀ c₀ wrong c = all - c
@@ -26,7 +26,7 @@ add-all : tie.Need-overflow-add-all invariant-loop decreases-loop
 add-all c = let s = c.before.before in record { fits = omega (arith, s.requires.2) }
 
 loop-holds : tie.Need-loop-init invariant-loop decreases-loop
-loop-holds c = (search rules, tested-none _ _ _)
+loop-holds c = (search rules, tested_none _ _ _)
 
 sub-lanes-of : tie.Need-overflow-sub-lanes-of invariant-loop decreases-loop
 sub-lanes-of c = search rules
@@ -49,7 +49,7 @@ step_is c =
 step_fits : (c : tie.After-cells-in invariant-loop decreases-loop) → let f = c.before.before.before.before.before.before.before.args.f in c.cells_in.result ≤ f.n + f.p
 step_fits c =
     let s = c.before.before.before.before.before.before.before in
-    cells-fewer s.requires.1 _ _ (omega (arith, (step_is c).0, c.before.lanes-for.ensures.1, s.requires.3))
+    cells_fewer s.requires.1 _ _ (omega (arith, (step_is c).0, c.before.lanes-for.ensures.1, s.requires.3))
 
 part-requires : tie.Need-part-requires invariant-loop decreases-loop
 part-requires c κs = step_fits c
@@ -67,8 +67,8 @@ known-wrong-requires c κs =
         laid = s.requires.0;
         number = h;
         first = omega (arith, p.within, (step_is e).1, s.requires.2);
-        few = lanes-few e.before.lanes-for.ensures.0;
-        inside = omega (arith, lanes-added h c.part.result e.cells_in.result, lanes-more h _ _ p.within, (step_is e).0, s.requires.3);
+        few = lanes_few e.before.lanes-for.ensures.0;
+        inside = omega (arith, lanes_added h c.part.result e.cells_in.result, lanes_more h _ _ p.within, (step_is e).0, s.requires.3);
         left = omega (arith, e.cells_in.ensures, past p c.before.before.before.before.loop-test.true (step_is e).1);
       },
       e.before.lanes-for.ensures.0,
@@ -89,17 +89,17 @@ loop-again c =
     let p = c.before.part.ensures in
     let a = c.before.part.result in
     let step = c.before.before.cells_in in
-    let wrong : ℕ → ℕ = wrongOf (λ i. plainWrong s.args.q (seen_at s.args.b.now s.args.m) (a + i)) (l.loop.c - a) in (
+    let wrong : ℕ → ℕ = wrong_of (λ i. plain_wrong s.args.q (seen_at s.args.b.now s.args.m) (a + i)) (l.loop.c - a) in (
       omega (arith, l.loop.invariant.0),
-      subst (λ (v : ℕ). Tested (plainTest s.args.q (seen_at s.args.b.now s.args.m)) s.args.f.n (s.args.f.n + s.args.f.p) (l.loop.c + step.result) (bit_or l.loop.wrong v))
+      subst (λ (v : ℕ). Tested (plain_test s.args.q (seen_at s.args.b.now s.args.m)) s.args.f.n (s.args.f.n + s.args.f.p) (l.loop.c + step.result) (bit_or l.loop.wrong v))
           (sym (c.known-wrong.ensures ∙ ap wrong (sym step.ensures)))
-          (tested-part s.args.q _ _ _ _ _ a (l.loop.c - a) _ l.loop.invariant.1 p (omega (arith, l.loop.invariant.0, p.near)) (omega (arith, p.near))),
+          (tested_part s.args.q _ _ _ _ _ a (l.loop.c - a) _ l.loop.invariant.1 p (omega (arith, l.loop.invariant.0, p.near)) (omega (arith, p.near))),
     )
 
 returns : tie.Need-returns invariant-loop decreases-loop
 returns c =
     let s = c.before.before.before.before in
-    tested-all _ s.args.f.n s.args.f.p _ _ _ refl c.loop-test.false c.before.loop.invariant.1
+    tested_all _ s.args.f.n s.args.f.p _ _ _ refl c.loop-test.false c.before.loop.invariant.1
 
 pub parts-right-spec : {M : Type 1} → statement M
 parts-right-spec =

@@ -1,6 +1,6 @@
 -- `plains::plain_wrong` meets its contract, by whether it is owned and not controlled.
 use borrow.Author.Rules.{rules}
-use Rattle.plains.specs.Checks.{plain-owned, plain_other}
+use Rattle.plains.specs.Checks.{plain_owned, plain_other}
 use Rattle.plains.proofs.plain_wrong.Statement.{statement}
 use Rattle.plains.proofs.plain_wrong.Tie as tie
 
@@ -17,7 +17,7 @@ bits-of-requires : tie.Need-bits-of-requires
 bits-of-requires c κs = search rules
 
 returns : tie.Need-returns
-returns c = plain-owned _ _ _ _ c.before.before.last-lane.ensures c.if1.true
+returns c = plain_owned _ _ _ _ c.before.before.last-lane.ensures c.if1.true
 
 returns-2 : tie.Need-returns-2
 returns-2 c = plain_other _ _ _ _ c.before.before.before.last-lane.ensures _ c.before.if1.false c.bits_of.ensures

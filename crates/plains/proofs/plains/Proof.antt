@@ -4,7 +4,7 @@ use Prim.Native.Nat.{ℕ, ◌+◌, ◌/◌}
 use native.Mathlib.Omega.{arith}
 use mathlib.Core.Path.{◌≡◌, refl, ◌∙◌, ap}
 use lib.Dec.{eqb}
-use Rattle.plains.specs.Parts.{lanes-none, cells_of, tested-once}
+use Rattle.plains.specs.Parts.{lanes_none, cells_of, tested_once}
 use Rattle.plains.proofs.plains.Statement.{statement}
 use Rattle.plains.proofs.plains.Tie as tie
 
@@ -24,7 +24,7 @@ part-wrong-requires c κs =
         number = s.requires.1;
         first = omega arith;
         few = omega (arith, few);
-        inside = omega (arith, lanes-none s.requires.1);
+        inside = omega (arith, lanes_none s.requires.1);
         left = omega (arith, cells_whole s);
       },
       omega (arith, few),
@@ -35,7 +35,7 @@ returns : tie.Need-returns
 returns c =
     let s = c.before.before.before.before.before.before in
     let f = s.args.f in
-    ap (λ (v : ℕ). eqb v 0) c.before.part-wrong.ensures ∙ tested-once _ _ f.n f.p 0 _ f.n (omega arith) (omega (arith, cells_whole s))
+    ap (λ (v : ℕ). eqb v 0) c.before.part_wrong.ensures ∙ tested_once _ _ f.n f.p 0 _ f.n (omega arith) (omega (arith, cells_whole s))
 
 lanes-of-requires : tie.Need-lanes-of-requires
 lanes-of-requires c κs = search rules

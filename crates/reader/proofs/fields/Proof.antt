@@ -1,6 +1,6 @@
 -- `reader::fields` meets its contract.
-use Rattle.matrix.specs.CommandList.{commandPlace}
-use Rattle.lists.specs.Forms.{fields-of}
+use Rattle.matrix.specs.CommandList.{command_place}
+use Rattle.lists.specs.Forms.{fields_of}
 use borrow.Author.Rules.{rules}
 use Rattle.reader.proofs.fields.Statement.{statement}
 use Rattle.reader.proofs.fields.Tie as tie
@@ -58,7 +58,7 @@ wide-requires-5 c κs = search rules
 
 returns : tie.Need-returns
 returns c =
-    fields-of c.before.before.before.before.before.before.before.before.before.before.before.args.l.now (commandPlace c.before.before.before.before.before.before.before.before.before.before.before.args.j) c.before.before.before.before.before.before.before.before.wide.ensures.0 c.before.before.before.before.before.before.wide2.ensures.0 c.before.before.before.before.wide3.ensures.0 c.before.before.wide4.ensures.0 c.wide5.ensures.0
+    fields_of c.before.before.before.before.before.before.before.before.before.before.before.args.l.now (command_place c.before.before.before.before.before.before.before.before.before.before.before.args.j) c.before.before.before.before.before.before.before.before.wide.ensures.0 c.before.before.before.before.before.before.wide2.ensures.0 c.before.before.before.before.wide3.ensures.0 c.before.before.wide4.ensures.0 c.wide5.ensures.0
 
 pub fields-spec : {M : Type 1} → statement M
 fields-spec =

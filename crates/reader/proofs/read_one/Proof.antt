@@ -39,8 +39,8 @@ use denote.Triple.Table.{entered, cited}
 use denote.Triple.Walked.{says, needs, Stays, stay_none, stay_none_slice, walk_of, Goes-none, Goes-none_slice, Walks, ends_at, walked, walk_Meets}
 use denote.Exit.{yes}
 use denote.Triple.Clauses.{ensured, lasts}
-use Rattle.matrix.specs.CommandList.{wellFormed}
-use Rattle.reader.specs.Left.{readAt}
+use Rattle.matrix.specs.CommandList.{well_formed}
+use Rattle.reader.specs.Left.{read_at}
 use Rattle.reader.specs.declared.Reader.{Reader}
 use Rattle.reader.specs.declared.Read.{Read}
 use Rattle.reader.specs.contracts.Reader as T
@@ -82,7 +82,7 @@ module _ {M : Type 1} {𝓤 : Ura M} (𝓛 : Logic 𝓤) (mem : Memory → SProp
   abbrev Next : Contract 𝓤
   Next = triple_of 𝓛 next.signature (next.spec 𝓛 mem run)
 
-module _ {M : Type 1} {𝓤 : Ura M} (𝓛 : Logic 𝓤) (mem : Memory → SProp 𝓤) (run : Routine → Fun 𝓤) (κ : Lft) (q : Share) (s : Bor (List ℕ)) (n : ℕ) (fits : n < 2 ^ 64) (formed : wellFormed s.now ≡ true) where
+module _ {M : Type 1} {𝓤 : Ura M} (𝓛 : Logic 𝓤) (mem : Memory → SProp 𝓤) (run : Routine → Fun 𝓤) (κ : Lft) (q : Share) (s : Bor (List ℕ)) (n : ℕ) (fits : n < 2 ^ 64) (formed : well_formed s.now ≡ true) where
   -- the machine value that s has
   open 𝓛 use {H}
 
@@ -90,7 +90,7 @@ module _ {M : Type 1} {𝓤 : Ura M} (𝓛 : Logic 𝓤) (mem : Memory → SProp
   v = slice_val s.ref_ptr (length s.now)
 
   abbrev found : Read
-  found = readAt s.now n
+  found = read_at s.now n
 
   abbrev at : Vals read_one.signature (κ, tt)
   at = (v ∷ [], (vint w64 n ∷ [], tt))
@@ -135,11 +135,11 @@ module _ {M : Type 1} {𝓤 : Ura M} (𝓛 : Logic 𝓤) (mem : Memory → SProp
   abbrev to-next : Reader → Val → (Next 𝓛 mem run).Ghost
   to-next r u = (((κ, tt), (q, tt), tt, (r, tt), (u ∷ [], tt)), tt)
 
-  goes-next : (r : Reader) (u : Val) → wellFormed r.list.now ≡ true → ent 𝓤 (⋆ 𝓛 (‵ ((B (κ, tt)).own r (u ∷ [])) ∷ (‵ (flft κ q) ⊛ ‵ ftrue) ∷ [])) ((Next 𝓛 mem run).pre (to-next r u))
+  goes-next : (r : Reader) (u : Val) → well_formed r.list.now ≡ true → ent 𝓤 (⋆ 𝓛 (‵ ((B (κ, tt)).own r (u ∷ [])) ∷ (‵ (flft κ q) ⊛ ‵ ftrue) ∷ [])) ((Next 𝓛 mem run).pre (to-next r u))
   goes-next r u right = qed 𝓛 (‵ ((B (κ, tt)).own r (u ∷ [])) ∷ (‵ (flft κ q) ⊛ ‵ ftrue) ∷ []) ∵ says ! right $ move ! (1 ∷ []) $ frame ! $ nothing ! $ move ! (1 ∷ 0 ∷ []) $ fjoin ! $ done !
 
-  next-said : (r : Reader) (t : Read) → ent 𝓤 (ensured 𝓛 next.ended (next.clauses 𝓛 mem run) (κ, tt) (r, tt) tt t) (fact 𝓤 (t ≡ readAt r.list.now r.at))
-  next-said r t = ex_e 𝓤 _ (λ ws. snd∗ 𝓤 (sem 𝓛 (lasts next.ended (κ, tt) (r, tt) ws)) (fact 𝓤 (t ≡ readAt r.list.now r.at)))
+  next-said : (r : Reader) (t : Read) → ent 𝓤 (ensured 𝓛 next.ended (next.clauses 𝓛 mem run) (κ, tt) (r, tt) tt t) (fact 𝓤 (t ≡ read_at r.list.now r.at))
+  next-said r t = ex_e 𝓤 _ (λ ws. snd∗ 𝓤 (sem 𝓛 (lasts next.ended (κ, tt) (r, tt) ws)) (fact 𝓤 (t ≡ read_at r.list.now r.at)))
 
   exits : (t : Read) (u : Val) → t ≡ found → ent 𝓤 (⋆ 𝓛 (‵ ((S.the_row).own_val t (u ∷ [])) ∷ (‵ (flft κ q) ⊛ ‵ ftrue) ∷ ‵ Own ∷ [])) (Post u)
   exits t u e =
@@ -169,16 +169,16 @@ module _ {M : Type 1} {𝓤 : Ura M} (𝓛 : Logic 𝓤) (mem : Memory → SProp
         peeks ! (B (κ, tt)) (Is (B (κ, tt))) (shows 𝓛 (B (κ, tt))) r' (u' ∷ []) (λ is'.
         land ! (from ! (stop !)) (init ! 5 refl ((LL.lawful (T.the_type αᵉ) (T'.the_laws αᵉ) 𝓛).typed r' _ is').0) $
         -- `next`
-        use2 𝓛 (raw ((Next 𝓛 mem run).pre (to-next r' u'))) (goes-next r' u' (ap (λ (x : Bor (List ℕ)). wellFormed x.now) (e'.0 ∙ e.0) ∙ formed)) $
+        use2 𝓛 (raw ((Next 𝓛 mem run).pre (to-next r' u'))) (goes-next r' u' (ap (λ (x : Bor (List ℕ)). well_formed x.now) (e'.0 ∙ e.0) ∙ formed)) $
         calls_at ! fm (Next 𝓛 mem run) known_next (to-next r' u') (and_then ! (load ! (from ! (stop !)) (look ! 4 refl)) (no_more !)) (λ w.
         use1 𝓛 (later (some (λ (t : Read). ((‵ (flft κ q) ⊛ ‵ ftrue) ⊛ ‵ ((S.the_row).own_val t (w ∷ []))) ⊛ raw (ensured 𝓛 next.ended (next.clauses 𝓛 mem run) (κ, tt) (r', tt) tt t)))) (id⊢ 𝓤 _) $ await ! tt $ pick ! (λ t.
-        split ! $ move ! (1 ∷ []) $ use1 𝓛 (raw (fact 𝓤 (t ≡ readAt r'.list.now r'.at))) (next-said r' t) $ heard ! (t ≡ readAt r'.list.now r'.at) (λ told. split ! $ move ! (1 ∷ []) $
+        split ! $ move ! (1 ∷ []) $ use1 𝓛 (raw (fact 𝓤 (t ≡ read_at r'.list.now r'.at))) (next-said r' t) $ heard ! (t ≡ read_at r'.list.now r'.at) (λ told. split ! $ move ! (1 ∷ []) $
         -- [the result; the token; what s owns; _4; …; _3; …; _2; …; _1; …; room for _0; …]
         peeks ! S.the_row (Is S.the_row) (shows 𝓛 S.the_row) t (w ∷ []) (λ is''.
         land ! (from ! (stop !)) (init ! 11 refl ((EL.lawful S.the_type S'.the_laws 𝓛 tt).typed t _ is'').0) $
         returns ! (look ! 11 refl) $ forget ! 3 refl $ forget ! 5 refl $ forget ! 7 refl $ forget ! 9 refl $ forget ! 11 refl $
         move ! (11 ∷ 12 ∷ []) $ free1 ! $ move ! (9 ∷ 10 ∷ []) $ free1 ! $ move ! (7 ∷ 8 ∷ []) $ free1 ! $ move ! (5 ∷ 6 ∷ []) $ free1 ! $ move ! (3 ∷ 4 ∷ []) $ free1 ! $ free0 ! $
-        by ! (exits t w (told ∙ (ap (λ (x : Bor (List ℕ)). readAt x.now r'.at) (e'.0 ∙ e.0) ∙ ap (readAt s.now) e'.1))))))))))))))))))))
+        by ! (exits t w (told ∙ (ap (λ (x : Bor (List ℕ)). read_at x.now r'.at) (e'.0 ∙ e.0) ∙ ap (read_at s.now) e'.1))))))))))))))))))))
 
 module _ {M : Type 1} {𝓤 : Ura M} (𝓛 : Logic 𝓤) (mem : Memory → SProp 𝓤) (run : Routine → Fun 𝓤) where
   open 𝓛 use {H}
@@ -186,7 +186,7 @@ module _ {M : Type 1} {𝓤 : Ura M} (𝓛 : Logic 𝓤) (mem : Memory → SProp
   read-one-walks : (C : Calls 𝓤 H) (Λ : Loops 𝓤 H) → FmC 𝓤 H 𝓛.laws C → Triple 𝓤 (C #reader·new) (New 𝓛 mem run) → Triple 𝓤 (C #reader·moved) (Moved 𝓛 mem run) → Triple 𝓤 (C #reader·next) (Next 𝓛 mem run)
       → Walks 𝓛 read_one.ended stayed (WpFn 𝓤 H C Λ code.function) (read_one.clauses 𝓛 mem run)
   read-one-walks C Λ fm known-new known-moved known_next = walked 𝓛 read_one.ended stayed (read_one.clauses 𝓛 mem run) (WpFn 𝓤 H C Λ code.function) (λ κs. (shr_slice_vals, (uint_vals w64, tt))) (λ κs. (shr_slice_Tells (named 0) κs.0 u8, (uint_Tells w64, tt)))
-      (λ κs qs bounds a g are. needs 𝓤 (wellFormed a.0.now ≡ true) _ (λ formed. walk 𝓛 mem run κs.0 qs.0 a.0 a.1.0 are.1.0.1 formed C Λ fm known-new known-moved known_next are.0))
+      (λ κs qs bounds a g are. needs 𝓤 (well_formed a.0.now ≡ true) _ (λ formed. walk 𝓛 mem run κs.0 qs.0 a.0 a.1.0 are.1.0.1 formed C Λ fm known-new known-moved known_next are.0))
 
 read-one-meets : {M : Type 1} {𝓤 : Ura M} (𝓛 : Logic 𝓤) (mem : Memory → SProp 𝓤) (run : Routine → Fun 𝓤) (𝓣 : Tables 𝓤 𝓛.H)
     → Triple 𝓤 (𝓣.C #reader·new) (New 𝓛 mem run) → Triple 𝓤 (𝓣.C #reader·moved) (Moved 𝓛 mem run) → Triple 𝓤 (𝓣.C #reader·next) (Next 𝓛 mem run)

@@ -7,30 +7,30 @@ use native.Mathlib.Omega.{arith}
 use mathlib.Core.Path.{◌≡◌, refl, sym, ◌∙◌, subst}
 use mathlib.Core.Bool.{false}
 use Rattle.matrix.specs.Bounded.{any}
-use Rattle.laws.specs.Bounded.{any-miss, least-hit, least-none}
-use Rattle.cells.specs.Station.{right-shape}
-use Rattle.cells.specs.Places.{lowPlace}
-use Rattle.row_search.specs.Rows.{low-reached, rowHas, row-tested, row_within}
+use Rattle.laws.specs.Bounded.{any_miss, least_hit, least_none}
+use Rattle.cells.specs.Station.{right_shape}
+use Rattle.cells.specs.Places.{low_place}
+use Rattle.row_search.specs.Rows.{low_reached, row_has, row_tested, row_within}
 use Rattle.row_search.proofs.first_row.Statement.{statement}
 use Rattle.row_search.proofs.first_row.Tie as tie
 
 abbrev invariant-loop : tie.invariant-loop
-invariant-loop b c j n stride at₀ r₀ at r = (r ≤ n) × (at ≡ at₀ + r * stride) × (any r (rowHas b c j n) ≡ false)
+invariant-loop b c j n stride at₀ r₀ at r = (r ≤ n) × (at ≡ at₀ + r * stride) × (any r (row_has b c j n) ≡ false)
 
 abbrev decreases-loop : tie.decreases-loop
 decreases-loop b c j n stride at₀ r₀ at r = n - r
 
 -- `at` is the place of the lowest byte of row r's cell
-at_row : (c : tie.At-loop invariant-loop decreases-loop) → c.loop.at ≡ lowPlace c.before.before.before.before.args.f c.loop.r c.before.before.before.before.args.c
+at_row : (c : tie.At-loop invariant-loop decreases-loop) → c.loop.at ≡ low_place c.before.before.before.before.args.f c.loop.r c.before.before.before.before.args.c
 at_row c =
     let a = c.before.before.before.before.args in
-    low-reached a.f c.loop.r a.c c.before.low-place.ensures c.before.before.row-bytes.ensures c.loop.invariant.1
+    low_reached a.f c.loop.r a.c c.before.low-place.ensures c.before.before.row-bytes.ensures c.loop.invariant.1
 
 row-bytes-requires : tie.Need-row-bytes-requires invariant-loop decreases-loop
-row-bytes-requires c κs = right-shape c.before.requires.0
+row-bytes-requires c κs = right_shape c.before.requires.0
 
 low-place-requires : tie.Need-low-place-requires invariant-loop decreases-loop
-low-place-requires c κs = let q = c.before.before.requires in (right-shape q.0, q.1)
+low-place-requires c κs = let q = c.before.before.requires in (right_shape q.0, q.1)
 
 loop-holds : tie.Need-loop-init invariant-loop decreases-loop
 unfolding any
@@ -53,7 +53,7 @@ returns c =
     let l = c.before.before.before.before in
     let q = l.before.before.before.before.requires in
     let more = c.before.before.before.loop-test.true in
-    sym (least-hit _ _ _ more l.loop.invariant.2 (row-tested _ q.0 q.2 (λ e. omega (arith, more)) (at_row l) c.before.bit-of.ensures ∙ c.if1.true))
+    sym (least_hit _ _ _ more l.loop.invariant.2 (row_tested _ q.0 q.2 (λ e. omega (arith, more)) (at_row l) c.before.bit_of.ensures ∙ c.if1.true))
 
 add_at : tie.Need-overflow-add-at invariant-loop decreases-loop
 add_at c =
@@ -74,13 +74,13 @@ loop-again c =
     let more = c.before.before.before.loop-test.true in (
       search rules,
       omega (arith, l.loop.invariant.1),
-      rw add-one (any-miss _ _ l.loop.invariant.2 (row-tested _ q.0 q.2 (λ e. omega (arith, more)) (at_row l) c.before.bit-of.ensures ∙ c.if1.false)),
+      rw add-one (any_miss _ _ l.loop.invariant.2 (row_tested _ q.0 q.2 (λ e. omega (arith, more)) (at_row l) c.before.bit_of.ensures ∙ c.if1.false)),
     )
 
 returns-2 : tie.Need-returns-2 invariant-loop decreases-loop
 returns-2 c =
     let a = c.before.before.before.before.before.args in
-    sym (least-none _ _ (subst (λ (m : ℕ). any m (rowHas a.b.now a.c a.j a.f.n) ≡ false) (omega arith) c.before.loop.invariant.2))
+    sym (least_none _ _ (subst (λ (m : ℕ). any m (row_has a.b.now a.c a.j a.f.n) ≡ false) (omega arith) c.before.loop.invariant.2))
 
 pub first-row-spec : {M : Type 1} → statement M
 first-row-spec =

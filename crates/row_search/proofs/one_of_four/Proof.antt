@@ -5,7 +5,7 @@ use native.Mathlib.Omega.{arith}
 use mathlib.Core.Path.{◌∙◌}
 use lib.Bits.{or_lt}
 use lib.ListN.{get_or}
-use Rattle.row_search.specs.Blocks.{one-joined}
+use Rattle.row_search.specs.Blocks.{one_joined}
 use Rattle.row_search.proofs.one_of_four.Statement.{statement}
 use Rattle.row_search.proofs.one_of_four.Tie as tie
 
@@ -48,7 +48,7 @@ bit-of-requires c κs = search rules
 returns : tie.Need-returns
 returns c =
     let a = c.before.before.before.before.before.before.args in
-    c.bit-of.ensures ∙ one-joined a.b.now a.j a.at a.stride
+    c.bit_of.ensures ∙ one_joined a.b.now a.j a.at a.stride
 
 pub one-of-four-spec : {M : Type 1} → statement M
 one-of-four-spec =

@@ -7,34 +7,34 @@ use native.Mathlib.Omega.{arith}
 use mathlib.Core.Path.{◌≡◌, ◌∙◌, ap}
 use Rattle.matrix.specs.Bounded.{any}
 use Rattle.matrix.specs.Bytes.{bit}
-use Rattle.codec.specs.Bits.{bit-zero}
-use Rattle.cells.specs.Station.{right-shape}
-use Rattle.cells.specs.Places.{lowPlace}
-use Rattle.row_search.specs.Rows.{low-reached, rowHas, row-joined, row_within}
+use Rattle.codec.specs.Bits.{bit_zero}
+use Rattle.cells.specs.Station.{right_shape}
+use Rattle.cells.specs.Places.{low_place}
+use Rattle.row_search.specs.Rows.{low_reached, row_has, row_joined, row_within}
 use Rattle.row_search.proofs.some_row.Statement.{statement}
 use Rattle.row_search.proofs.some_row.Tie as tie
 
 abbrev invariant-loop : tie.invariant-loop
-invariant-loop b c j skip n stride low₀ seen₀ r₀ low seen r = (r ≤ n) × (low ≡ low₀ + r * stride) × (bit j seen ≡ any r (rowHas b c j skip))
+invariant-loop b c j skip n stride low₀ seen₀ r₀ low seen r = (r ≤ n) × (low ≡ low₀ + r * stride) × (bit j seen ≡ any r (row_has b c j skip))
 
 abbrev decreases-loop : tie.decreases-loop
 decreases-loop b c j skip n stride low₀ seen₀ r₀ low seen r = n - r
 
 -- `low` is the place of the lowest byte of row r's cell
-low-row : (c : tie.At-loop invariant-loop decreases-loop) → c.loop.low ≡ lowPlace c.before.before.before.before.args.f c.loop.r c.before.before.before.before.args.c
+low-row : (c : tie.At-loop invariant-loop decreases-loop) → c.loop.low ≡ low_place c.before.before.before.before.args.f c.loop.r c.before.before.before.before.args.c
 low-row c =
     let a = c.before.before.before.before.args in
-    low-reached a.f c.loop.r a.c c.before.low-place.ensures c.before.before.row-bytes.ensures c.loop.invariant.1
+    low_reached a.f c.loop.r a.c c.before.low-place.ensures c.before.before.row-bytes.ensures c.loop.invariant.1
 
 row-bytes-requires : tie.Need-row-bytes-requires invariant-loop decreases-loop
-row-bytes-requires c κs = right-shape c.before.requires.0
+row-bytes-requires c κs = right_shape c.before.requires.0
 
 low-place-requires : tie.Need-low-place-requires invariant-loop decreases-loop
-low-place-requires c κs = let q = c.before.before.requires in (right-shape q.0, q.1)
+low-place-requires c κs = let q = c.before.before.requires in (right_shape q.0, q.1)
 
 loop-holds : tie.Need-loop-init invariant-loop decreases-loop
 unfolding any
-loop-holds c = (search rules, omega (arith, zero-mul c.before.row-bytes.result), bit-zero c.before.before.before.args.j)
+loop-holds c = (search rules, omega (arith, zero-mul c.before.row-bytes.result), bit_zero c.before.before.before.args.j)
 
 shared-slice-read-unless-skipped : tie.Need-shared-slice-read-unless-skipped invariant-loop decreases-loop
 shared-slice-read-unless-skipped c =
@@ -64,7 +64,7 @@ loop-again : tie.Need-loop-preserved invariant-loop decreases-loop
 loop-again c =
     let l = c.before.before.before in
     let z = l.before.before.before.before in
-    (search rules, omega (arith, l.loop.invariant.1), row-joined z.args.c z.args.skip l.loop.r l.loop.seen z.requires.0 z.requires.2 (low-row l) c.unless-skipped.ensures l.loop.invariant.2)
+    (search rules, omega (arith, l.loop.invariant.1), row_joined z.args.c z.args.skip l.loop.r l.loop.seen z.requires.0 z.requires.2 (low-row l) c.unless-skipped.ensures l.loop.invariant.2)
 
 bit-of-requires : tie.Need-bit-of-requires invariant-loop decreases-loop
 bit-of-requires c κs = omega (arith, c.before.before.before.before.before.requires.2)
@@ -74,7 +74,7 @@ returns c =
     let l = c.before.before in
     let a = l.before.before.before.before.args in
     let e : l.loop.r ≡ a.f.n = omega arith in
-    c.bit-of.ensures ∙ l.loop.invariant.2 ∙ ap (λ (m : ℕ). any m (rowHas a.b.now a.c a.j a.skip)) e
+    c.bit_of.ensures ∙ l.loop.invariant.2 ∙ ap (λ (m : ℕ). any m (row_has a.b.now a.c a.j a.skip)) e
 
 pub some-row-spec : {M : Type 1} → statement M
 some-row-spec =

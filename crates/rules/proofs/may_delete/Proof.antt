@@ -6,7 +6,7 @@ use native.Mathlib.Omega.{arith}
 use borrow.Author.Tests.{lt-ltb}
 use Rattle.matrix.specs.declared.Act.TheVariants.{Delete}
 use Rattle.matrix.specs.Tests.{permitted}
-use Rattle.laws.specs.Tests.{or-stop, or-next}
+use Rattle.laws.specs.Tests.{or_stop, or_next}
 use borrow.Author.Rules.{rules}
 use Rattle.rules.proofs.may_delete.Statement.{statement}
 use Rattle.rules.proofs.may_delete.Tie as tie
@@ -26,7 +26,7 @@ owns-object-requires c κs = search rules
 returns : tie.Need-returns
 returns c =
     let z = c.before.before.before.before.before in
-    or-stop _ c.if1.true c.before.owns-object.ensures
+    or_stop _ c.if1.true c.before.owns-object.ensures
     ∙ sym (ap (λ (y : Right). permitted (state_of z.args.b.now) z.args.c (Delete y)) c.before.before.enum-told3.given.1)
 
 has-bit-requires : tie.Need-has-bit-requires
@@ -43,7 +43,7 @@ returns-3 c = search rules
 returns-4 : tie.Need-returns-4
 returns-4 c =
     let z = c.before.before.before.before.before.before in
-    or-next c.before.if1.false c.before.before.owns-object.ensures c.has-bit.ensures
+    or_next c.before.if1.false c.before.before.owns-object.ensures c.has-bit.ensures
     ∙ sym (ap (λ (y : Right). permitted (state_of z.args.b.now) z.args.c (Delete y)) c.before.before.before.enum-told3.given.1)
 
 pub may-delete-spec : {M : Type 1} → statement M

@@ -4,7 +4,7 @@ use Rattle.matrix.specs.declared.Right.{Right}
 use Rattle.matrix.specs.Reading.{state_of}
 use Rattle.matrix.specs.declared.Act.TheVariants.{Transfer}
 use Rattle.matrix.specs.Tests.{permitted}
-use Rattle.states.specs.Reads.{basic-in}
+use Rattle.states.specs.Reads.{basic_in}
 use borrow.Author.Rules.{rules}
 use Rattle.rules.proofs.may_transfer.Statement.{statement}
 use Rattle.rules.proofs.may_transfer.Tie as tie
@@ -24,7 +24,7 @@ enum-known-y c = search rules
 has-bit-requires : tie.Need-has-bit-requires
 has-bit-requires c κs =
     let q = c.before.before.before.before.requires in
-    record { station = q.0.station; right = basic-in _ c.before.y.given.1 q.1; row = q.0.initiator; column = q.0.object }
+    record { station = q.0.station; right = basic_in _ c.before.y.given.1 q.1; row = q.0.initiator; column = q.0.object }
 
 returns : tie.Need-returns
 returns c = c.owns-object.ensures ∙ sym (ap (λ (a : Right). permitted (state_of c.before.before.before.before.args.b.now) c.before.before.before.before.args.c (Transfer a)) c.before.enum_told.given.1)

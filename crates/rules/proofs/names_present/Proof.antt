@@ -10,7 +10,7 @@ use Rattle.matrix.specs.contracts.Act as acts
 use Rattle.matrix.specs.declared.Act.{Act}
 use Rattle.matrix.specs.declared.Act.TheVariants.{Transfer, Grant, Delete, CreateObject, DestroyObject, CreateSubject, DestroySubject}
 use Rattle.matrix.specs.declared.Command.{Command}
-use Rattle.matrix.specs.State.{State, exists, existsName}
+use Rattle.matrix.specs.State.{State, exists, exists_name}
 use Rattle.matrix.specs.Reading.{state_of}
 use Rattle.matrix.specs.Tests.{present}
 use borrow.Author.Rules.{rules}
@@ -24,7 +24,7 @@ Few t = (t ≡ 0) ⊎ ((t ≡ 1) ⊎ (t ≡ 2))
 not-few : {t : ℕ} → 3 ≤ t → Few t → ⊥
 not-few {t} l h = ⊎_elim (λ (e : t ≡ 0). omega arith) (λ (g : (t ≡ 1) ⊎ (t ≡ 2)). ⊎_elim (λ (e : t ≡ 1). omega arith) (λ (e : t ≡ 2). omega arith) g) h
 
-both-needed : (S : State) (d : Command) (a : Act) → Few (Declared.tag_of acts.the_type a) → (exists S d.s && existsName S d.o) ≡ present S d a
+both-needed : (S : State) (d : Command) (a : Act) → Few (Declared.tag_of acts.the_type a) → (exists S d.s && exists_name S d.o) ≡ present S d a
 both-needed S d (Transfer y) h = refl
 both-needed S d (Grant y) h = refl
 both-needed S d (Delete y) h = refl

@@ -3,13 +3,13 @@ use native.Mathlib.Omega.{arith}
 use mathlib.Core.Path.{◌≡◌, refl, sym, ◌∙◌}
 use borrow.Author.Tests.{not-true, not-false}
 use Rattle.matrix.specs.Shape.{limits}
-use Rattle.matrix.specs.Record.{recordRefusal}
+use Rattle.matrix.specs.Record.{record_refusal}
 use Rattle.matrix.specs.Shaped.{Octets}
-use Rattle.owners.specs.Read.{valid-record}
-use Rattle.cells.specs.Station.{Station, right-shape}
-use Rattle.opening.specs.Opened.{station-of, long-enough}
-use Rattle.safety.specs.Turned.{turned-record}
-use Rattle.safety.specs.Whole.{unfit, no_room, Fitting, asked, asks, unheld, answered, answered-held}
+use Rattle.owners.specs.Read.{valid_record}
+use Rattle.cells.specs.Station.{Station, right_shape}
+use Rattle.opening.specs.Opened.{station_of, long_enough}
+use Rattle.safety.specs.Turned.{turned_record}
+use Rattle.safety.specs.Whole.{unfit, no_room, Fitting, asked, asks, unheld, answered, answered_held}
 use borrow.Author.Rules.{rules}
 use Rattle.safety.proofs.ask.Statement.{statement}
 use Rattle.safety.proofs.ask.Tie as tie
@@ -18,23 +18,23 @@ refusal-with-requires : tie.Need-refusal-with-requires
 refusal-with-requires c κs = search rules
 
 -- where the record is not turned down
-right : (c : tie.Else1) → recordRefusal limits c.before.before.before.before.before.args.b.now ≡ 0
+right : (c : tie.Else1) → record_refusal limits c.before.before.before.before.before.args.b.now ≡ 0
 right c = sym c.before.refusal-with.ensures.0 ∙ c.if1.false
 
 octets : (c : tie.Else1) → Octets c.before.before.before.before.before.args.b.now
 octets c = record { octet = λ j. (c.before.before.before.before.shared-slice-known.given j).fits }
 
 opened : (c : tie.After-shape) → Station c.before.before.before.before.before.before.args.b.now c.shape.result
-opened c = station-of (octets c.before) (right c.before) c.shape.ensures
+opened c = station_of (octets c.before) (right c.before) c.shape.ensures
 
 returns : tie.Need-returns
-returns c = turned-record _ _ _ _ _ _ c.before.refusal-with.ensures.0 c.if1.true
+returns c = turned_record _ _ _ _ _ _ c.before.refusal-with.ensures.0 c.if1.true
 
 shape-requires : tie.Need-shape-requires
-shape-requires c κs = long-enough _ (right c)
+shape-requires c κs = long_enough _ (right c)
 
 within-bounds-requires : tie.Need-within-bounds-requires
-within-bounds-requires c κs = right-shape (opened c)
+within-bounds-requires c κs = right_shape (opened c)
 
 returns-2 : tie.Need-returns-2
 returns-2 c =
@@ -43,13 +43,13 @@ returns-2 c =
     unfit (right f.before) (opened f) a.trust a.s a.o a.right a.out.now c.before.within-bounds.ensures (not-true _ c.if2.true)
 
 add-if3 : tie.Need-overflow-add-if3
-add-if3 c = omega (arith, (right-shape (opened c.before.before.before)).high)
+add-if3 c = omega (arith, (right_shape (opened c.before.before.before)).high)
 
 mul-if3 : tie.Need-overflow-mul-if3
-mul-if3 c = omega (arith, (right-shape (opened c.before.before.before)).high)
+mul-if3 c = omega (arith, (right_shape (opened c.before.before.before)).high)
 
 add-if3-2 : tie.Need-overflow-add-if3-2
-add-if3-2 c = omega (arith, (right-shape (opened c.before.before.before)).high)
+add-if3-2 c = omega (arith, (right_shape (opened c.before.before.before)).high)
 
 returns-3 : tie.Need-returns-3
 returns-3 c =
@@ -80,7 +80,7 @@ returns-4 : tie.Need-returns-4
 returns-4 c =
     let l = c.before.before in
     let h = l.before.before.before in
-    answered-held (fitting h.before) refl refl h.is_held_lem.ensures l.before.before.if4.true l.leaks.ensures
+    answered_held (fitting h.before) refl refl h.is_held_lem.ensures l.before.before.if4.true l.leaks.ensures
 
 name-of-requires : tie.Need-name-of-requires
 name-of-requires c κs = search rules
@@ -96,7 +96,7 @@ decide-requires c κs =
     let q = fitting h.before in
     let filled = h.before.before.before.before.before.before.before in (
       asks q x.name_of.ensures y.right_of.ensures,
-      record { station = q.station; valid = valid-record _ q.valid; size = filled.refusal-with.ensures.1 },
+      record { station = q.station; valid = valid_record _ q.valid; size = filled.refusal-with.ensures.1 },
       unheld q x.name_of.ensures y.right_of.ensures h.is_held_lem.ensures x.before.if4.false,
     )
 

@@ -2,7 +2,7 @@
 use native.Mathlib.Omega.{arith}
 use mathlib.Core.Path.{refl}
 use Rattle.matrix.specs.Reading.{state_of}
-use Rattle.safety.specs.Tellings.{part_of, head-by, creation-list, told-creation}
+use Rattle.safety.specs.Tellings.{part_of, head_by, creation_list, told_creation}
 use borrow.Author.Rules.{rules}
 use Rattle.safety.proofs.by_creation.Statement.{statement}
 use Rattle.safety.proofs.by_creation.Tie as tie
@@ -19,7 +19,7 @@ put-creation-requires c κs = part_of c.before.before.before.before.before.requi
 leaks-requires : tie.Need-leaks-requires
 leaks-requires c κs =
     let a = c.before.before.before.before.before.before.before.before.before.args in
-    head-by c.before.before.before.before.before.before.before.before.before.requires.0 (creation-list (state_of a.b.now) a.s a.x a.y a.v c.before.before.before.before.before.before.held-when-made.ensures c.before.before.before.before.before.still-absent.ensures) c.before.before.before.put-creation.ensures
+    head_by c.before.before.before.before.before.before.before.before.before.requires.0 (creation_list (state_of a.b.now) a.s a.x a.y a.v c.before.before.before.before.before.before.held-when-made.ensures c.before.before.before.before.before.still-absent.ensures) c.before.before.before.put-creation.ensures
 
 same_length : tie.Need-same-length
 same_length c = search rules
@@ -27,7 +27,7 @@ same_length c = search rules
 returns : tie.Need-returns
 returns c =
     let a = c.before.before.before.before.before.before.before.before.before.before.before.before.args in
-    told-creation a.v (creation-list (state_of a.b.now) a.s a.x a.y a.v c.before.before.before.before.before.before.before.before.before.held-when-made.ensures c.before.before.before.before.before.before.before.before.still-absent.ensures) c.before.before.before.before.before.before.put-creation.ensures c.before.before.leaks.ensures
+    told_creation a.v (creation_list (state_of a.b.now) a.s a.x a.y a.v c.before.before.before.before.before.before.before.before.before.held-when-made.ensures c.before.before.before.before.before.before.before.before.still-absent.ensures) c.before.before.before.before.before.before.put-creation.ensures c.before.before.leaks.ensures
 
 pub by-creation-spec : {M : Type 1} → statement M
 by-creation-spec =

@@ -2,10 +2,10 @@
 use mathlib.Core.Path.{◌≡◌}
 use borrow.Author.Tests.{not-true, not-false}
 use Rattle.matrix.specs.Reading.{state_of}
-use Rattle.states.specs.Reads.{top-is}
-use Rattle.question.specs.Trust.{trustedBy}
-use Rattle.ways.specs.Ways.{Way, by-star, wayOver, wayMade, way_of}
-use Rattle.safety.specs.Steps.{asks_at, told_at, told_none, way-impossible, way-star, way-over, way-made}
+use Rattle.states.specs.Reads.{top_is}
+use Rattle.question.specs.Trust.{trusted_by}
+use Rattle.ways.specs.Ways.{Way, by_star, way_over, way_made, way_of}
+use Rattle.safety.specs.Steps.{asks_at, told_at, told_none, way_impossible, way_star, way_over_lem, way_made_lem}
 use borrow.Author.Rules.{rules}
 use Rattle.safety.proofs.decide.Statement.{statement}
 use Rattle.safety.proofs.decide.Tie as tie
@@ -15,32 +15,32 @@ abbrev start : tie.After-star-holder → tie.Start
 start h = h.before.before.before.before.before
 
 abbrev way : tie.After-star-holder → Way
-way h = let a = (start h).args in way_of (state_of a.b.now) (trustedBy a.trust) a.s a.x a.y
+way h = let a = (start h).args in way_of (state_of a.b.now) (trusted_by a.trust) a.s a.x a.y
 
 -- which way it is where somebody has the star, and where nobody has: over an existing name, and over an absent one
-star-way : (c : tie.Then2) → way c.before ≡ by-star c.before.star-holder.result
+star-way : (c : tie.Then2) → way c.before ≡ by_star c.before.star-holder.result
 star-way c =
     let h = c.before in
-    way-star _ _ _ _ _ (start h).requires.2 h.before.before.is-possible.ensures (not-false _ h.before.if1.false) (top-is _ _ (start h).requires.0.bit.station) h.star-holder.ensures c.if2.true
+    way_star _ _ _ _ _ (start h).requires.2 h.before.before.is-possible.ensures (not-false _ h.before.if1.false) (top_is _ _ (start h).requires.0.bit.station) h.star-holder.ensures c.if2.true
 
 over-way : (c : tie.Then3)
-    → let h = c.before.before.before in let a = (start h).args in way h ≡ wayOver (state_of a.b.now) (trustedBy a.trust) a.x
+    → let h = c.before.before.before in let a = (start h).args in way h ≡ way_over (state_of a.b.now) (trusted_by a.trust) a.x
 over-way c =
     let h = c.before.before.before in
-    way-over _ _ _ _ _ (start h).requires.2 h.before.before.is-possible.ensures (not-false _ h.before.if1.false) (top-is _ _ (start h).requires.0.bit.station) h.star-holder.ensures c.before.before.if2.false c.before.name-exists.ensures c.if3.true
+    way_over_lem _ _ _ _ _ (start h).requires.2 h.before.before.is-possible.ensures (not-false _ h.before.if1.false) (top_is _ _ (start h).requires.0.bit.station) h.star-holder.ensures c.before.before.if2.false c.before.name-exists.ensures c.if3.true
 
 made-way : (c : tie.Else3)
-    → let h = c.before.before.before in let a = (start h).args in way h ≡ wayMade (state_of a.b.now) (trustedBy a.trust)
+    → let h = c.before.before.before in let a = (start h).args in way h ≡ way_made (state_of a.b.now) (trusted_by a.trust)
 made-way c =
     let h = c.before.before.before in
-    way-made _ _ _ _ _ (start h).requires.2 h.before.before.is-possible.ensures (not-false _ h.before.if1.false) (top-is _ _ (start h).requires.0.bit.station) h.star-holder.ensures c.before.before.if2.false c.before.name-exists.ensures c.if3.false
+    way_made_lem _ _ _ _ _ (start h).requires.2 h.before.before.is-possible.ensures (not-false _ h.before.if1.false) (top_is _ _ (start h).requires.0.bit.station) h.star-holder.ensures c.before.before.if2.false c.before.name-exists.ensures c.if3.false
 
 is-possible-requires : tie.Need-is-possible-requires
 is-possible-requires c κs = search rules
 
 returns : tie.Need-returns
 returns c =
-    told_at (way-impossible _ _ _ _ _ c.before.before.before.before.requires.2 c.before.is-possible.ensures (not-true _ c.if1.true)) (told_none _ _ _ _ _)
+    told_at (way_impossible _ _ _ _ _ c.before.before.before.before.requires.2 c.before.is-possible.ensures (not-true _ c.if1.true)) (told_none _ _ _ _ _)
 
 star-holder-requires : tie.Need-star-holder-requires
 star-holder-requires c κs = search rules
@@ -52,7 +52,7 @@ same_length : tie.Need-same-length
 same_length c = search rules
 
 returns-2 : tie.Need-returns-2
-returns-2 c = let r = c.before.before in told_at (star-way r.before.before) r.by-star.ensures
+returns-2 c = let r = c.before.before in told_at (star-way r.before.before) r.by_star.ensures
 
 name-exists-requires : tie.Need-name-exists-requires
 name-exists-requires c κs = search rules

@@ -1,5 +1,5 @@
 -- `safety::over` meets its contract.
-use Rattle.safety.specs.Steps.{asks_at, told_at, told_none, over-met, over_none, climbed-path}
+use Rattle.safety.specs.Steps.{asks_at, told_at, told_none, over_met, over_none, climbed_path}
 use borrow.Author.Rules.{rules}
 use Rattle.safety.proofs.over.Statement.{statement}
 use Rattle.safety.proofs.over.Tie as tie
@@ -12,7 +12,7 @@ enum-known-r c = search rules
 
 from-above-requires : tie.Need-from-above-requires
 from-above-requires c κs =
-    (asks_at (over-met c.before.before.before.before.before.Way-up.ensures c.before.before.before.r.given.1) c.before.before.before.before.before.before.before.before.before.requires.0, climbed-path c.before.before.before.before.before.Way-up.ensures c.before.before.before.r.given.1, c.before.before.before.before.before.before.before.before.before.requires.1)
+    (asks_at (over_met c.before.before.before.before.before.Way-up.ensures c.before.before.before.r.given.1) c.before.before.before.before.before.before.before.before.before.requires.0, climbed_path c.before.before.before.before.before.Way-up.ensures c.before.before.before.r.given.1, c.before.before.before.before.before.before.before.before.before.requires.1)
 
 enum_told : tie.Need-enum-told
 enum_told c = search rules
@@ -21,7 +21,7 @@ same_length : tie.Need-same-length
 same_length c = search rules
 
 returns : tie.Need-returns
-returns c = told_at (over-met c.before.before.before.before.before.before.before.before.Way-up.ensures c.before.before.before.before.before.before.r.given.1) c.before.before.from-above.ensures
+returns c = told_at (over_met c.before.before.before.before.before.before.before.before.Way-up.ensures c.before.before.before.before.before.before.r.given.1) c.before.before.from_above.ensures
 
 returns-2 : tie.Need-returns-2
 returns-2 c = told_at (over_none c.before.before.Way-up.ensures c.enum_told.given.1) (told_none _ _ _ _ _)

@@ -1,5 +1,5 @@
 -- `safety::within_bounds` meets its contract.
-use Rattle.laws.specs.Tests.{and_then, and-stop}
+use Rattle.laws.specs.Tests.{and_then, and_stop}
 use borrow.Author.Rules.{rules}
 use Rattle.safety.proofs.within_bounds.Statement.{statement}
 use Rattle.safety.proofs.within_bounds.Tie as tie
@@ -14,7 +14,7 @@ returns : tie.Need-returns
 returns c = and_then c.before.if1.true c.before.before.question-fits.ensures c.trust-fits.ensures
 
 returns-2 : tie.Need-returns-2
-returns-2 c = and-stop _ c.if1.false c.before.question-fits.ensures
+returns-2 c = and_stop _ c.if1.false c.before.question-fits.ensures
 
 pub within-bounds-spec : {M : Type 1} → statement M
 within-bounds-spec =

@@ -3,7 +3,7 @@ use borrow.Author.Rules.{rules}
 use Prim.Native.Nat.{◌+◌, ◌*◌}
 use native.Mathlib.Omega.{arith}
 use lib.ListN.{length-take}
-use Rattle.asking.specs.Stands.{list-stands}
+use Rattle.asking.specs.Stands.{list_stands}
 use Rattle.safety_question.proofs.main.Statement.{statement}
 use Rattle.safety_question.proofs.main.Tie as tie
 
@@ -53,19 +53,19 @@ print-count-requires-2 : tie.Need-print-count-requires-2
 print-count-requires-2 c κs = search rules
 
 mul-out : tie.Need-overflow-mul-out
-mul-out c = let s = list-stands _ _ c.before.before.before.before.before.before.ask.ensures c.before.before.before.r2.given.1 in omega (arith, s.within, c.before.before.before.before.before.before.ask.auto.1.0)
+mul-out c = let s = list_stands _ _ c.before.before.before.before.before.before.ask.ensures c.before.before.before.r2.given.1 in omega (arith, s.within, c.before.before.before.before.before.before.ask.auto.1.0)
 
 add-out : tie.Need-overflow-add-out
-add-out c = let s = list-stands _ _ c.before.before.before.before.before.before.ask.ensures c.before.before.before.r2.given.1 in omega (arith, s.within, c.before.before.before.before.before.before.ask.auto.1.0)
+add-out c = let s = list_stands _ _ c.before.before.before.before.before.before.ask.ensures c.before.before.before.r2.given.1 in omega (arith, s.within, c.before.before.before.before.before.before.ask.auto.1.0)
 
 array-share-prefix-out : tie.Need-array-share-prefix-out
-array-share-prefix-out c = (list-stands _ _ c.before.before.before.before.before.before.ask.ensures c.before.before.before.r2.given.1).within
+array-share-prefix-out c = (list_stands _ _ c.before.before.before.before.before.before.ask.ensures c.before.before.before.r2.given.1).within
 
 slice-aggregate-print-list : tie.Need-slice-aggregate-print-list
-slice-aggregate-print-list c = let s = list-stands _ _ c.before.before.before.before.before.before.before.ask.ensures c.before.before.before.before.r2.given.1 in omega (arith, s.within, length-take (5 + 6 * c.before.before.before.before.r2.given.0.0) c.before.before.before.before.before.before.before.ask.new.1.0)
+slice-aggregate-print-list c = let s = list_stands _ _ c.before.before.before.before.before.before.before.ask.ensures c.before.before.before.before.r2.given.1 in omega (arith, s.within, length-take (5 + 6 * c.before.before.before.before.r2.given.0.0) c.before.before.before.before.before.before.before.ask.new.1.0)
 
 print-list-requires : tie.Need-print-list-requires
-print-list-requires c κs = (list-stands _ _ c.before.before.before.before.before.before.before.ask.ensures c.before.before.before.before.r2.given.1).right
+print-list-requires c κs = (list_stands _ _ c.before.before.before.before.before.before.before.ask.ensures c.before.before.before.before.r2.given.1).right
 
 returns : tie.Need-returns
 returns c = search rules

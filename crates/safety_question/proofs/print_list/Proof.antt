@@ -3,8 +3,8 @@ use borrow.Author.Rules.{rules}
 use Prim.Native.Nat.{◌-◌}
 use native.Mathlib.Omega.{arith}
 use mathlib.Core.Path.{sym, ◌∙◌}
-use Rattle.matrix.specs.CommandList.{commandsIn}
-use Rattle.reader.specs.Left.{yields-command}
+use Rattle.matrix.specs.CommandList.{commands_in}
+use Rattle.reader.specs.Left.{yields_command}
 use Rattle.safety_question.proofs.print_list.Statement.{statement}
 use Rattle.safety_question.proofs.print_list.Tie as tie
 
@@ -12,7 +12,7 @@ abbrev invariant-loop : tie.invariant-loop
 invariant-loop list at₀ at = Unit {0}
 
 abbrev decreases-loop : tie.decreases-loop
-decreases-loop list at₀ at = commandsIn list - at
+decreases-loop list at₀ at = commands_in list - at
 
 loop-holds : tie.Need-loop-init invariant-loop decreases-loop
 loop-holds c = tt
@@ -31,7 +31,7 @@ print-command-requires c κs = tt
 
 loop-less : tie.Need-loop-smaller invariant-loop decreases-loop
 loop-less c =
-    let y = yields-command _ _ (sym c.before.before.c.given.1 ∙ c.before.before.before.before.read_one.ensures) in
+    let y = yields_command _ _ (sym c.before.before.c.given.1 ∙ c.before.before.before.before.read_one.ensures) in
     omega (arith, y.more, y.moved)
 
 loop-again : tie.Need-loop-preserved invariant-loop decreases-loop

@@ -6,9 +6,9 @@ use Rattle.matrix.specs.declared.Form.{Form}
 use Rattle.matrix.specs.declared.Right.TheVariants.{Basic}
 use Rattle.matrix.specs.State.{has, put}
 use Rattle.matrix.specs.Reading.{state_of}
-use Rattle.bits.specs.Steps.{became-as}
-use Rattle.short_ways.specs.Ready.{row-i, row-s, name-is}
-use Rattle.short_ways.specs.Allowed.{left_alone, made, subjectFits, at_name}
+use Rattle.bits.specs.Steps.{became_as}
+use Rattle.short_ways.specs.Ready.{row_i, row_s, name_is}
+use Rattle.short_ways.specs.Allowed.{left_alone, made, subject_fits, at_name}
 use borrow.Author.Rules.{rules}
 use Rattle.short_ways.proofs.put_allowed.Statement.{statement}
 use Rattle.short_ways.proofs.put_allowed.Tie as tie
@@ -25,8 +25,8 @@ subject-fits-requires c κs =
     record {
       station = z.requires.0;
       right = z.requires.2;
-      row = row-s z.args.f z.args.c z.requires.1;
-      column = name-is z.args.f z.args.c c.before.before.name_of.ensures z.requires.1;
+      row = row_s z.args.f z.args.c z.requires.1;
+      column = name_is z.args.f z.args.c c.before.before.name_of.ensures z.requires.1;
     }
 
 same_length : tie.Need-same-length
@@ -41,8 +41,8 @@ has-bit-requires c κs =
     record {
       station = z.requires.0;
       right = z.requires.3;
-      row = row-i z.args.f z.args.c z.requires.1;
-      column = name-is z.args.f z.args.c c.before.before.before.before.before.name_of.ensures z.requires.1;
+      row = row_i z.args.f z.args.c z.requires.1;
+      column = name_is z.args.f z.args.c c.before.before.before.before.before.name_of.ensures z.requires.1;
     }
 
 same-length-2 : tie.Need-same-length-2
@@ -57,8 +57,8 @@ put-right-requires c κs =
     record {
       station = z.requires.0;
       right = z.requires.2;
-      row = row-s z.args.f z.args.c z.requires.1;
-      column = name-is z.args.f z.args.c c.before.before.before.before.before.before.before.before.name_of.ensures z.requires.1;
+      row = row_s z.args.f z.args.c z.requires.1;
+      column = name_is z.args.f z.args.c c.before.before.before.before.before.before.before.before.name_of.ensures z.requires.1;
     }
 
 same-length-3 : tie.Need-same-length-3
@@ -72,11 +72,11 @@ returns-3 c =
     made
     record {
       fits =
-          sym (ap₂ (λ (f : Form) (x : Name). subjectFits (state_of z.b.now) (Basic z.c.k f) z.c.s x z.on) g x) ∙ sym c.before.before.before.before.before.before.before.before.subject-fits.ensures
+          sym (ap₂ (λ (f : Form) (x : Name). subject_fits (state_of z.b.now) (Basic z.c.k f) z.c.s x z.on) g x) ∙ sym c.before.before.before.before.before.before.before.before.subject-fits.ensures
           ∙ not-false _ c.before.before.before.before.before.before.before.if1.false;
       held = at_name (λ (x : Name). has (state_of z.b.now) z.y z.c.i x) x c.before.before.before.before.before.has-bit.ensures (not-false _ c.before.before.before.before.if2.false);
       became =
-          became-as c.before.before.put_right.ensures
+          became_as c.before.before.put_right.ensures
           (ap₂ (λ (f : Form) (x : Name). put (Basic z.c.k f) z.c.s x z.on (state_of z.b.now)) g x);
     }
 

@@ -2,7 +2,7 @@
 use Prim.Native.Nat.{ℕ, ◌+◌, ◌*◌}
 use native.Mathlib.Omega.{arith}
 use mathlib.Core.Path.{◌∙◌, ap}
-use Rattle.states.specs.Reads.{basic-code}
+use Rattle.states.specs.Reads.{basic_code}
 use borrow.Author.Rules.{rules}
 use Rattle.states.proofs.code_of.Statement.{statement}
 use Rattle.states.proofs.code_of.Tie as tie
@@ -17,10 +17,10 @@ enum-known-y : tie.Need-enum-known-y
 enum-known-y c = search rules
 
 mul-result : tie.Need-overflow-mul-result
-mul-result c = omega (arith, basic-code c.before.y.given.1, c.before.before.before.requires)
+mul-result c = omega (arith, basic_code c.before.y.given.1, c.before.before.before.requires)
 
 add-result : tie.Need-overflow-add-result
-add-result c = omega (arith, basic-code c.before.y.given.1, c.before.before.before.requires)
+add-result c = omega (arith, basic_code c.before.y.given.1, c.before.before.before.requires)
 
 star-of-requires : tie.Need-star-of-requires
 star-of-requires c κs = search rules
@@ -28,7 +28,7 @@ star-of-requires c κs = search rules
 returns-3 : tie.Need-returns-3
 returns-3 c =
     let y = c.before.before.y.given in
-    ap (λ (d : ℕ). 2 + 2 * y.0.0 + d) c.star-of.ensures ∙ basic-code y.1
+    ap (λ (d : ℕ). 2 + 2 * y.0.0 + d) c.star-of.ensures ∙ basic_code y.1
 
 add-result-2 : tie.Need-overflow-add-result-2
 add-result-2 c = omega (arith, returns-3 c, c.before.before.before.before.requires)

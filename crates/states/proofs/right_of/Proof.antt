@@ -1,5 +1,5 @@
 -- `states::right_of` meets its contract.
-use Rattle.states.specs.Reads.{rightOf-plain, rightOf-starred}
+use Rattle.states.specs.Reads.{right_of_plain, right_of_starred}
 use borrow.Author.Rules.{rules}
 use Rattle.states.proofs.right_of.Statement.{statement}
 use Rattle.states.proofs.right_of.Tie as tie
@@ -14,10 +14,10 @@ sub-j : tie.Need-overflow-sub-j
 sub-j c = search rules
 
 returns-3 : tie.Need-returns-3
-returns-3 c = rightOf-plain _ c.before.before.if1.false c.before.if2.false c.if3.true
+returns-3 c = right_of_plain _ c.before.before.if1.false c.before.if2.false c.if3.true
 
 returns-4 : tie.Need-returns-4
-returns-4 c = rightOf-starred _ c.before.before.if1.false c.before.if2.false c.if3.false
+returns-4 c = right_of_starred _ c.before.before.if1.false c.before.if2.false c.if3.false
 
 pub right-of-spec : {M : Type 1} → statement M
 right-of-spec = tie.close (tie.spec returns returns-2 sub-j returns-3 returns-4)

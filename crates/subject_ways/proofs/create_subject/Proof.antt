@@ -5,10 +5,10 @@ use Rattle.matrix.specs.declared.Command.{Command}
 use Rattle.matrix.specs.declared.Act.TheVariants.{CreateSubject}
 use Rattle.matrix.specs.Changes.{change}
 use Rattle.matrix.specs.Reading.{state_of}
-use Rattle.bits.specs.Steps.{became-as}
-use Rattle.short_ways.specs.Ready.{row-i, row-s}
+use Rattle.bits.specs.Steps.{became_as}
+use Rattle.short_ways.specs.Ready.{row_i, row_s}
 use Rattle.short_ways.specs.Allowed.{left_alone, made}
-use Rattle.subject_ways.specs.Subjects.{on-names, answered-created}
+use Rattle.subject_ways.specs.Subjects.{on_names, answered_created}
 use borrow.Author.Rules.{rules}
 use Rattle.subject_ways.proofs.create_subject.Statement.{statement}
 use Rattle.subject_ways.proofs.create_subject.Tie as tie
@@ -17,7 +17,7 @@ returns : tie.Need-returns
 returns c = left_alone
 
 subject-exists-requires : tie.Need-subject-exists-requires
-subject-exists-requires c κs = let z = c.before.before.before.before in (z.requires.0.station, row-i z.args.f z.args.c z.requires.0.names)
+subject-exists-requires c κs = let z = c.before.before.before.before in (z.requires.0.station, row_i z.args.f z.args.c z.requires.0.names)
 
 same_length : tie.Need-same-length
 same_length c = search rules
@@ -26,7 +26,7 @@ returns-2 : tie.Need-returns-2
 returns-2 c = left_alone
 
 subject-exists-requires-2 : tie.Need-subject-exists-requires-2
-subject-exists-requires-2 c κs = let z = c.before.before.before.before.before.before.before in (z.requires.0.station, row-s z.args.f z.args.c z.requires.0.names)
+subject-exists-requires-2 c κs = let z = c.before.before.before.before.before.before.before in (z.requires.0.station, row_s z.args.f z.args.c z.requires.0.names)
 
 same-length-2 : tie.Need-same-length-2
 same-length-2 c = search rules
@@ -38,7 +38,7 @@ command-of-requires : tie.Need-command-of-requires
 command-of-requires c κs = search rules
 
 create-subject-requires : tie.Need-create-subject-requires
-create-subject-requires c κs = let z = c.before.before.before.before.before.before.before.before.before.before.before in on-names z.args.c z.requires.0 CreateSubject c.command-of.ensures tt
+create-subject-requires c κs = let z = c.before.before.before.before.before.before.before.before.before.before.before in on_names z.args.c z.requires.0 CreateSubject c.command-of.ensures tt
 
 same-length-3 : tie.Need-same-length-3
 same-length-3 c = search rules
@@ -47,9 +47,9 @@ returns-4 : tie.Need-returns-4
 returns-4 c =
     let z = c.before.before.before.before.before.before.before.before.before.before.before.before.before.before in
     made
-    (answered-created z.args.c z.requires.0 z.requires.1 c.before.before.before.before.before.before.before.before.before.before.before.if1.false (sym c.before.before.before.before.before.before.before.before.before.subject-exists.ensures ∙ not-false _ c.before.before.before.before.before.before.before.before.if2.false)
+    (answered_created z.args.c z.requires.0 z.requires.1 c.before.before.before.before.before.before.before.before.before.before.before.if1.false (sym c.before.before.before.before.before.before.before.before.before.subject-exists.ensures ∙ not-false _ c.before.before.before.before.before.before.before.before.if2.false)
     (sym c.before.before.before.before.before.before.subject-exists2.ensures ∙ c.before.before.before.before.before.if3.false)
-    (became-as c.before.before.create-subject.ensures (ap (λ (d : Command). change (state_of z.args.b.now) d CreateSubject) c.before.before.before.command-of.ensures)))
+    (became_as c.before.before.create_subject.ensures (ap (λ (d : Command). change (state_of z.args.b.now) d CreateSubject) c.before.before.before.command-of.ensures)))
 
 pub create-subject-spec : {M : Type 1} → statement M
 create-subject-spec =

@@ -2,9 +2,9 @@
 use native.Mathlib.Omega.{arith}
 use mathlib.Core.Path.{sym, ◌∙◌}
 use borrow.Author.Tests.{not-false, lt-ltb}
-use Rattle.short_ways.specs.Ready.{row-i, row-s}
+use Rattle.short_ways.specs.Ready.{row_i, row_s}
 use Rattle.short_ways.specs.Allowed.{left_alone, made}
-use Rattle.subject_ways.specs.Subjects.{answered-controlled}
+use Rattle.subject_ways.specs.Subjects.{answered_controlled}
 use borrow.Author.Rules.{rules}
 use Rattle.subject_ways.proofs.grant_control.Statement.{statement}
 use Rattle.subject_ways.proofs.grant_control.Tie as tie
@@ -13,7 +13,7 @@ returns : tie.Need-returns
 returns c = left_alone
 
 subject-exists-requires : tie.Need-subject-exists-requires
-subject-exists-requires c κs = let z = c.before.before.before.before.before in (z.requires.0.station, row-s z.args.f z.args.c z.requires.0.names)
+subject-exists-requires c κs = let z = c.before.before.before.before.before in (z.requires.0.station, row_s z.args.f z.args.c z.requires.0.names)
 
 same_length : tie.Need-same-length
 same_length c = search rules
@@ -24,7 +24,7 @@ returns-2 c = left_alone
 has-bit-requires : tie.Need-has-bit-requires
 has-bit-requires c κs =
     let z = c.before.before.before.before.before.before.before.before in
-    record { station = z.requires.0.station; right = tt; row = row-i z.args.f z.args.c z.requires.0.names; column = lt-ltb z.args.c.o z.args.f.n (omega (arith, c.before.before.before.before.if1.false)) }
+    record { station = z.requires.0.station; right = tt; row = row_i z.args.f z.args.c z.requires.0.names; column = lt-ltb z.args.c.o z.args.f.n (omega (arith, c.before.before.before.before.if1.false)) }
 
 same-length-2 : tie.Need-same-length-2
 same-length-2 c = search rules
@@ -44,7 +44,7 @@ returns-4 c = left_alone
 put-right-requires : tie.Need-put-right-requires
 put-right-requires c κs =
     let z = c.before.before.before.before.before.before.before.before.before.before.before.before.before.before in
-    record { station = z.requires.0.station; right = tt; row = row-s z.args.f z.args.c z.requires.0.names; column = lt-ltb z.args.c.o z.args.f.n (omega (arith, c.before.before.before.before.before.before.before.before.before.before.if1.false)) }
+    record { station = z.requires.0.station; right = tt; row = row_s z.args.f z.args.c z.requires.0.names; column = lt-ltb z.args.c.o z.args.f.n (omega (arith, c.before.before.before.before.before.before.before.before.before.before.if1.false)) }
 
 same-length-4 : tie.Need-same-length-4
 same-length-4 c = search rules
@@ -53,7 +53,7 @@ returns-5 : tie.Need-returns-5
 returns-5 c =
     let z = c.before.before.before.before.before.before.before.before.before.before.before.before.before.before.before.before.before in
     made
-    (answered-controlled z.args.c z.requires.0 z.requires.1 (omega (arith, c.before.before.before.before.before.before.before.before.before.before.before.before.before.if1.false)) (sym c.before.before.before.before.before.before.before.before.before.before.before.subject-exists.ensures ∙ not-false _ c.before.before.before.before.before.before.before.before.before.before.if2.false)
+    (answered_controlled z.args.c z.requires.0 z.requires.1 (omega (arith, c.before.before.before.before.before.before.before.before.before.before.before.before.before.if1.false)) (sym c.before.before.before.before.before.before.before.before.before.before.before.subject-exists.ensures ∙ not-false _ c.before.before.before.before.before.before.before.before.before.before.if2.false)
     (sym c.before.before.before.before.before.before.before.before.has-bit.ensures ∙ not-false _ c.before.before.before.before.before.before.before.if3.false) (sym c.before.before.before.before.before.controlled.ensures ∙ c.before.before.before.before.if4.false) c.before.before.put_right.ensures)
 
 pub grant-control-spec : {M : Type 1} → statement M

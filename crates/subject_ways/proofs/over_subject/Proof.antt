@@ -1,8 +1,8 @@
 -- `subject_ways::over_subject` meets its contract.
 use mathlib.Core.Path.{sym, ◌∙◌}
 use borrow.Author.Tests.{not-false}
-use Rattle.cells.specs.Station.{right-shape}
-use Rattle.short_ways.specs.Allowed.{left_alone, where-then}
+use Rattle.cells.specs.Station.{right_shape}
+use Rattle.short_ways.specs.Allowed.{left_alone, where_then}
 use Rattle.short_ways.specs.WithoutBasic.{WithoutBasic}
 use borrow.Author.Rules.{rules}
 use Rattle.subject_ways.proofs.over_subject.Statement.{statement}
@@ -12,7 +12,7 @@ returns : tie.Need-returns
 returns c = left_alone
 
 names-fit-requires : tie.Need-names-fit-requires
-names-fit-requires c κs = right-shape c.before.before.before.requires.0
+names-fit-requires c κs = right_shape c.before.before.before.requires.0
 
 returns-2 : tie.Need-returns-2
 returns-2 c = left_alone
@@ -30,7 +30,7 @@ same_length : tie.Need-same-length
 same_length c = search rules
 
 returns-3 : tie.Need-returns-3
-returns-3 c = where-then c.before.before.grant-control.ensures (λ a. (a, (without-basic c.before.before.before.before.before.before).names))
+returns-3 c = where_then c.before.before.grant_control.ensures (λ a. (a, (without-basic c.before.before.before.before.before.before).names))
 
 create-subject-requires : tie.Need-create-subject-requires
 create-subject-requires c κs = (without-basic c.before.before.before.before.before, c.before.if4.true)
@@ -39,7 +39,7 @@ same-length-2 : tie.Need-same-length-2
 same-length-2 c = search rules
 
 returns-4 : tie.Need-returns-4
-returns-4 c = where-then c.before.before.create-subject.ensures (λ a. (a, (without-basic c.before.before.before.before.before.before.before.before).names))
+returns-4 c = where_then c.before.before.create_subject.ensures (λ a. (a, (without-basic c.before.before.before.before.before.before.before.before).names))
 
 destroy-subject-requires : tie.Need-destroy-subject-requires
 destroy-subject-requires c κs = (without-basic c.before.before.before.before.before.before.before, c.before.if5.true)
@@ -48,7 +48,7 @@ same-length-3 : tie.Need-same-length-3
 same-length-3 c = search rules
 
 returns-5 : tie.Need-returns-5
-returns-5 c = where-then c.before.before.destroy-subject.ensures (λ a. (a, (without-basic c.before.before.before.before.before.before.before.before.before.before).names))
+returns-5 c = where_then c.before.before.destroy_subject.ensures (λ a. (a, (without-basic c.before.before.before.before.before.before.before.before.before.before).names))
 
 returns-6 : tie.Need-returns-6
 returns-6 c = left_alone

@@ -4,18 +4,18 @@ use Prim.Native.Nat.{ℕ, ◌-◌, ◌*◌, ◌%◌, ◌≤◌}
 use native.Mathlib.Nat.{le_refl}
 use native.Mathlib.Omega.{arith}
 use mathlib.Core.Path.{ap}
-use Rattle.tallies.specs.Blocks.{at_once, low_bits, lanesFrom, ownUpper, Joined, joined-none, joined_step, joined-done}
+use Rattle.tallies.specs.Blocks.{at_once, low_bits, lanes_from, own_upper, Joined, joined_none, joined_step, joined_done}
 use Rattle.tallies.proofs.row.Statement.{statement}
 use Rattle.tallies.proofs.row.Tie as tie
 
 abbrev invariant-loop : tie.invariant-loop
-invariant-loop low₀ odd₀ since₀ b at j₀ low odd since j = (j ≤ at_once) × Joined (low_bits b at) (lanesFrom b at) ownUpper j low₀ odd₀ since₀ low odd since
+invariant-loop low₀ odd₀ since₀ b at j₀ low odd since j = (j ≤ at_once) × Joined (low_bits b at) (lanes_from b at) own_upper j low₀ odd₀ since₀ low odd since
 
 abbrev decreases-loop : tie.decreases-loop
 decreases-loop low₀ odd₀ since₀ b at j₀ low odd since j = at_once - j
 
 loop-holds : tie.Need-loop-init invariant-loop decreases-loop
-loop-holds c = (search rules, joined-none _ _ _ _ _ _)
+loop-holds c = (search rules, joined_none _ _ _ _ _ _)
 
 mul-lane : tie.Need-overflow-mul-lane invariant-loop decreases-loop
 mul-lane c = search rules
@@ -38,7 +38,7 @@ mul-low-2 c = search rules
 add_low : tie.Need-overflow-add-low invariant-loop decreases-loop
 add_low c =
     let l = c.before.before.before.loop in
-    record { fits = omega (arith, l.invariant.1.sums.above l.j (le_refl l.j), c.before.before.before.before.before.requires.low-room l.j c.before.before.loop-test.true) }
+    record { fits = omega (arith, l.invariant.1.sums.above l.j (le_refl l.j), c.before.before.before.before.before.requires.low_room l.j c.before.before.loop-test.true) }
 
 mul-low-3 : tie.Need-overflow-mul-low-3 invariant-loop decreases-loop
 mul-low-3 c = search rules
@@ -77,7 +77,7 @@ add-since : tie.Need-overflow-add-since invariant-loop decreases-loop
 add-since c =
     let i = c.before.before.before.before.before in
     let l = i.before.loop in
-    record { fits = omega (arith, l.invariant.1.owned.above l.j (le_refl l.j), i.before.before.before.requires.since-room l.j i.loop-test.true) }
+    record { fits = omega (arith, l.invariant.1.owned.above l.j (le_refl l.j), i.before.before.before.requires.since_room l.j i.loop-test.true) }
 
 mul-since-4 : tie.Need-overflow-mul-since-4 invariant-loop decreases-loop
 mul-since-4 c = search rules
@@ -98,7 +98,7 @@ loop-again c =
     (search rules, joined_step _ _ _ _ _ _ _ _ _ _ _ _ l.invariant.1 i.before.before.before.before.requires.sized i.before.loop-test.true (ap (λ (x : ℕ). x % 4 * 256) i.lane.ensures.1) i.lane.ensures.0)
 
 returns : tie.Need-returns invariant-loop decreases-loop
-returns c = let l = c.before.loop in joined-done _ _ _ _ _ _ _ _ _ _ _ l.invariant.0 c.loop-test.false l.invariant.1
+returns c = let l = c.before.loop in joined_done _ _ _ _ _ _ _ _ _ _ _ l.invariant.0 c.loop-test.false l.invariant.1
 
 pub row-spec : {M : Type 1} → statement M
 row-spec =

@@ -3,8 +3,8 @@ use borrow.Author.Rules.{rules}
 use Prim.Native.Nat.{◌+◌, ◌/◌, ◌-◌, ◌≤◌}
 use native.Mathlib.Omega.{arith}
 use lib.ListN.{get_or}
-use Rattle.lanes.specs.Lanes.{upperAt}
-use Rattle.tallies.specs.Blocks.{at_once, Column, column-low, column-count, several-none, Filling, filling-none, filling_step, filling-done}
+use Rattle.lanes.specs.Lanes.{upper_at}
+use Rattle.tallies.specs.Blocks.{at_once, Column, column_low, column_count, several_none, Filling, filling_none, filling_step, filling_done}
 use Rattle.tallies.proofs.several.Statement.{statement}
 use Rattle.tallies.proofs.several.Tie as tie
 
@@ -19,14 +19,14 @@ counted : (c : tie.In-loop invariant-loop decreases-loop) →
     let a = c.before.before.before.before.before.before.before.before.before.before.args in
     let l = c.before.before.rows_of_lem in
     let j = c.before.loop.j in
-    Column (λ v. upperAt a.b.now a.m v (a.c + j)) a.m.rows (get_or l.new.0 j 0 / 256) (get_or l.new.1.0 j 0 / 256) (get_or l.new.1.1.0 j 0 / 256)
+    Column (λ v. upper_at a.b.now a.m v (a.c + j)) a.m.rows (get_or l.new.0 j 0 / 256) (get_or l.new.1.0 j 0 / 256) (get_or l.new.1.1.0 j 0 / 256)
 counted c = c.before.before.rows_of_lem.ensures.column c.before.loop.j c.loop-test.true
 
 rows-of-requires : tie.Need-rows-of-requires invariant-loop decreases-loop
-rows-of-requires c κs = let s = c.before.before.before.before.before.before.before in (s.requires.0, s.requires.1, s.requires.2, several-none _ _ _)
+rows-of-requires c κs = let s = c.before.before.before.before.before.before.before in (s.requires.0, s.requires.1, s.requires.2, several_none _ _ _)
 
 loop-holds : tie.Need-loop-init invariant-loop decreases-loop
-loop-holds c = (search rules, filling-none _ _ _ _ _ _)
+loop-holds c = (search rules, filling_none _ _ _ _ _ _)
 
 mul-tally : tie.Need-overflow-mul-tally invariant-loop decreases-loop
 mul-tally c = search rules
@@ -35,7 +35,7 @@ array-read-tally : tie.Need-array-read-tally invariant-loop decreases-loop
 array-read-tally c = search rules
 
 cast-tally : tie.Need-overflow-cast-tally invariant-loop decreases-loop
-cast-tally c = record { fits = omega (arith, column-low _ _ _ _ _ (counted c)) }
+cast-tally c = record { fits = omega (arith, column_low _ _ _ _ _ (counted c)) }
 
 add-tally : tie.Need-overflow-add-tally invariant-loop decreases-loop
 add-tally c = search rules
@@ -65,10 +65,10 @@ array-read-place : tie.Need-array-read-place invariant-loop decreases-loop
 array-read-place c = search rules
 
 cast-place : tie.Need-overflow-cast-place invariant-loop decreases-loop
-cast-place c = record { fits = omega (arith, column-count _ _ _ _ _ (counted c)) }
+cast-place c = record { fits = omega (arith, column_count _ _ _ _ _ (counted c)) }
 
 place-requires : tie.Need-place-requires invariant-loop decreases-loop
-place-requires c κs = (search rules, column-count _ _ _ _ _ (counted c))
+place-requires c κs = (search rules, column_count _ _ _ _ _ (counted c))
 
 add-marks : tie.Need-overflow-add-marks invariant-loop decreases-loop
 add-marks c = search rules
@@ -97,7 +97,7 @@ same-length-3 : tie.Need-same-length-3 invariant-loop decreases-loop
 same-length-3 c = search rules
 
 returns : tie.Need-returns invariant-loop decreases-loop
-returns c = let l = c.before.loop in filling-done _ _ _ _ _ _ _ _ _ _ _ l.invariant.0 c.loop-test.false l.invariant.1
+returns c = let l = c.before.loop in filling_done _ _ _ _ _ _ _ _ _ _ _ l.invariant.0 c.loop-test.false l.invariant.1
 
 pub several-spec : {M : Type 1} → statement M
 several-spec =

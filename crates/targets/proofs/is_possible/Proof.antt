@@ -1,5 +1,5 @@
 -- `targets::is_possible` meets its contract: each arm is a case of the definition.
-use Rattle.targets.specs.Targets.{own-other, own-itself, control-other, control-root}
+use Rattle.targets.specs.Targets.{own_other, own_itself, control_other, control_root}
 use borrow.Author.Rules.{rules}
 use Rattle.targets.proofs.is_possible.Statement.{statement}
 use Rattle.targets.proofs.is_possible.Tie as tie
@@ -29,16 +29,16 @@ enum-told-7 : tie.Need-enum-told-7
 enum-told-7 c = search rules
 
 returns : tie.Need-returns
-returns c = own-other _ c.before.before.before.before.x.given.1 c.before.enum_told.given.1 c.if1.true
+returns c = own_other _ c.before.before.before.before.x.given.1 c.before.enum_told.given.1 c.if1.true
 
 returns-2 : tie.Need-returns-2
-returns-2 c = own-itself _ c.before.before.before.before.x.given.1 c.before.enum_told.given.1 c.if1.false
+returns-2 c = own_itself _ c.before.before.before.before.x.given.1 c.before.enum_told.given.1 c.if1.false
 
 returns-3 : tie.Need-returns-3
-returns-3 c = control-other _ c.before.before.before.before.x.given.1 c.before.enum-told2.given.1 c.if2.true
+returns-3 c = control_other _ c.before.before.before.before.x.given.1 c.before.enum-told2.given.1 c.if2.true
 
 returns-4 : tie.Need-returns-4
-returns-4 c = control-root _ c.before.before.before.before.x.given.1 c.before.enum-told2.given.1 c.if2.false
+returns-4 c = control_root _ c.before.before.before.before.x.given.1 c.before.enum-told2.given.1 c.if2.false
 
 returns-5 : tie.Need-returns-5
 returns-5 c = search rules

@@ -9,16 +9,16 @@ use Rattle.matrix.specs.Bounded.{least}
 use Rattle.matrix.specs.Bytes.{bit}
 use Rattle.matrix.specs.declared.Form.TheVariants.{Starred}
 use Rattle.matrix.specs.Reading.{state_of}
-use Rattle.cells.specs.Station.{right-shape}
-use Rattle.masks.specs.Marks.{maskBits}
-use Rattle.question.specs.Trust.{trustedBy}
-use Rattle.targets.specs.Passing.{Passed, passed-trusted, star-none, star-found, passed-more, passed-higher}
+use Rattle.cells.specs.Station.{right_shape}
+use Rattle.masks.specs.Marks.{mask_bits}
+use Rattle.question.specs.Trust.{trusted_by}
+use Rattle.targets.specs.Passing.{Passed, passed_trusted, star_none, star_found, passed_more, passed_higher}
 use Rattle.targets.proofs.star_row.Statement.{statement}
 use Rattle.targets.proofs.star_row.Tie as tie
 
 abbrev invariant-loop : tie.invariant-loop
 invariant-loop b f trust k x n passed₀ v₀ passed v =
-    (v ≡ least maskBits (λ j. not (bit j passed))) × Passed (trustedBy trust) (λ j. (state_of b).basic k Starred j x) passed
+    (v ≡ least mask_bits (λ j. not (bit j passed))) × Passed (trusted_by trust) (λ j. (state_of b).basic k Starred j x) passed
 
 abbrev decreases-loop : tie.decreases-loop
 decreases-loop b f trust k x n passed₀ v₀ passed v = n - v
@@ -27,7 +27,7 @@ lowest-outside-requires : tie.Need-lowest-outside-requires invariant-loop decrea
 lowest-outside-requires c κs = search rules
 
 loop-holds : tie.Need-loop-init invariant-loop decreases-loop
-loop-holds c = (c.lowest-outside.ensures, passed-trusted _ _)
+loop-holds c = (c.lowest-outside.ensures, passed_trusted _ _)
 
 has-bit-requires : tie.Need-has-bit-requires invariant-loop decreases-loop
 has-bit-requires c κs =
@@ -38,10 +38,10 @@ returns : tie.Need-returns invariant-loop decreases-loop
 returns c =
     let i = c.before.before.before.loop.invariant in
     let l = c.before.before.loop-test.true in
-    star-found i.1 i.0 (omega (arith, (right-shape c.before.before.before.before.before.before.requires.0.station).high)) l c.before.has-bit.ensures c.if1.true
+    star_found i.1 i.0 (omega (arith, (right_shape c.before.before.before.before.before.before.requires.0.station).high)) l c.before.has-bit.ensures c.if1.true
 
 added-requires : tie.Need-added-requires invariant-loop decreases-loop
-added-requires c κs = omega (arith, c.before.before.loop-test.true, (right-shape c.before.before.before.before.before.before.requires.0.station).high)
+added-requires c κs = omega (arith, c.before.before.loop-test.true, (right_shape c.before.before.before.before.before.before.requires.0.station).high)
 
 lowest-outside-requires-2 : tie.Need-lowest-outside-requires-2 invariant-loop decreases-loop
 lowest-outside-requires-2 c κs = search rules
@@ -50,16 +50,16 @@ loop-less : tie.Need-loop-smaller invariant-loop decreases-loop
 loop-less c =
     let i = c.before.before.before.before.before.loop.invariant in
     let l = c.before.before.before.before.loop-test.true in
-    omega (arith, passed-higher i.1 i.0 (omega (arith, (right-shape c.before.before.before.before.before.before.before.before.requires.0.station).high)) c.before.added.ensures c.lowest-outside2.ensures)
+    omega (arith, passed_higher i.1 i.0 (omega (arith, (right_shape c.before.before.before.before.before.before.before.before.requires.0.station).high)) c.before.added.ensures c.lowest-outside2.ensures)
 
 loop-again : tie.Need-loop-preserved invariant-loop decreases-loop
 loop-again c =
     let i = c.before.before.before.before.before.loop.invariant in
     let l = c.before.before.before.before.loop-test.true in
-    (c.lowest-outside2.ensures, passed-more i.1 i.0 (omega (arith, (right-shape c.before.before.before.before.before.before.before.before.requires.0.station).high)) c.before.added.ensures c.before.before.before.has-bit.ensures c.before.before.if1.false)
+    (c.lowest-outside2.ensures, passed_more i.1 i.0 (omega (arith, (right_shape c.before.before.before.before.before.before.before.before.requires.0.station).high)) c.before.added.ensures c.before.before.before.has-bit.ensures c.before.before.if1.false)
 
 returns-2 : tie.Need-returns-2 invariant-loop decreases-loop
-returns-2 c = star-none c.before.loop.invariant.1 c.before.loop.invariant.0 c.loop-test.false
+returns-2 c = star_none c.before.loop.invariant.1 c.before.loop.invariant.0 c.loop-test.false
 
 pub star-row-spec : {M : Type 1} → statement M
 star-row-spec =

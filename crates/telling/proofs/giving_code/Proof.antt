@@ -1,5 +1,5 @@
 -- `telling::giving_code` meets its contract: each arm is a case of the definition.
-use Rattle.telling.specs.Parts.{giving-control, giving-plain, giving-starred}
+use Rattle.telling.specs.Parts.{giving_control, giving_plain, giving_starred}
 use borrow.Author.Rules.{rules}
 use Rattle.telling.proofs.giving_code.Statement.{statement}
 use Rattle.telling.proofs.giving_code.Tie as tie
@@ -32,13 +32,13 @@ returns-2 : tie.Need-returns-2
 returns-2 c = search rules
 
 returns-3 : tie.Need-returns-3
-returns-3 c = giving-control c.before.before.args.x c.enum-told4.given.1
+returns-3 c = giving_control c.before.before.args.x c.enum-told4.given.1
 
 returns-4 : tie.Need-returns-4
-returns-4 c = giving-plain c.before.before.before.before.before.args.x c.before.before.before.y.given.1 c.enum-told5.given.1
+returns-4 c = giving_plain c.before.before.before.before.before.args.x c.before.before.before.y.given.1 c.enum-told5.given.1
 
 returns-5 : tie.Need-returns-5
-returns-5 c = giving-starred c.before.before.before.before.before.args.x c.before.before.before.y.given.1 c.enum-told6.given.1
+returns-5 c = giving_starred c.before.before.before.before.before.args.x c.before.before.before.y.given.1 c.enum-told6.given.1
 
 pub giving-code-spec : {M : Type 1} → statement M
 giving-code-spec =

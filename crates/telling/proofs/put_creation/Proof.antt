@@ -1,23 +1,23 @@
 -- `telling::put_creation` meets its contract: the name, and the end of a list where the right is not held then.
 use native.Mathlib.Omega.{arith}
 use mathlib.Core.Path.{refl}
-use Rattle.telling.specs.Tells.{tells-only, tells_more}
-use Rattle.telling.specs.Parts.{part-after, part-weak, pair-over}
+use Rattle.telling.specs.Tells.{tells_only, tells_more}
+use Rattle.telling.specs.Parts.{part_after, part_weak, pair_over}
 use borrow.Author.Rules.{rules}
 use Rattle.telling.proofs.put_creation.Statement.{statement}
 use Rattle.telling.proofs.put_creation.Tie as tie
 
 put-name-requires : tie.Need-put-name-requires
-put-name-requires c κs = pair-over 1 2 c.before.before.requires refl
+put-name-requires c κs = pair_over 1 2 c.before.before.requires refl
 
 same_length : tie.Need-same-length
 same_length c = search rules
 
 returns : tie.Need-returns
-returns c = tells-only _ c.if1.true c.before.before.before.put-name.ensures
+returns c = tells_only _ c.if1.true c.before.before.before.put-name.ensures
 
 put-finish-requires : tie.Need-put-finish-requires
-put-finish-requires c κs = part-weak c.before.before.before.before.before.before.before.args.absent (part-after 1 2 c.before.before.before.before.before.before.before.requires c.before.before.before.before.put-name.ensures (omega arith))
+put-finish-requires c κs = part_weak c.before.before.before.before.before.before.before.args.absent (part_after 1 2 c.before.before.before.before.before.before.before.requires c.before.before.before.before.put-name.ensures (omega arith))
 
 same-length-2 : tie.Need-same-length-2
 same-length-2 c = search rules

@@ -2,7 +2,7 @@
 use borrow.Author.Rules.{rules}
 use Prim.Native.Nat.{◌-◌}
 use native.Mathlib.Omega.{arith}
-use Rattle.telling.specs.Paths.{Reached, reached-none, reached-length, destroy-pair, reached-more, reached-all}
+use Rattle.telling.specs.Paths.{Reached, reached_none, reached_length, destroy_pair, reached_more, reached_all}
 use Rattle.telling.proofs.put_destroys.Statement.{statement}
 use Rattle.telling.proofs.put_destroys.Tie as tie
 
@@ -13,7 +13,7 @@ abbrev decreases-loop : tie.decreases-loop
 decreases-loop out₀ v path m t₀ out t = m - t
 
 loop-holds : tie.Need-loop-init invariant-loop decreases-loop
-loop-holds c = reached-none _ _ _ _
+loop-holds c = reached_none _ _ _ _
 
 sub-subject : tie.Need-overflow-sub-subject invariant-loop decreases-loop
 sub-subject c = omega arith
@@ -28,7 +28,7 @@ subject-requires : tie.Need-subject-requires invariant-loop decreases-loop
 subject-requires c κs = search rules
 
 put-destroy-requires : tie.Need-put-destroy-requires invariant-loop decreases-loop
-put-destroy-requires c κs = destroy-pair c.before.before.before.before.before.before.requires c.before.before.before.before.loop.invariant c.before.before.before.loop-test.true c.before.subject.ensures.1
+put-destroy-requires c κs = destroy_pair c.before.before.before.before.before.before.requires c.before.before.before.before.loop.invariant c.before.before.before.loop-test.true c.before.subject.ensures.1
 
 add-t : tie.Need-overflow-add-t invariant-loop decreases-loop
 add-t c = search rules
@@ -37,13 +37,13 @@ loop-less : tie.Need-loop-smaller invariant-loop decreases-loop
 loop-less c = omega arith
 
 loop-again : tie.Need-loop-preserved invariant-loop decreases-loop
-loop-again c = reached-more c.before.before.before.before.before.before.before.loop.invariant c.before.before.before.before.before.before.loop-test.true c.before.before.before.before.subject.ensures.0 c.before.before.put-destroy.ensures
+loop-again c = reached_more c.before.before.before.before.before.before.before.loop.invariant c.before.before.before.before.before.before.loop-test.true c.before.before.before.before.subject.ensures.0 c.before.before.put-destroy.ensures
 
 same_length : tie.Need-same-length invariant-loop decreases-loop
-same_length c = reached-length c.before.loop.invariant
+same_length c = reached_length c.before.loop.invariant
 
 returns : tie.Need-returns invariant-loop decreases-loop
-returns c = reached-all c.before.loop.invariant c.loop-test.false
+returns c = reached_all c.before.loop.invariant c.loop-test.false
 
 pub put-destroys-spec : {M : Type 1} → statement M
 put-destroys-spec =

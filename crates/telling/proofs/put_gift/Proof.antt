@@ -1,6 +1,6 @@
 -- `telling::put_gift` meets its contract.
 use native.Mathlib.Omega.{arith}
-use Rattle.telling.specs.Parts.{giving-small, part_room, tells-gift}
+use Rattle.telling.specs.Parts.{giving_small, part_room, tells_gift}
 use borrow.Author.Rules.{rules}
 use Rattle.telling.proofs.put_gift.Statement.{statement}
 use Rattle.telling.proofs.put_gift.Tie as tie
@@ -15,13 +15,13 @@ basic-number-requires : tie.Need-basic-number-requires
 basic-number-requires c κs = search rules
 
 put-one-requires : tie.Need-put-one-requires
-put-one-requires c κs = part_room c.before.before.before.before.before.requires (omega (arith, giving-small c.before.before.before.before.before.args.x c.before.before.before.before.before.args.y, c.before.before.before.giving-code.ensures)) c.before.before.column-of.ensures c.before.basic-number.ensures
+put-one-requires c κs = part_room c.before.before.before.before.before.requires (omega (arith, giving_small c.before.before.before.before.before.args.x c.before.before.before.before.before.args.y, c.before.before.before.giving-code.ensures)) c.before.before.column_of.ensures c.before.basic-number.ensures
 
 same_length : tie.Need-same-length
 same_length c = search rules
 
 returns : tie.Need-returns
-returns c = tells-gift c.before.before.before.before.before.before.before.before.args.x c.before.before.before.before.before.before.before.before.args.y c.before.before.before.before.before.before.giving-code.ensures c.before.before.before.before.before.column-of.ensures c.before.before.before.before.basic-number.ensures c.before.before.put_one.ensures
+returns c = tells_gift c.before.before.before.before.before.before.before.before.args.x c.before.before.before.before.before.before.before.before.args.y c.before.before.before.before.before.before.giving-code.ensures c.before.before.before.before.before.column_of.ensures c.before.before.before.before.basic-number.ensures c.before.before.put_one.ensures
 
 pub put-gift-spec : {M : Type 1} → statement M
 put-gift-spec =

@@ -1,5 +1,5 @@
 -- `telling::put_one` meets its contract.
-use Rattle.telling.specs.Tells.{tells-one}
+use Rattle.telling.specs.Tells.{tells_one}
 use borrow.Author.Rules.{rules}
 use Rattle.telling.proofs.put_one.Statement.{statement}
 use Rattle.telling.proofs.put_one.Tie as tie
@@ -14,7 +14,7 @@ same_length : tie.Need-same-length
 same_length c = search rules
 
 returns : tie.Need-returns
-returns c = tells-one c.before.before.put-command.ensures
+returns c = tells_one c.before.before.put-command.ensures
 
 pub put-one-spec : {M : Type 1} → statement M
 put-one-spec = tie.close (tie.spec put-command-requires add-result same_length returns)

@@ -8,14 +8,14 @@ use borrow.Author.Rules.{rules}
 use borrow.Author.Tests.{not-false}
 use Rattle.matrix.specs.declared.Shape.{Shape}
 use Rattle.codec.specs.ShapeRight.{ShapeRight}
-use Rattle.cells.specs.Station.{right-shape}
+use Rattle.cells.specs.Station.{right_shape}
 use Rattle.lanes.specs.declared.Matrix.{Matrix}
-use Rattle.tallies.specs.Blocks.{several-none}
-use Rattle.columns.specs.Cells.{lanes_of, matrixOf}
+use Rattle.tallies.specs.Blocks.{several_none}
+use Rattle.columns.specs.Cells.{lanes_of, matrix_of}
 use Rattle.columns.specs.Checks.{Celled}
-use Rattle.plains.specs.Parts.{lanes-single}
-use Rattle.few_subjects.specs.Counts.{since-few}
-use Rattle.validity.specs.Header.{lanes-celled}
+use Rattle.plains.specs.Parts.{lanes_single}
+use Rattle.few_subjects.specs.Counts.{since_few}
+use Rattle.validity.specs.Header.{lanes_celled}
 use Rattle.validity.specs.Few.{surely}
 use Rattle.validity.proofs.few_valid.Statement.{statement}
 use Rattle.validity.proofs.few_valid.Tie as tie
@@ -31,9 +31,9 @@ abbrev matrix : tie.After-lanes-of → Matrix
 matrix c = record { first = (shape c).first; rows = (shape c).n; lanes = c.lanes-of.result }
 
 right : (c : tie.After-lanes-of) → ShapeRight (shape c)
-right c = right-shape (start c).requires.0
+right c = right_shape (start c).requires.0
 
-same : (c : tie.After-lanes-of) → matrix c ≡ matrixOf (shape c)
+same : (c : tie.After-lanes-of) → matrix c ≡ matrix_of (shape c)
 same c = λ i. record {
   first = (shape c).first;
   rows = (shape c).n;
@@ -41,18 +41,18 @@ same c = λ i. record {
 }
 
 celled : (c : tie.After-lanes-of) → Celled 1 (start c).args.b.now (matrix c)
-celled c = subst (λ (q : ℕ). Celled q (start c).args.b.now (matrix c)) (ap (λ (w : ℕ). w / 2) (start c).requires.1.width) (lanes-celled _ (shape c) (matrix c) (start c).requires.0 (same c))
+celled c = subst (λ (q : ℕ). Celled q (start c).args.b.now (matrix c)) (ap (λ (w : ℕ). w / 2) (start c).requires.1.width) (lanes_celled _ (shape c) (matrix c) (start c).requires.0 (same c))
 
 add-lanes-of : tie.Need-overflow-add-lanes-of
 add-lanes-of c = search rules
 
 lanes-of-requires : tie.Need-lanes-of-requires
-lanes-of-requires c κs = let h = right-shape c.before.before.requires.0 in (inl refl, omega (arith, h.high, h.plain))
+lanes-of-requires c κs = let h = right_shape c.before.before.requires.0 in (inl refl, omega (arith, h.high, h.plain))
 
 rows-of-requires : tie.Need-rows-of-requires
 rows-of-requires c κs =
     let l = c.before.before.before in
-    ((celled l).laid, omega (arith, (start l).requires.1.subjects), omega (arith, l.lanes-of.ensures, lanes-single ((shape l).n + (shape l).p), (start l).requires.1.enough), several-none _ _ _)
+    ((celled l).laid, omega (arith, (start l).requires.1.subjects), omega (arith, l.lanes-of.ensures, lanes_single ((shape l).n + (shape l).p), (start l).requires.1.enough), several_none _ _ _)
 
 all-present-requires : tie.Need-all-present-requires
 all-present-requires c κs = celled c.before.before.before.before
@@ -75,8 +75,8 @@ one-part-requires c κs =
       inl refl,
       omega (arith, h.high, h.plain),
       l.lanes-of.ensures,
-      omega (arith, l.lanes-of.ensures, lanes-single (f.n + f.p), (start l).requires.1.enough),
-      omega (arith, lanes-single f.p, (start l).requires.1.plain),
+      omega (arith, l.lanes-of.ensures, lanes_single (f.n + f.p), (start l).requires.1.enough),
+      omega (arith, lanes_single f.p, (start l).requires.1.plain),
     )
 
 returns-3 : tie.Need-returns-3
@@ -89,7 +89,7 @@ put-places-requires c κs =
       omega arith,
       omega (arith, (start l).requires.2),
       omega (arith, few),
-      λ j below. since-few _ (matrix l) _ _ _ c.before.before.before.before.before.before.before.before.before.before.rows_of_lem.ensures (omega (arith, few)) j below,
+      λ j below. since_few _ (matrix l) _ _ _ c.before.before.before.before.before.before.before.before.before.before.rows_of_lem.ensures (omega (arith, few)) j below,
     )
 
 descends-requires : tie.Need-descends-requires

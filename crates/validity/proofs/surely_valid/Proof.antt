@@ -1,13 +1,13 @@
 -- `validity::surely_valid` meets its contract.
 use mathlib.Core.Path.{sym}
 use mathlib.Core.Bool.{true≢false}
-use Rattle.cells.specs.Station.{right-shape}
+use Rattle.cells.specs.Station.{right_shape}
 use borrow.Author.Rules.{rules}
 use Rattle.validity.proofs.surely_valid.Statement.{statement}
 use Rattle.validity.proofs.surely_valid.Tie as tie
 
 few-columns-requires : tie.Need-few-columns-requires
-few-columns-requires c κs = right-shape c.before.requires.0
+few-columns-requires c κs = right_shape c.before.requires.0
 
 few-valid-requires : tie.Need-few-valid-requires
 few-valid-requires c κs = let s = c.before.before.before.before in (s.requires.0, c.before.before.few-columns.ensures c.before.if1.true, s.requires.1)

@@ -1,7 +1,7 @@
 -- `verdict::control_granted` meets its contract.
 use mathlib.Core.Path.{refl}
-use Rattle.states.specs.Reads.{named-subject}
-use Rattle.verdict.specs.Late.{control-judged, not_plain}
+use Rattle.states.specs.Reads.{named_subject}
+use Rattle.verdict.specs.Late.{control_judged, not_plain}
 use borrow.Author.Rules.{rules}
 use Rattle.verdict.proofs.control_granted.Statement.{statement}
 use Rattle.verdict.proofs.control_granted.Tie as tie
@@ -12,16 +12,16 @@ enum-known-o c = search rules
 controlled-requires : tie.Need-controlled-requires
 controlled-requires c κs =
     let q = c.before.before.before.before.requires.0.command in
-    (q.station, named-subject (record { station = q.station; column = q.object }) c.before.o.given.1)
+    (q.station, named_subject (record { station = q.station; column = q.object }) c.before.o.given.1)
 
 returns : tie.Need-returns
-returns c = control-judged c.before.before.before.before.before.before.requires.0 c.before.before.before.before.before.before.requires.1 c.before.before.before.o.given.1 _ c.before.controlled.ensures c.if1.true
+returns c = control_judged c.before.before.before.before.before.before.requires.0 c.before.before.before.before.before.before.requires.1 c.before.before.before.o.given.1 _ c.before.controlled.ensures c.if1.true
 
 enum_told : tie.Need-enum-told
 enum_told c = search rules
 
 returns-2 : tie.Need-returns-2
-returns-2 c = control-judged c.before.before.before.before.before.before.requires.0 c.before.before.before.before.before.before.requires.1 c.before.before.before.o.given.1 _ c.before.controlled.ensures c.if1.false
+returns-2 c = control_judged c.before.before.before.before.before.before.requires.0 c.before.before.before.before.before.before.requires.1 c.before.before.before.o.given.1 _ c.before.controlled.ensures c.if1.false
 
 returns-3 : tie.Need-returns-3
 returns-3 c = absurd (not_plain c.before.before.before.requires.0 c.before.before.before.requires.1 refl c.enum_told.given.1)

@@ -2,7 +2,7 @@
 use mathlib.Core.Path.{refl, ◌∙◌, ap}
 use Rattle.matrix.specs.declared.Act.TheVariants.{Grant}
 use Rattle.matrix.specs.declared.Right.{Right}
-use Rattle.verdict.specs.Late.{pass-judged}
+use Rattle.verdict.specs.Late.{pass_judged}
 use borrow.Author.Rules.{rules}
 use Rattle.verdict.proofs.granted.Statement.{statement}
 use Rattle.verdict.proofs.granted.Tie as tie
@@ -21,14 +21,14 @@ enum-told-3 c = search rules
 
 returns : tie.Need-returns
 returns c =
-    pass-judged c.before.before.before.requires.0 _ (c.before.before.before.requires.1 ∙ ap (λ (y : Right). Grant y) c.enum_told.given.1) refl refl refl
+    pass_judged c.before.before.before.requires.0 _ (c.before.before.before.requires.1 ∙ ap (λ (y : Right). Grant y) c.enum_told.given.1) refl refl refl
 
 returns-2 : tie.Need-returns-2
 returns-2 c = search rules
 
 returns-3 : tie.Need-returns-3
 returns-3 c =
-    pass-judged c.before.before.before.requires.0 _ (c.before.before.before.requires.1 ∙ ap (λ (y : Right). Grant y) c.enum-told3.given.1) refl refl refl
+    pass_judged c.before.before.before.requires.0 _ (c.before.before.before.requires.1 ∙ ap (λ (y : Right). Grant y) c.enum-told3.given.1) refl refl refl
 
 pub granted-spec : {M : Type 1} → statement M
 granted-spec =

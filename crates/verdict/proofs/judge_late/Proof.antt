@@ -5,7 +5,7 @@ use borrow.Author.Tests.{not-true, not-false}
 use Rattle.matrix.specs.Tests.{permitted}
 use Rattle.matrix.specs.Reading.{state_of}
 use Rattle.verdict.specs.Judged.{Entitled}
-use Rattle.verdict.specs.Late.{denied, unset, pass-judged}
+use Rattle.verdict.specs.Late.{denied, unset, pass_judged}
 use borrow.Author.Rules.{rules}
 use Rattle.verdict.proofs.judge_late.Statement.{statement}
 use Rattle.verdict.proofs.judge_late.Tie as tie
@@ -71,19 +71,19 @@ returns-4 : tie.Need-returns-4
 returns-4 c = search rules
 
 returns-5 : tie.Need-returns-5
-returns-5 c = pass-judged (entitled c.before.before) _ c.enum_told.given.1 refl refl refl
+returns-5 c = pass_judged (entitled c.before.before) _ c.enum_told.given.1 refl refl refl
 
 returns-6 : tie.Need-returns-6
-returns-6 c = pass-judged (entitled c.before.before) _ c.enum-told2.given.1 refl refl refl
+returns-6 c = pass_judged (entitled c.before.before) _ c.enum-told2.given.1 refl refl refl
 
 returns-7 : tie.Need-returns-7
-returns-7 c = pass-judged (entitled c.before.before) _ c.enum-told3.given.1 refl refl refl
+returns-7 c = pass_judged (entitled c.before.before) _ c.enum-told3.given.1 refl refl refl
 
 returns-8 : tie.Need-returns-8
-returns-8 c = pass-judged (entitled c.before.before) _ c.enum-told4.given.1 refl refl refl
+returns-8 c = pass_judged (entitled c.before.before) _ c.enum-told4.given.1 refl refl refl
 
 returns-9 : tie.Need-returns-9
-returns-9 c = pass-judged (entitled c.before.before) _ c.enum-told5.given.1 refl refl refl
+returns-9 c = pass_judged (entitled c.before.before) _ c.enum-told5.given.1 refl refl refl
 
 pub judge-late-spec : {M : Type 1} → statement M
 judge-late-spec =

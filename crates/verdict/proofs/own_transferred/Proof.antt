@@ -1,5 +1,5 @@
 -- `verdict::own_transferred` meets its contract.
-use Rattle.verdict.specs.Late.{own-judged, object-judged}
+use Rattle.verdict.specs.Late.{own_judged, object_judged}
 use borrow.Author.Rules.{rules}
 use Rattle.verdict.proofs.own_transferred.Statement.{statement}
 use Rattle.verdict.proofs.own_transferred.Tie as tie
@@ -24,18 +24,18 @@ enum-told-2 c = search rules
 
 returns : tie.Need-returns
 returns c =
-    own-judged c.before.before.before.before.before.before.before.before.requires.0 c.before.before.before.before.before.before.before.before.requires.1 c.before.before.before.before.before.o.given.1 _ c.before.before.before.owner-walk.ensures c.before.w.given.1
+    own_judged c.before.before.before.before.before.before.before.before.requires.0 c.before.before.before.before.before.before.before.before.requires.1 c.before.before.before.before.before.o.given.1 _ c.before.before.before.owner-walk.ensures c.before.w.given.1
 
 returns-2 : tie.Need-returns-2
 returns-2 c =
-    own-judged c.before.before.before.before.before.before.before.before.requires.0 c.before.before.before.before.before.before.before.before.requires.1 c.before.before.before.before.before.o.given.1 _ c.before.before.before.owner-walk.ensures c.before.w2.given.1
+    own_judged c.before.before.before.before.before.before.before.before.requires.0 c.before.before.before.before.before.before.before.before.requires.1 c.before.before.before.before.before.o.given.1 _ c.before.before.before.owner-walk.ensures c.before.w2.given.1
 
 returns-3 : tie.Need-returns-3
 returns-3 c =
-    own-judged c.before.before.before.before.before.before.before.requires.0 c.before.before.before.before.before.before.before.requires.1 c.before.before.before.before.o.given.1 _ c.before.before.owner-walk.ensures c.enum_told.given.1
+    own_judged c.before.before.before.before.before.before.before.requires.0 c.before.before.before.before.before.before.before.requires.1 c.before.before.before.before.o.given.1 _ c.before.before.owner-walk.ensures c.enum_told.given.1
 
 returns-4 : tie.Need-returns-4
-returns-4 c = object-judged c.before.before.before.requires.0 c.before.before.before.requires.1 c.enum-told2.given.1
+returns-4 c = object_judged c.before.before.before.requires.0 c.before.before.before.requires.1 c.enum-told2.given.1
 
 pub own-transferred-spec : {M : Type 1} → statement M
 own-transferred-spec =

@@ -2,7 +2,7 @@
 use mathlib.Core.Path.{refl, ◌∙◌, ap}
 use Rattle.matrix.specs.declared.Act.TheVariants.{Transfer}
 use Rattle.matrix.specs.declared.Right.{Right}
-use Rattle.verdict.specs.Late.{pass-judged}
+use Rattle.verdict.specs.Late.{pass_judged}
 use borrow.Author.Rules.{rules}
 use Rattle.verdict.proofs.transferred.Statement.{statement}
 use Rattle.verdict.proofs.transferred.Tie as tie
@@ -24,11 +24,11 @@ returns c = search rules
 
 returns-2 : tie.Need-returns-2
 returns-2 c =
-    pass-judged c.before.before.before.requires.0 _ (c.before.before.before.requires.1 ∙ ap (λ (y : Right). Transfer y) c.enum-told2.given.1) refl refl refl
+    pass_judged c.before.before.before.requires.0 _ (c.before.before.before.requires.1 ∙ ap (λ (y : Right). Transfer y) c.enum-told2.given.1) refl refl refl
 
 returns-3 : tie.Need-returns-3
 returns-3 c =
-    pass-judged c.before.before.before.requires.0 _ (c.before.before.before.requires.1 ∙ ap (λ (y : Right). Transfer y) c.enum-told3.given.1) refl refl refl
+    pass_judged c.before.before.before.requires.0 _ (c.before.before.before.requires.1 ∙ ap (λ (y : Right). Transfer y) c.enum-told3.given.1) refl refl refl
 
 pub transferred-spec : {M : Type 1} → statement M
 transferred-spec =

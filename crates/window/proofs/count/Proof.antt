@@ -1,7 +1,7 @@
 -- `window::count` meets its contract.
 use native.Mathlib.Omega.{arith}
 use mathlib.Core.Path.{sym, ◌∙◌}
-use Rattle.window.specs.Answered.{named-of, count-shown}
+use Rattle.window.specs.Answered.{named_of, count_shown}
 use borrow.Author.Rules.{rules}
 use Rattle.window.proofs.count.Statement.{statement}
 use Rattle.window.proofs.count.Tie as tie
@@ -10,10 +10,10 @@ refusal-of-requires : tie.Need-refusal-of-requires
 refusal-of-requires c κs = search rules
 
 count-at-requires : tie.Need-count-at-requires
-count-at-requires c κs = (omega arith, omega (arith, named-of c.before.before.before.before.args.number (sym c.before.before.refusal-of.ensures ∙ c.before.if1.true)))
+count-at-requires c κs = (omega arith, omega (arith, named_of c.before.before.before.before.args.number (sym c.before.before.refusal-of.ensures ∙ c.before.if1.true)))
 
 returns : tie.Need-returns
-returns c = count-shown c.before.before.before.refusal-of.ensures c.before.before.if1.true c.count_at.ensures.0
+returns c = count_shown c.before.before.before.refusal-of.ensures c.before.before.if1.true c.count_at.ensures.0
 
 returns-2 : tie.Need-returns-2
 returns-2 c = search rules

@@ -2,7 +2,7 @@
 use native.Mathlib.Omega.{arith}
 use Prim.Native.Nat.{ℕ, ◌+◌, ◌*◌}
 use mathlib.Core.Path.{sym, ◌∙◌, ap₂}
-use Rattle.codec.specs.Numbers.{two-read}
+use Rattle.codec.specs.Numbers.{two_read}
 use borrow.Author.Rules.{rules}
 use Rattle.window.proofs.count_at.Statement.{statement}
 use Rattle.window.proofs.count_at.Tie as tie
@@ -37,7 +37,7 @@ add-result c = search rules
 returns : tie.Need-returns
 returns c =
     let a = c.before.before.before.before.before.args in
-    (ap₂ (λ (x y : ℕ). x * 256 + y) c.before.before.wide.ensures.0 c.wide2.ensures.0 ∙ sym (two-read a.w.now _), omega arith)
+    (ap₂ (λ (x y : ℕ). x * 256 + y) c.before.before.wide.ensures.0 c.wide2.ensures.0 ∙ sym (two_read a.w.now _), omega arith)
 
 pub count-at-spec : {M : Type 1} → statement M
 count-at-spec =

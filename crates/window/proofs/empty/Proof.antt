@@ -3,16 +3,16 @@ use Prim.Native.Nat.{ℕ, ◌≤◌, ◌<◌, ◌-◌}
 use native.Mathlib.Omega.{arith}
 use mathlib.Core.Path.{◌≡◌, refl, ◌∙◌}
 use lib.ListN.{length, get_or, length-set}
-use Rattle.history.specs.Window.{windowBytes}
-use Rattle.window.specs.Shown.{zeros-show, zero_more}
+use Rattle.history.specs.Window.{window_bytes}
+use Rattle.window.specs.Shown.{zeros_show, zero_more}
 use Rattle.window.proofs.empty.Statement.{statement}
 use Rattle.window.proofs.empty.Tie as tie
 
 abbrev invariant-loop : tie.invariant-loop
-invariant-loop w₀ j₀ w j = (length w ≡ length w₀) × (j ≤ windowBytes) × ((k : ℕ) → k < j → get_or w k 0 ≡ 0)
+invariant-loop w₀ j₀ w j = (length w ≡ length w₀) × (j ≤ window_bytes) × ((k : ℕ) → k < j → get_or w k 0 ≡ 0)
 
 abbrev decreases-loop : tie.decreases-loop
-decreases-loop w₀ j₀ w j = windowBytes - j
+decreases-loop w₀ j₀ w j = window_bytes - j
 
 returns : tie.Need-returns invariant-loop decreases-loop
 returns c = record { shows = λ e. absurd (omega (arith, c.if1.true)); other = λ n. refl }
@@ -38,9 +38,9 @@ same_length c = c.before.loop.invariant.0
 
 returns-2 : tie.Need-returns-2 invariant-loop decreases-loop
 returns-2 c =
-    let size : length c.before.before.before.args.w.now ≡ windowBytes = c.before.before.if1.false in
+    let size : length c.before.before.before.args.w.now ≡ window_bytes = c.before.before.if1.false in
     let l = c.before.loop.invariant in
-    record { shows = λ e. zeros-show _ (l.0 ∙ size) (λ j b. l.2 j (omega arith)); other = λ n. absurd (n size) }
+    record { shows = λ e. zeros_show _ (l.0 ∙ size) (λ j b. l.2 j (omega arith)); other = λ n. absurd (n size) }
 
 pub empty-spec : {M : Type 1} → statement M
 empty-spec =

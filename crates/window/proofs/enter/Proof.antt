@@ -4,11 +4,11 @@ use native.Mathlib.Omega.{arith}
 use mathlib.Core.Path.{◌∙◌, ap}
 use mathlib.Core.List.{List}
 use lib.ListN.{length, get_or, length-set}
-use Rattle.matrix.specs.Bytes.{setNumber}
-use Rattle.history.specs.Entries.{windowNumbers}
-use Rattle.history.specs.Window.{countPlace}
+use Rattle.matrix.specs.Bytes.{set_number}
+use Rattle.history.specs.Entries.{window_numbers}
+use Rattle.history.specs.Window.{count_place}
 use Rattle.window.specs.Changed.{lowered, placed, raised, entered}
-use Rattle.window.specs.Bytes.{byte-few, length-entered}
+use Rattle.window.specs.Bytes.{byte_few, length_entered}
 use borrow.Author.Rules.{rules}
 use Rattle.window.proofs.enter.Statement.{statement}
 use Rattle.window.proofs.enter.Tie as tie
@@ -31,8 +31,8 @@ lower-requires c κs = search rules
 add-w : tie.Need-overflow-add-w
 add-w c = search rules
 
-few : (c : tie.After-slice-known4) → c.before.before.before.before.before.before.before.before.before.args.refused * (c.before.before.before.before.before.before.before.before.before.args.number + 1) ≤ windowNumbers
-few c = let s = c.before.before.before.before.before.before.before.before.before in byte-few s.args.refused s.args.number s.requires.2 s.requires.1
+few : (c : tie.After-slice-known4) → c.before.before.before.before.before.before.before.before.before.args.refused * (c.before.before.before.before.before.before.before.before.before.args.number + 1) ≤ window_numbers
+few c = let s = c.before.before.before.before.before.before.before.before.before in byte_few s.args.refused s.args.number s.requires.2 s.requires.1
 
 mul-w : tie.Need-overflow-mul-w
 mul-w c = record { fits = omega (arith, few c) }
@@ -70,13 +70,13 @@ returns c =
     let a = p.before.before.before.args in
     let byte = a.refused * (a.number + 1) in
     c.before.before.set-count.ensures
-    ∙ ap (λ (v : ℕ). setNumber (placed l.lower.new.0 p.wide.result byte) (countPlace a.number) 2 (v + a.refused)) d.count_at.ensures.0
+    ∙ ap (λ (v : ℕ). set_number (placed l.lower.new.0 p.wide.result byte) (count_place a.number) 2 (v + a.refused)) d.count_at.ensures.0
     ∙ ap (λ (w : List ℕ). raised (placed w p.wide.result byte) a.number a.refused) l.lower.ensures
     ∙ ap (λ (x : ℕ). raised (placed (lowered a.w.now x) p.wide.result byte) a.number a.refused) l.before.before.wide2.ensures.0
     ∙ ap (λ (x : ℕ). raised (placed (lowered a.w.now (get_or a.w.now x 0)) x byte) a.number a.refused) p.wide.ensures.0
 
 same_length : tie.Need-same-length
-same_length c = ap length (returns c) ∙ length-entered _ _ _
+same_length c = ap length (returns c) ∙ length_entered _ _ _
 
 pub enter_spec : {M : Type 1} → statement M
 enter_spec =

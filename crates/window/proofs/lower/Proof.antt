@@ -2,16 +2,16 @@
 use Prim.Native.Nat.{ℕ, ◌+◌, ◌-◌, ◌%◌}
 use native.Mathlib.Omega.{arith}
 use mathlib.Core.Path.{sym, ◌∙◌, ap}
-use Rattle.matrix.specs.Bytes.{setNumber}
-use Rattle.history.specs.Window.{countPlace}
-use Rattle.window.specs.Changed.{initiatorOf, refusedBit}
-use Rattle.window.specs.Bytes.{lowered-beyond, lowered-within}
+use Rattle.matrix.specs.Bytes.{set_number}
+use Rattle.history.specs.Window.{count_place}
+use Rattle.window.specs.Changed.{initiator_of, refused_bit}
+use Rattle.window.specs.Bytes.{lowered_beyond, lowered_within}
 use borrow.Author.Rules.{rules}
 use Rattle.window.proofs.lower.Statement.{statement}
 use Rattle.window.proofs.lower.Tie as tie
 
 returns : tie.Need-returns
-returns c = sym (lowered-beyond _ _ c.if1.true)
+returns c = sym (lowered_beyond _ _ c.if1.true)
 
 sub_number : tie.Need-overflow-sub-number
 sub_number c = search rules
@@ -42,8 +42,8 @@ returns-2 c =
     let d = c.before.before.before.before in
     let a = d.before.before.before.before.args in
     c.before.before.set-count.ensures
-    ∙ ap (λ (v : ℕ). setNumber a.w.now (countPlace (initiatorOf a.leaving)) 2 ((v + 65536 - refusedBit a.leaving) % 65536)) d.count_at.ensures.0
-    ∙ sym (lowered-within a.w.now a.leaving (omega arith))
+    ∙ ap (λ (v : ℕ). set_number a.w.now (count_place (initiator_of a.leaving)) 2 ((v + 65536 - refused_bit a.leaving) % 65536)) d.count_at.ensures.0
+    ∙ sym (lowered_within a.w.now a.leaving (omega arith))
 
 pub lower_spec : {M : Type 1} → statement M
 lower_spec =

@@ -2,8 +2,8 @@
 use native.Mathlib.Omega.{arith}
 use mathlib.Core.Path.{sym, ◌∙◌, ap}
 use Rattle.window.specs.Changed.{entered}
-use Rattle.window.specs.Shown.{one-few}
-use Rattle.window.specs.Answered.{named-of, put_refused, put_other, put-taken}
+use Rattle.window.specs.Shown.{one_few}
+use Rattle.window.specs.Answered.{named_of, put_refused, put_other, put_taken}
 use borrow.Author.Rules.{rules}
 use Rattle.window.proofs.put.Statement.{statement}
 use Rattle.window.proofs.put.Tie as tie
@@ -23,7 +23,7 @@ refused-one-requires c κs = search rules
 enter-requires : tie.Need-enter-requires
 enter-requires c κs =
     let d = c.before.before in
-    (omega arith, named-of _ (sym d.before.before.refusal-of.ensures ∙ d.before.if1.false), omega (arith, c.refused-one.ensures, one-few d.before.before.before.before.args.outcome))
+    (omega arith, named_of _ (sym d.before.before.refusal-of.ensures ∙ d.before.if1.false), omega (arith, c.refused-one.ensures, one_few d.before.before.before.before.args.outcome))
 
 same_length : tie.Need-same-length
 same_length c = search rules
@@ -33,7 +33,7 @@ returns-3 c =
     let r = c.before.before.before in
     let d = r.before.before in
     let a = d.before.before.before.before.args in
-    put-taken _ d.before.before.refusal-of.ensures d.before.if1.false (omega arith)
+    put_taken _ d.before.before.refusal-of.ensures d.before.if1.false (omega arith)
     (c.before.before.enter.ensures ∙ ap (entered a.w.now a.initiator) r.refused-one.ensures)
 
 pub put_spec : {M : Type 1} → statement M

@@ -2,7 +2,7 @@
 use native.Mathlib.Omega.{arith}
 use mathlib.Core.Path.{sym}
 use lib.ListN.{length-set}
-use Rattle.codec.specs.Numbers.{two-stored}
+use Rattle.codec.specs.Numbers.{two_stored}
 use borrow.Author.Rules.{rules}
 use Rattle.window.proofs.set_count.Statement.{statement}
 use Rattle.window.proofs.set_count.Tie as tie
@@ -32,7 +32,7 @@ same_length : tie.Need-same-length
 same_length c = search rules
 
 returns : tie.Need-returns
-returns c = sym (two-stored c.args.w.now _ c.args.v)
+returns c = sym (two_stored c.args.w.now _ c.args.v)
 
 pub set-count-spec : {M : Type 1} → statement M
 set-count-spec =

@@ -3,7 +3,7 @@ use borrow.Author.Rules.{rules}
 use native.Mathlib.Omega.{arith}
 use mathlib.Core.Path.{refl}
 use lib.ListN.{length-set}
-use Rattle.writing.specs.Put.{putCommand}
+use Rattle.writing.specs.Put.{put_command}
 use Rattle.writing.proofs.put_command.Statement.{statement}
 use Rattle.writing.proofs.put_command.Tie as tie
 
@@ -65,7 +65,7 @@ same_length : tie.Need-same-length
 same_length c = search rules
 
 returns : tie.Need-returns
-unfolding putCommand
+unfolding put_command
 returns c = refl
 
 pub put-command-spec : {M : Type 1} → statement M

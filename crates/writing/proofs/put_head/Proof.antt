@@ -3,8 +3,8 @@ use borrow.Author.Rules.{rules}
 use native.Mathlib.Omega.{arith}
 use mathlib.Core.Path.{refl}
 use lib.ListN.{length-set}
-use Rattle.matrix.specs.Bytes.{setNumber}
-use Rattle.writing.specs.Put.{putHead}
+use Rattle.matrix.specs.Bytes.{set_number}
+use Rattle.writing.specs.Put.{put_head}
 use Rattle.writing.proofs.put_head.Statement.{statement}
 use Rattle.writing.proofs.put_head.Tie as tie
 
@@ -42,7 +42,7 @@ same_length : tie.Need-same-length
 same_length c = search rules
 
 returns : tie.Need-returns
-unfolding putHead setNumber
+unfolding put_head set_number
 returns c = refl
 
 pub put-head-spec : {M : Type 1} → statement M
