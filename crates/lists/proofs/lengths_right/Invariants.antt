@@ -1,0 +1,14 @@
+-- The loop's invariant: the length bytes passed are right.
+use borrow.Author.Rules.{rules}
+use Prim.Native.Nat.{ℕ, ◌-◌, ◌≤◌}
+use native.Mathlib.Omega.{arith}
+use mathlib.Core.Path.{◌≡◌, sym, subst}
+use mathlib.Core.Bool.{true}
+use Rattle.lists.specs.Forms.{lengths_right, lengths_none, lengths_more, lengths_wrong}
+use Rattle.lists.proofs.lengths_right.Given as goal
+
+abbrev pub invariant-loop-j : goal.invariant-loop-j
+invariant-loop-j l = (l.j ≤ l.m) × (lengths_right l.l l.j ≡ true)
+
+abbrev pub decreases-loop-j : goal.decreases-loop-j
+decreases-loop-j l = l.m - l.j
