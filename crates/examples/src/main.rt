@@ -15,12 +15,14 @@ mod rows;
 mod runs_of_lists;
 mod windows;
 
-fn main() {
-    rows::all();
-    runs_of_lists::all();
-    first_held::all();
-    questions::all();
-    conversions::all();
-    largest::all();
-    windows::all();
+use std::io;
+
+fn main(rt: HostRuntime) -> io::Result<()> {
+    rows::all(&rt)?;
+    runs_of_lists::all(&rt)?;
+    first_held::all(&rt)?;
+    questions::all(&rt)?;
+    conversions::all(&rt)?;
+    largest::all(&rt)?;
+    windows::all(&rt)
 }
