@@ -10,7 +10,7 @@ pub overflow_add-out : goal.overflow_add-out
 overflow_add-out c = let s = list_stands _ _ c.in-Leaks.ensures refl in omega (arith, s.within)
 
 pub slice_bounds-out-end : goal.slice_bounds-out-end
-slice_bounds-out-end c = (list_stands _ _ c.in-Leaks.ensures refl).within
+slice_bounds-out-end c = let s = list_stands _ _ c.in-Leaks.ensures refl in omega (arith, s.within)
 
 pub print_list-requires : goal.print_list-requires
 print_list-requires c = (list_stands _ _ c.in-Leaks.ensures refl).right
