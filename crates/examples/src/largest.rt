@@ -2,6 +2,7 @@
 use crate::conversions::ask_version;
 use crate::lines::{ask_valid, compare, say};
 use crate::questions::ask;
+use std::io;
 
 // The number of its bytes.
 const LARGEST: usize = 12807;
@@ -25,34 +26,34 @@ fn largest() -> [u8; LARGEST] {
 }
 
 // It is turned into version 2, and what comes of it is turned back; and an output that is one byte too short.
-fn versions() {
+fn versions(rt: &impl Print) -> io::Result<()> {
     let b = largest();
     let mut two = [7u8; LARGEST_2];
     let mut back = [7u8; LARGEST];
-    say(b"row 0: the largest record");
-    ask_version(&b, 2, &mut two);
-    ask_valid(&two);
-    ask_version(&two, 1, &mut back);
-    compare(&b, &back);
+    say(rt, b"row 0: the largest record")?;
+    ask_version(rt, &b, 2, &mut two)?;
+    ask_valid(rt, &two)?;
+    ask_version(rt, &two, 1, &mut back)?;
+    compare(rt, &b, &back)?;
     let mut short = [7u8; LARGEST_2 - 1];
-    say(b"\nrow 15: the largest record");
-    ask_version(&b, 2, &mut short);
-    say(b"\n");
+    say(rt, b"\nrow 15: the largest record")?;
+    ask_version(rt, &b, 2, &mut short)?;
+    say(rt, b"\n")
 }
 
 // Whether login 39 can come to hold basic right 0 over log 159, the last of its names, with nobody trusted.
-fn question() {
+fn question(rt: &impl Print) -> io::Result<()> {
     let b = largest();
     let mut out = [0u8; ROOM];
-    say(b"row 0: the largest record");
-    ask_valid(&b);
-    ask(&b, 0, 39, 159, 2, &mut out);
+    say(rt, b"row 0: the largest record")?;
+    ask_valid(rt, &b)?;
+    ask(rt, &b, 0, 39, 159, 2, &mut out)?;
     let mut short = [0u8; ROOM - 1];
-    say(b"row 15: the largest record");
-    ask(&b, 0, 39, 159, 2, &mut short);
+    say(rt, b"row 15: the largest record")?;
+    ask(rt, &b, 0, 39, 159, 2, &mut short)
 }
 
-pub fn all() {
-    question();
-    versions();
+pub fn all(rt: &impl Print) -> io::Result<()> {
+    question(rt)?;
+    versions(rt)
 }

@@ -1,9 +1,9 @@
 // The records that are asked of: each a record of the manual, told by its length, with one byte replaced.
 ghost use Rattle.std.specs.Prelude.{◌≡◌, ◌<◌, ◌≤◌, length};
-ghost use Rattle.io.specs.Counts.{IsPrefixLen};
+ghost use Rattle.std.specs.Counts.{IsPrefixLen};
 
 use crate::lines::{report, say};
-use libc::STDOUT_FILENO;
+use std::io;
 
 // Station A. U owns 1, 1 owns 2 and 2 owns log 3.
 fn station_a() -> [u8; 55]
@@ -96,35 +96,36 @@ pub fn record(len: usize, at: usize, v: u8) -> [u8; 55]
     replaced(len, len, at, v)
 }
 
-fn say_station(len: usize) {
+fn say_station(rt: &impl Print, len: usize) -> io::Result<()> {
     if len == 6 {
-        say(b": 01 00 00 00 04 01");
+        say(rt, b": 01 00 00 00 04 01")
     } else if len == 19 {
-        say(b": B");
+        say(rt, b": B")
     } else if len == 31 {
-        say(b": A");
+        say(rt, b": A")
     } else if len == 55 {
-        say(b": A2");
+        say(rt, b": A2")
     } else {
-        say(b": A and one byte more");
+        say(rt, b": A and one byte more")
     }
 }
 
 // A replaced byte. Byte 0 is the version, so it is given as replaced by the version where no byte is.
-pub fn say_byte(version: u8, at: usize, v: u8) {
+pub fn say_byte(rt: &impl Print, version: u8, at: usize, v: u8) -> io::Result<()> {
     if at != 0 || v != version {
-        report(b", byte ", at as u64);
-        say(b" = ");
-        io::print_hex(STDOUT_FILENO, v as u64, 2);
+        report(rt, b", byte ", at as u64)?;
+        say(rt, b" = ")?;
+        print!(rt; "{v:02x}")?;
     }
+    Ok(())
 }
 
-pub fn say_bytes(len: usize, at: usize, v: u8) {
-    say_station(len);
-    say_byte(version(len), at, v);
+pub fn say_bytes(rt: &impl Print, len: usize, at: usize, v: u8) -> io::Result<()> {
+    say_station(rt, len)?;
+    say_byte(rt, version(len), at, v)
 }
 
-pub fn say_record(row: u8, len: usize, at: usize, v: u8) {
-    report(b"row ", row as u64);
-    say_bytes(len, at, v);
+pub fn say_record(rt: &impl Print, row: u8, len: usize, at: usize, v: u8) -> io::Result<()> {
+    report(rt, b"row ", row as u64)?;
+    say_bytes(rt, len, at, v)
 }

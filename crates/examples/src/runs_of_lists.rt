@@ -1,9 +1,10 @@
 // Row 16 of the refusal table, and list runs on station A.
 ghost use Rattle.std.specs.Prelude.{◌≡◌, ◌<◌, ◌≤◌, length};
-ghost use Rattle.io.specs.Counts.{IsPrefixLen};
+ghost use Rattle.std.specs.Counts.{IsPrefixLen};
 
 use crate::lines::{ask_command, ask_run, compare, report, say};
 use crate::records::{record, say_byte};
+use std::io;
 
 // Ten commands. On A the first two, grant r and grant control, are accepted and change the record. The third is the second
 // again, which is refused. The fourth, which destroys the log, would be accepted.
@@ -30,74 +31,75 @@ fn list(len: usize, l: u8, at: usize, v: u8) -> [u8; 65]
     r
 }
 
-fn say_list(row: u8, len: usize, l: u8, at: usize, v: u8) {
-    report(b"row ", row as u64);
-    report(b": A, list of ", len as u64);
-    report(b" bytes, L = ", l as u64);
-    say_byte(1, at, v);
+fn say_list(rt: &impl Print, row: u8, len: usize, l: u8, at: usize, v: u8) -> io::Result<()> {
+    report(rt, b"row ", row as u64)?;
+    report(rt, b": A, list of ", len as u64)?;
+    report(rt, b" bytes, L = ", l as u64)?;
+    say_byte(rt, 1, at, v)
 }
 
-fn ask(before: &[u8], b: &mut [u8], l: &[u8]) {
-    ask_run(b, l);
-    compare(before, b);
-    say(b"\n");
+fn ask(rt: &impl Print, before: &[u8], b: &mut [u8], l: &[u8]) -> io::Result<()> {
+    ask_run(rt, b, l)?;
+    compare(rt, before, b)?;
+    say(rt, b"\n")
 }
 
-fn run(row: u8, len: usize, l: u8, at: usize, v: u8)
+fn run(rt: &impl Print, row: u8, len: usize, l: u8, at: usize, v: u8) -> io::Result<()>
     requires at_bound { at < 65 }
     requires len_bound { len ≤ 65 }
 {
     let before = record(31, 0, 1);
     let mut b = before;
     let t = list(len, l, at, v);
-    say_list(row, len, l, at, v);
-    ask(&before[..31], &mut b[..31], &t[..len]);
+    say_list(rt, row, len, l, at, v)?;
+    ask(rt, &before[..31], &mut b[..31], &t[..len])
 }
 
 // The list stops at its third command; the first two by themselves leave the same bytes.
-fn ask_kept(b: &mut [u8], c: &mut [u8], l: &[u8]) {
-    ask_run(b, l);
-    ask_command(c, 4, 1, 1, 2, 0);
-    ask_command(c, 6, 1, 0, 2, 0);
-    if check::same(b, c) {
-        say(b", bytes equal\n");
+fn ask_kept(rt: &impl Print, b: &mut [u8], c: &mut [u8], l: &[u8]) -> io::Result<()> {
+    ask_run(rt, b, l)?;
+    ask_command(rt, c, 4, 1, 1, 2, 0)?;
+    ask_command(rt, c, 6, 1, 0, 2, 0)?;
+    if &*b == &*c {
+        say(rt, b", bytes equal\n")
     } else {
-        say(b", bytes differ\n");
+        say(rt, b", bytes differ\n")
     }
 }
 
-fn kept() {
+fn kept(rt: &impl Print) -> io::Result<()> {
     let mut b = record(31, 0, 1);
     let mut c = b;
     let t = ten();
-    say_list(14, 65, 60, 0, 1);
-    ask_kept(&mut b[..31], &mut c[..31], &t);
+    say_list(rt, 14, 65, 60, 0, 1)?;
+    ask_kept(rt, &mut b[..31], &mut c[..31], &t)
 }
 
 // Log 3 goes from 2 to 1, from 1 to 0 and back to 2.
-fn handed_round() {
+fn handed_round(rt: &impl Print) -> io::Result<()> {
     let before = record(31, 0, 1);
     let mut b = before;
-    say(b"row 0: A, log 3 handed from 2 to 1, to 0, to 2");
+    say(rt, b"row 0: A, log 3 handed from 2 to 1, to 0, to 2")?;
     ask(
+        rt,
         &before[..31],
         &mut b[..31],
         b"\x01\x00\x00\x00\x12\x05\x03\x02\x01\x03\x00\x05\x03\x01\x00\x03\x00\x05\x03\x00\x02\x03\x00",
-    );
+    )
 }
 
-pub fn all() {
+pub fn all(rt: &impl Print) -> io::Result<()> {
     // 01 00 00 00 01 05, then a list that ends before L does, one of version 2, and one with nothing after L = 6
-    run(16, 6, 1, 0, 1);
-    run(16, 4, 0, 0, 1);
-    run(16, 5, 0, 0, 2);
-    run(16, 5, 6, 0, 1);
+    run(rt, 16, 6, 1, 0, 1)?;
+    run(rt, 16, 4, 0, 0, 1)?;
+    run(rt, 16, 5, 0, 0, 2)?;
+    run(rt, 16, 5, 6, 0, 1)?;
     // the length byte of the tenth record
-    run(16, 65, 60, 59, 4);
+    run(rt, 16, 65, 60, 59, 4)?;
     // no command, the first two, and all ten
-    run(0, 5, 0, 0, 1);
-    run(0, 17, 12, 0, 1);
-    run(14, 65, 60, 0, 1);
-    kept();
-    handed_round();
+    run(rt, 0, 5, 0, 0, 1)?;
+    run(rt, 0, 17, 12, 0, 1)?;
+    run(rt, 14, 65, 60, 0, 1)?;
+    kept(rt)?;
+    handed_round(rt)
 }

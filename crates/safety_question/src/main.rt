@@ -1,70 +1,76 @@
 // Asks the safety question that stands in the standard input (Manual 10.2) and prints the answer (Manual 10.3): `safe`, `refused N`, or
-// `leaks N` with the commands of the list, a line for each.
+// `leaks N` with the commands of the list, a line for each. It ends with an error only where a read or a write fails.
 
 #![tactic(auto)]
 
-ghost use Rattle.std.specs.Prelude.{◌≡◌, true};
+ghost use Rattle.std.specs.Prelude.{◌≡◌, ◌<◌, true, length, take, IfOk};
+ghost use Rattle.std.specs.Io.{ReadsAtMost};
+ghost use Rattle.std.specs.Io.KnownBytes.{Consumes, IsAtEnd};
 ghost use Rattle.matrix.specs.CommandList.{well_formed};
 
 use asking::MOST_INPUT;
-use libc::{STDIN_FILENO, STDOUT_FILENO};
 use matrix::{Fields, LIST_HEAD, MOST_SUBJECTS, RECORD_BYTES};
 use question::Safety;
-use reader::Read;
+use std::io::{self, Read};
 
 // The bytes of the longest list that leaks.
 const LONGEST_LIST: usize = LIST_HEAD + RECORD_BYTES * (MOST_SUBJECTS + 2);
 
-// A number, with one space before it.
-fn print_next(x: usize) {
-    io::write_all(STDOUT_FILENO, b" ");
-    io::print_decimal(STDOUT_FILENO, x as u64);
+// Fills the buffer from its start until it is full or the input ends, and returns how many bytes it put there. A read that gives some of the
+// bytes is gone on with.
+fn read_full<R: Read>(input: &mut R, buffer: &mut [u8]) -> io::Result<usize>
+    ensures bound { ReadsAtMost result buffer.new }
+    ensures bytes { IfOk result (λ n. Consumes (R.remaining input.old) (R.remaining input.new) (take n buffer.new)) }
+    ensures whole { IfOk result (λ n. n < length buffer.new → IsAtEnd (R.remaining input.new)) }
+{
+    let mut size = 0;
+    while size < buffer.len() {
+        let count = input.read(&mut buffer[size..])?;
+        if count == 0 {
+            break;
+        }
+        size += count;
+    }
+    Ok(size)
 }
 
 // A command: code, i, s, o, k.
-fn print_command(c: Fields) {
-    io::print_decimal(STDOUT_FILENO, c.code as u64);
-    print_next(c.i);
-    print_next(c.s);
-    print_next(c.o);
-    print_next(c.k);
-    io::write_all(STDOUT_FILENO, b"\n");
+fn print_command(rt: &impl Print, c: Fields) -> io::Result<()> {
+    println!(rt; "{} {} {} {} {}", c.code, c.i, c.s, c.o, c.k)
 }
 
 // The commands of a list, a line for each.
-fn print_list(list: &[u8])
+fn print_list(rt: &impl Print, list: &[u8]) -> io::Result<()>
     requires { well_formed list.now ≡ true }
 {
     let mut at = 0;
     loop {
-        let Read::Command(c, after) = reader::read_one(list, at) else {
+        let reader::Read::Command(c, after) = reader::read_one(list, at) else {
             break;
         };
-        print_command(c);
+        print_command(rt, c)?;
         at = after;
     }
+    Ok(())
 }
 
 // A word and a number.
-fn print_count(word: &[u8], count: usize) {
-    io::write_all(STDOUT_FILENO, word);
-    io::print_decimal(STDOUT_FILENO, count as u64);
-    io::write_all(STDOUT_FILENO, b"\n");
+fn print_count(rt: &impl Print, word: &[u8], count: usize) -> io::Result<()> {
+    rt.write_all(word)?;
+    println!(rt; "{count}")
 }
 
-fn main() {
+fn main(rt: HostRuntime) -> io::Result<()> {
     let mut input = [0u8; MOST_INPUT + 1];
-    let size = io::read_full(STDIN_FILENO, &mut input);
+    let size = read_full(&mut rt.stdin(), &mut input)?;
     let mut out = [0u8; LONGEST_LIST];
     let r = asking::ask(&input[..size], &mut out);
     match r {
-        Safety::Safe => {
-            io::write_all(STDOUT_FILENO, b"safe\n");
-        }
-        Safety::Refused(number) => print_count(b"refused ", number),
+        Safety::Safe => println!(rt; "safe"),
+        Safety::Refused(number) => print_count(&rt, b"refused ", number),
         Safety::Leaks(count) => {
-            print_count(b"leaks ", count);
-            print_list(&out[..LIST_HEAD + RECORD_BYTES * count]);
+            print_count(&rt, b"leaks ", count)?;
+            print_list(&rt, &out[..LIST_HEAD + RECORD_BYTES * count])
         }
     }
 }

@@ -1,0 +1,16 @@
+-- The list that is printed stands in the buffer, of the right form.
+use Rattle.std.proofs.Common.{refl, arith}
+use Rattle.asking.specs.Stands.{list_stands}
+use Rattle.safety_question.proofs.main.Goals as goal
+
+pub overflow_mul-out : goal.overflow_mul-out
+overflow_mul-out c = let s = list_stands _ _ c.in-Leaks.ensures refl in omega (arith, s.within)
+
+pub overflow_add-out : goal.overflow_add-out
+overflow_add-out c = let s = list_stands _ _ c.in-Leaks.ensures refl in omega (arith, s.within)
+
+pub slice_bounds-out-end : goal.slice_bounds-out-end
+slice_bounds-out-end c = let s = list_stands _ _ c.in-Leaks.ensures refl in omega (arith, s.within)
+
+pub print_list-requires : goal.print_list-requires
+print_list-requires c = (list_stands _ _ c.in-Leaks.ensures refl).right
