@@ -1,0 +1,17 @@
+-- The loop's invariant: the cells of the rows passed so far are cleared.
+use borrow.Author.Rules.{rules}
+use Prim.Native.Nat.{◌-◌, ◌≤◌}
+use native.Mathlib.Omega.{arith}
+use Rattle.matrix.specs.State.{clear}
+use Rattle.matrix.specs.Reading.{state_of}
+use Rattle.bits.specs.Became.{Became}
+use Rattle.bits.specs.Passed.{column_part}
+use Rattle.bits.specs.Steps.{cell_after, length_after}
+use Rattle.bits.specs.Loops.{column_none, column_next, column_all}
+use Rattle.bits.proofs.clear_column.Given as goal
+
+abbrev pub invariant-loop-w : goal.invariant-loop-w
+invariant-loop-w l = (l.w ≤ l.n) × Became l.initial.b l.b (clear (column_part l.f.n l.c l.w) (state_of l.initial.b))
+
+abbrev pub decreases-loop-w : goal.decreases-loop-w
+decreases-loop-w l = l.n - l.w

@@ -1,0 +1,21 @@
+-- The invariant: every subject below s passes, and the row of s begins at `at`.
+use borrow.Author.Rules.{rules}
+use Prim.Native.Nat.{◌+◌, ◌-◌, ◌≤◌}
+use native.Mathlib.Omega.{arith}
+use mathlib.Core.Path.{◌≡◌}
+use mathlib.Core.Bool.{true}
+use borrow.Author.Tests.{not-true, not-false}
+use lib.ListN.{length, get_or}
+use Rattle.matrix.specs.Bounded.{all}
+use Rattle.lanes.specs.Lanes.{row_bytes, row_place}
+use Rattle.lanes.specs.LaneLaws.{first_place, next_place, row_room}
+use Rattle.lanes.specs.Passing.{all_none, all_more, all_done, all_stop}
+use Rattle.columns.specs.Checks.{subject_test}
+use Rattle.columns.specs.Loops.{subject_test_lem, cell_inside}
+use Rattle.columns.proofs.each_subject.Given as goal
+
+abbrev pub invariant-loop-s : goal.invariant-loop-s
+invariant-loop-s l = (l.s ≤ l.rows) × (l.at ≡ row_place l.m l.s) × (all l.s (subject_test l.q l.b l.m (λ j. get_or l.seen j 0) l.tally l.odd) ≡ true)
+
+abbrev pub decreases-loop-s : goal.decreases-loop-s
+decreases-loop-s l = l.rows - l.s

@@ -1,0 +1,30 @@
+-- `decoding::rule_of` meets its contract: each arm is a row, or two, of the table.
+use native.Mathlib.Omega.{arith}
+use mathlib.Core.Path.{refl}
+use Rattle.matrix.specs.declared.Act.TheVariants.{Transfer, Grant, Delete}
+use Rattle.decoding.specs.Decoded.{ruled_of}
+use Rattle.decoding.specs.Arms.{one_row, two_rows, below_codes, above_codes}
+use borrow.Author.Rules.{rules}
+use Rattle.decoding.proofs.rule_of.Goals as goal
+
+pub returns-in-3 : goal.returns-in-3
+unfolding ruled_of
+returns-in-3 c = one_row 3 c.args.code _ c.in-3.is refl
+
+pub returns-in-1-to-2 : goal.returns-in-1-to-2
+unfolding ruled_of
+returns-in-1-to-2 c = two_rows Transfer 1 c.args.code _ (omega arith) (omega arith) c.form_from.ensures refl refl
+
+pub returns-in-4-to-5 : goal.returns-in-4-to-5
+unfolding ruled_of
+returns-in-4-to-5 c = two_rows Grant 4 c.args.code _ (omega arith) (omega arith) c.form_from-in-4-to-5.ensures refl refl
+
+pub returns-in-8-to-9 : goal.returns-in-8-to-9
+unfolding ruled_of
+returns-in-8-to-9 c = two_rows Delete 8 c.args.code _ (omega arith) (omega arith) c.form_from-in-8-to-9.ensures refl refl
+
+pub returns-in_default : goal.returns-in_default
+returns-in_default c = below_codes c.args.code c.args.k c.in_default.if-code-lt1-own.true
+
+pub returns-in_default-2 : goal.returns-in_default-2
+returns-in_default-2 c = above_codes c.args.code c.args.k c.in_default.if-code-lt14-own.false

@@ -1,0 +1,15 @@
+-- The invariant: `wrong` is the faults of the subjects below s, merged.
+use borrow.Author.Rules.{rules}
+use Prim.Native.Nat.{ℕ, ◌-◌, ◌≤◌}
+use mathlib.Core.Path.{◌≡◌, ◌∙◌, ap}
+use lib.Bits.{bit_or}
+use Rattle.lanes.specs.Lanes.{merged, fault_of}
+use Rattle.lanes.specs.Zeros.{merged_none, merged_more, merged_done, no_fault}
+use Rattle.few_subjects.specs.Counts.{few_test, few_test_lem}
+use Rattle.few_subjects.proofs.counts_fit.Given as goal
+
+abbrev pub invariant-loop-s : goal.invariant-loop-s
+invariant-loop-s l = (l.s ≤ l.n) × (l.wrong ≡ merged l.s (λ i. fault_of (few_test l.low l.odd i)))
+
+abbrev pub decreases-loop-s : goal.decreases-loop-s
+decreases-loop-s l = l.n - l.s

@@ -1,0 +1,10 @@
+-- `opening::width_of` meets its contract.
+use mathlib.Core.Path.{refl}
+use borrow.Author.Tests.{eq-eqb, ne_eqb}
+use Rattle.opening.proofs.width_of.Goals as goal
+
+pub returns-then-version-eq1 : goal.returns-then-version-eq1
+returns-then-version-eq1 c = rw (eq-eqb c.args.version 1 c.if-version-eq1.true) refl
+
+pub returns-else-version-eq1 : goal.returns-else-version-eq1
+returns-else-version-eq1 c = rw (ne_eqb c.args.version 1 c.if-version-eq1.false) refl

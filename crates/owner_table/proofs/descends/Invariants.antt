@@ -1,0 +1,17 @@
+-- The invariant: U's entry is U, and `wrong` is the faults of the subjects below s, merged.
+use borrow.Author.Rules.{rules}
+use Prim.Native.Nat.{ℕ, ◌-◌, ◌≤◌}
+use mathlib.Core.Path.{◌≡◌, ◌∙◌, ap}
+use lib.Bits.{bit_or}
+use borrow.Author.Tests.{eq-eqb, ne_eqb}
+use Rattle.lanes.specs.Lanes.{merged, fault_of}
+use Rattle.lanes.specs.Passing.{all_stop}
+use Rattle.lanes.specs.Zeros.{merged_more, merged_done, first_fault, no_fault}
+use Rattle.owner_table.specs.Table.{lower_test, lower_root, lower_other}
+use Rattle.owner_table.proofs.descends.Given as goal
+
+abbrev pub invariant-loop-s : goal.invariant-loop-s
+invariant-loop-s l = (1 ≤ l.s) × (l.s ≤ l.n) × (l.wrong ≡ merged l.s (λ i. fault_of (lower_test l.t i)))
+
+abbrev pub decreases-loop-s : goal.decreases-loop-s
+decreases-loop-s l = l.n - l.s

@@ -1,0 +1,18 @@
+-- The loop's invariant: what is left of the walk is the whole walk's answer.
+use borrow.Author.Rules.{rules}
+use Prim.Native.Nat.{ℕ, ◌+◌, ◌<◌}
+use native.Mathlib.Omega.{arith}
+use mathlib.Core.Path.{◌≡◌, sym, ◌∙◌, ap}
+use Rattle.matrix.specs.declared.Name.TheVariants.{Subject}
+use Rattle.matrix.specs.Owners.{walk, walk_from}
+use Rattle.matrix.specs.Reading.{state_of}
+use Rattle.states.specs.Reads.{top_is}
+use Rattle.states.specs.Walks.{walk_out, walk_meets, walk_root, walk_unowned, walk_up}
+use Rattle.states.proofs.owner_walk.Given as goal
+
+abbrev pub invariant-up : goal.invariant-up
+invariant-up l =
+    (l.at < l.n) × (l.links + l.left ≡ l.n) × (walk_from (state_of l.b).top (state_of l.b).owns l.left l.at (Subject l.o) l.links ≡ walk (state_of l.b) l.s (Subject l.o))
+
+abbrev pub decreases-up : goal.decreases-up
+decreases-up l = l.left

@@ -1,0 +1,16 @@
+-- The invariant: what is counted of the lane is that of the first r rows, and `at` is its upper byte in row r.
+use borrow.Author.Rules.{rules}
+use Prim.Native.Nat.{ℕ, ◌+◌, ◌*◌, ◌-◌, ◌≤◌}
+use native.Mathlib.Omega.{arith}
+use mathlib.Core.Path.{◌≡◌, refl, ap}
+use lib.ListN.{length, get_or}
+use Rattle.lanes.specs.Lanes.{row_bytes, row_place, upper_at}
+use Rattle.lanes.specs.LaneLaws.{first_place, first_room, next_place, row_room}
+use Rattle.tallies.specs.Blocks.{Column, column_none, column_next, column_low, column_count, column_done, filling_one}
+use Rattle.tallies.proofs.one.Given as goal
+
+abbrev pub invariant-loop-r : goal.invariant-loop-r
+invariant-loop-r l = (l.r ≤ l.rows) × (l.at ≡ row_place l.m l.r + (2 * l.c + 1)) × Column (λ v. upper_at l.b l.m v l.c) l.r l.low l.parity l.since
+
+abbrev pub decreases-loop-r : goal.decreases-loop-r
+decreases-loop-r l = l.rows - l.r

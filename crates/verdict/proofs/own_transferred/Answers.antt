@@ -1,0 +1,19 @@
+-- `verdict::own_transferred` meets its contract.
+use Rattle.verdict.specs.Late.{own_judged, object_judged}
+use borrow.Author.Rules.{rules}
+use Rattle.verdict.proofs.own_transferred.Goals as goal
+
+pub returns-in-Meets : goal.returns-in-Meets
+returns-in-Meets c =
+    own_judged c.requires.0 c.requires.1 c.in-Subject.is _ c.owner_walk-w.ensures c.in-Meets.is
+
+pub returns-in-Root : goal.returns-in-Root
+returns-in-Root c =
+    own_judged c.requires.0 c.requires.1 c.in-Subject.is _ c.owner_walk-w.ensures c.in-Root.is
+
+pub returns-in-Lost : goal.returns-in-Lost
+returns-in-Lost c =
+    own_judged c.requires.0 c.requires.1 c.in-Subject.is _ c.owner_walk-w.ensures c.in-Lost.is
+
+pub returns-in-Plain : goal.returns-in-Plain
+returns-in-Plain c = object_judged c.requires.0 c.requires.1 c.in-Plain.is

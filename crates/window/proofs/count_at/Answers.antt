@@ -1,0 +1,12 @@
+-- `window::count_at` meets its contract.
+use native.Mathlib.Omega.{arith}
+use Prim.Native.Nat.{ℕ, ◌+◌, ◌*◌}
+use mathlib.Core.Path.{sym, ◌∙◌, ap₂}
+use Rattle.codec.specs.Numbers.{two_read}
+use borrow.Author.Rules.{rules}
+use Rattle.window.proofs.count_at.Goals as goal
+
+pub returns : goal.returns
+returns c =
+    let a = c.args in
+    (ap₂ (λ (x y : ℕ). x * 256 + y) c.wide-high.ensures.0 c.wide-low.ensures.0 ∙ sym (two_read a.w.now _), omega arith)
