@@ -62,7 +62,7 @@ fn fill(b: &[u8], f: Shape, out: &mut [u8], g: Shape)
     ensures { out.new ≡ bytes_of (content g (state_of b.now)) }
 {
     if f.version == g.version {
-        bytes::copy(b, out);
+        out.copy_from_slice(b);
         return;
     }
     write(b, f, out, g);

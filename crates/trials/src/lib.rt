@@ -59,7 +59,7 @@ fn try_on(
     requires { Guessed b.now f owners.old × Cell b.now f s o × (right < bits_of f) × (well_formed l.now ≡ true) × (length copy.old ≡ length b.now) }
     ensures { result ≡ first_on b.now l.now s o right }
 {
-    bytes::copy(b, copy);
+    copy.copy_from_slice(b);
     first_on(copy, f, owners, l, s, o, right)
 }
 

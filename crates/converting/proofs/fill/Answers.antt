@@ -1,0 +1,13 @@
+-- `converting::fill` meets its contract: a record of the wanted version is the record itself.
+use native.Mathlib.Omega.{arith}
+use mathlib.Core.Path.{sym, ◌∙◌}
+use Rattle.laws.specs.Copied.{copied_over}
+use Rattle.converting.specs.Copying.{own_record, own_size}
+use borrow.Author.Rules.{rules}
+use Rattle.converting.proofs.fill.Goals as goal
+
+pub copy_from_slice-requires : goal.copy_from_slice-requires
+copy_from_slice-requires c = c.requires.1 ∙ sym (own_size c.requires.0.wanted c.if-f-g.true)
+
+pub returns-then-f-g : goal.returns-then-f-g
+returns-then-f-g c = c.copy_from_slice.ensures.after ∙ own_record c.requires.0.wanted c.if-f-g.true

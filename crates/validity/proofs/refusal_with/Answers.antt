@@ -1,0 +1,80 @@
+-- `validity::refusal_with` meets its contract. The tests 1 to 5, one after the other; each refusal by the law of its number.
+use mathlib.Core.Path.{◌≡◌, sym, ◌∙◌}
+use mathlib.Core.Bool.{true}
+use borrow.Author.Tests.{not-true, not-false}
+use Prim.Native.Nat.{ℕ}
+use mathlib.Core.List.{List}
+use Rattle.matrix.specs.declared.Shape.{Shape}
+use Rattle.matrix.specs.Shape.{limits, shape_of, known_version, in_range, sized}
+use Rattle.matrix.specs.Shaped.{Octets}
+use Rattle.header.specs.Headed.{Headed}
+use Rattle.validity.specs.Header.{refused_1, refused_2, refused_3, refused_4, refused_5, refused_none}
+use Rattle.validity.specs.Whole.{unread, version_read, range_read, headed, station_read}
+use borrow.Author.Rules.{rules}
+use Rattle.validity.proofs.refusal_with.Goals as goal
+use Rattle.validity.proofs.refusal_with.Goals.{After-shape-f, Else-not-in_range, Else-not-known_version, Else-not-right_size}
+
+octets : (c : After-shape-f) → Octets c.args.b.now
+octets c = record { octet = λ j. (c.type_inv.b j).fits }
+
+-- the tests that are passed at each place
+version-here : (c : Else-not-known_version) → known_version (shape_of c.args.b.now).version ≡ true
+version-here c = version_read _ _ c.shape-f.ensures _ _ c.known_version.ensures c.if-not-known_version.false
+
+range-here : (c : Else-not-in_range) → in_range limits (shape_of c.args.b.now) ≡ true
+range-here c = range_read _ _ c.shape-f.ensures _ _ c.in_range.ensures c.if-not-in_range.false
+
+headed-here : (c : Else-not-in_range) → Headed c.args.b.now c.shape-f.result
+headed-here c = headed _ _ c.shape-f.ensures c.if-b-lt-HEADER_BYTES.false (version_read _ _ c.shape-f.ensures _ _ c.known_version.ensures c.if-not-known_version.false) (range-here c)
+
+sized-here : (c : Else-not-right_size) → sized c.args.b.now ≡ true
+sized-here c = sym c.right_size.ensures ∙ c.if-not-right_size.false
+
+pub returns-then-b-lt-HEADER_BYTES : goal.returns-then-b-lt-HEADER_BYTES
+returns-then-b-lt-HEADER_BYTES c = record { refusal = refused_1 _ c.if-b-lt-HEADER_BYTES.true; table = unread _ c.requires }
+
+pub returns-then-not-known_version : goal.returns-then-not-known_version
+returns-then-not-known_version c =
+    record {
+      refusal = refused_2 _ c.if-b-lt-HEADER_BYTES.false (version_read _ _ c.shape-f.ensures _ _ c.known_version.ensures c.if-not-known_version.true);
+      table = unread _ c.requires;
+    }
+
+pub returns-then-not-in_range : goal.returns-then-not-in_range
+returns-then-not-in_range c =
+    let out = range_read _ _ c.shape-f.ensures _ _ c.in_range.ensures c.if-not-in_range.true in
+    record {
+      refusal = refused_3 _ c.if-b-lt-HEADER_BYTES.false (version-here (goal.at.returns-then-not-in_range c).Else-not-known_version) out;
+      table = unread _ c.requires;
+    }
+
+pub right_size-requires : goal.right_size-requires
+right_size-requires c = headed-here (goal.at.right_size-requires c).Else-not-in_range
+
+pub returns-then-not-right_size : goal.returns-then-not-right_size
+returns-then-not-right_size c =
+    let out = sym c.right_size.ensures ∙ c.if-not-right_size.true in
+    record {
+      refusal = refused_4 _ (headed-here (goal.at.returns-then-not-right_size c).Else-not-in_range).long (version-here (goal.at.returns-then-not-right_size c).Else-not-known_version) (range-here (goal.at.returns-then-not-right_size c).Else-not-in_range) out;
+      table = unread _ c.requires;
+    }
+
+pub valid-requires : goal.valid-requires
+valid-requires c =
+    (station_read _ _ (octets (goal.at.valid-requires c).After-shape-f) (headed-here (goal.at.valid-requires c).Else-not-in_range) (sized-here (goal.at.valid-requires c).Else-not-right_size), unread _ c.requires)
+
+pub returns-then-valid : goal.returns-then-valid
+returns-then-valid c =
+    let v = c.valid.ensures in
+    record {
+      refusal = refused_none _ (headed-here (goal.at.returns-then-valid c).Else-not-in_range).long (version-here (goal.at.returns-then-valid c).Else-not-known_version) (range-here (goal.at.returns-then-valid c).Else-not-in_range) (sized-here (goal.at.returns-then-valid c).Else-not-right_size) (sym v.verdict ∙ c.if-valid.true);
+      table = v.table;
+    }
+
+pub returns-else-valid : goal.returns-else-valid
+returns-else-valid c =
+    let v = c.valid.ensures in
+    record {
+      refusal = refused_5 _ (headed-here (goal.at.returns-else-valid c).Else-not-in_range).long (version-here (goal.at.returns-else-valid c).Else-not-known_version) (range-here (goal.at.returns-else-valid c).Else-not-in_range) (sized-here (goal.at.returns-else-valid c).Else-not-right_size) (sym v.verdict ∙ c.if-valid.false);
+      table = v.table;
+    }
