@@ -21,7 +21,7 @@ def snake(name):
     """The name in snake case; a capital that stands alone is a station's name and stays."""
     name = name.replace("getD", "get_or").replace("setD", "set")
     name = re.sub(r"([a-z0-9'])([A-Z])", lambda m: m.group(1) + "_" + m.group(2).lower(), name.replace("-", "_"))
-    return name
+    return re.sub(r"_([A-Z])(?=[a-z])", lambda m: "_" + m.group(1).lower(), name)
 
 
 def crates():

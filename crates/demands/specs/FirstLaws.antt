@@ -93,6 +93,7 @@ among_outside m (x ∷ xs) ys zs (inl e) = inl e
 among_outside m (x ∷ xs) ys zs (inr h) = inr (among_outside m xs ys zs h)
 
 pub among_inside : (m : ℕ) (xs ys zs : List ℕ) → Among m ys → Among m (xs ++ (ys ++ zs))
+among_inside m [] [] zs h = elim h [ ]
 among_inside m [] (y ∷ ys) zs (inl e) = inl e
 among_inside m [] (y ∷ ys) zs (inr h) = inr (among_inside m [] ys zs h)
 among_inside m (x ∷ xs) ys zs h = inr (among_inside m xs ys zs h)

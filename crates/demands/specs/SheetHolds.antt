@@ -73,8 +73,8 @@ module _ (basics : ℕ) (names : Bool) (S : State) where
     over_right_lem : (code : ℕ) (entitled set : Bool) (more : List Bool) → known code ≡ true → fit (raw code i s o k) ≡ ltb k basics
         → command_tests S (decode (raw code i s o k)) ≡ right_tests entitled set → (set ≡ true) ↔ AllHold more
         → Row basics names S (raw code i s o k) (over_right entitled more) (change S (decode (raw code i s o k)) (rule_of code k).act) (walk_links S (decode (raw code i s o k)) (rule_of code k).act)
-    over_right_lem code entitled set more is_Known fits tests asked =
-        row (raw code i s o k) (over_right entitled more) is_Known
+    over_right_lem code entitled set more is_known fits tests asked =
+        row (raw code i s o k) (over_right entitled more) is_known
         (λ n f p. let q : Passed (right_tests entitled set) = subst Passed tests p in
         (n, (sym fits ∙ f, (q.0, (and_left (exists S s) (exists_name S o) q.1.1.0, (and_right (exists S s) (exists_name S o) q.1.1.0, (q.1.1.1.1.0, asked.0 q.1.1.1.1.1.0)))))))
         (λ h. let q : Passed (right_tests entitled set) =

@@ -1,0 +1,78 @@
+-- `safety::ask` meets its contract.
+use native.Mathlib.Omega.{arith}
+use mathlib.Core.Path.{◌≡◌, refl, sym, ◌∙◌}
+use borrow.Author.Tests.{not-true, not-false}
+use Rattle.matrix.specs.Shape.{limits}
+use Rattle.matrix.specs.Record.{record_refusal}
+use Rattle.matrix.specs.Shaped.{Octets}
+use Rattle.owners.specs.Read.{valid_record}
+use Rattle.cells.specs.Station.{Station, right_shape}
+use Rattle.opening.specs.Opened.{station_of, long_enough}
+use Rattle.safety.specs.Turned.{turned_record}
+use Rattle.safety.specs.Whole.{unfit, no_room, Fitting, asked, asks, unheld, answered, answered_held}
+use borrow.Author.Rules.{rules}
+use Rattle.safety.proofs.ask.Goals as goal
+use Rattle.safety.proofs.ask.Goals.{After-shape-f, Else-out-f, Else-turned-ne0}
+
+-- where the record is not turned down
+right : (c : Else-turned-ne0) → record_refusal limits c.args.b.now ≡ 0
+right c = sym c.refusal_with-turned.ensures.refusal ∙ c.if-turned-ne0.false
+
+octets : (c : Else-turned-ne0) → Octets c.args.b.now
+octets c = record { octet = λ j. (c.type_inv.b j).fits }
+
+opened : (c : After-shape-f) → Station c.args.b.now c.shape-f.result
+opened c = station_of ((record { octet = λ j. (c.type_inv.b j).fits })) ((sym c.refusal_with-turned.ensures.refusal ∙ c.if-turned-ne0.false)) c.shape-f.ensures
+
+pub returns-then-turned-ne0 : goal.returns-then-turned-ne0
+returns-then-turned-ne0 c = turned_record _ _ _ _ _ _ c.refusal_with-turned.ensures.refusal c.if-turned-ne0.true
+
+pub shape-f-requires : goal.shape-f-requires
+shape-f-requires c = long_enough _ (right c)
+
+pub within_bounds-requires : goal.within_bounds-requires
+within_bounds-requires c = right_shape (opened c)
+
+pub returns-then-not-within_bounds : goal.returns-then-not-within_bounds
+returns-then-not-within_bounds c =
+    let a = c.args in
+    unfit (right (goal.at.returns-then-not-within_bounds c).Else-turned-ne0) (opened (goal.at.returns-then-not-within_bounds c).After-shape-f) a.trust a.s a.o a.right a.out.now c.within_bounds.ensures c.if-not-within_bounds.true
+
+pub overflow_add-f : goal.overflow_add-f
+overflow_add-f c = omega (arith, (right_shape (opened (goal.at.overflow_add-f c).After-shape-f)).high)
+
+pub overflow_mul-f : goal.overflow_mul-f
+overflow_mul-f c = omega (arith, (right_shape (opened (goal.at.overflow_mul-f c).After-shape-f)).high)
+
+pub overflow_add-f-2 : goal.overflow_add-f-2
+overflow_add-f-2 c = omega (arith, (right_shape (opened (goal.at.overflow_add-f-2 c).After-shape-f)).high)
+
+pub returns-then-out-f : goal.returns-then-out-f
+returns-then-out-f c =
+    let a = c.args in
+    no_room (right (goal.at.returns-then-out-f c).Else-turned-ne0) (opened (goal.at.returns-then-out-f c).After-shape-f) a.trust a.s a.o a.right a.out.now c.within_bounds.ensures c.if-not-within_bounds.false c.if-out-f.true
+
+fitting : (c : Else-out-f)
+    → Fitting c.args.b.now c.shape-f.result c.args.trust c.args.s c.args.o c.args.right c.args.out.now
+fitting c =
+    record { valid = (sym c.refusal_with-turned.ensures.refusal ∙ c.if-turned-ne0.false); station = (station_of ((record { octet = λ j. (c.type_inv.b j).fits })) ((sym c.refusal_with-turned.ensures.refusal ∙ c.if-turned-ne0.false)) c.shape-f.ensures); fit = sym c.within_bounds.ensures ∙ c.if-not-within_bounds.false; room = c.if-out-f.false }
+
+pub is_held-requires : goal.is_held-requires
+is_held-requires c = asked (fitting c)
+
+pub returns-then-is_held : goal.returns-then-is_held
+returns-then-is_held c =
+    answered_held (fitting (goal.at.returns-then-is_held c).Else-out-f) refl refl c.is_held.ensures c.if-is_held.true c.leaks.ensures
+
+pub decide-requires : goal.decide-requires
+decide-requires c =
+    let q = fitting (goal.at.decide-requires c).Else-out-f in
+    (
+      asks q c.name_of-x.ensures c.right_of-y.ensures,
+      record { station = q.station; valid = valid_record _ q.valid; size = c.refusal_with-turned.ensures.table },
+      unheld q c.name_of-x.ensures c.right_of-y.ensures c.is_held.ensures c.if-is_held.false,
+    )
+
+pub returns : goal.returns
+returns c =
+    answered (fitting (goal.at.returns c).Else-out-f) c.name_of-x.ensures c.right_of-y.ensures c.decide.ensures
