@@ -2,7 +2,7 @@
  * Bunvespo: the rights record of a log station (Graham-Denning), its thirteen commands and its safety question, and a window of the
  * commands that were refused of late. The eleven calls of the proved library, for C99 and C++11. `./install PREFIX` puts this header,
  * the archive and a file for pkg-config below a prefix; without it, link with target/staticlib/libbunvespo.a, which
- * `rt staticlib bunvespo` proves and writes. The archive is built for x86-64 and needs nothing but memcpy and memset of the C
+ * `scripts/archive` proves and writes. The archive is built for x86-64 and needs nothing but memcpy, memmove and memset of the C
  * library.
  *
  * THE RECORD. A matrix of cells. In each of them every right has one bit: a cell has 16 bits at version 1 and 32 at version 2, high byte
@@ -44,11 +44,10 @@
  * bytes and no others, and keeps no pointer after it returns. A record, a buffer, an output or a copy that a call may write must not
  * overlap its other slices: so a record is never converted in its own place, nor a list tried on the record itself.
  * NULL with length 0 is an empty slice, for each of them: the compiled code looks at a slice's length before it reads or
- * writes a byte, and never at the pointer itself. So an empty record, NULL or not, gives 0 for validity and else refusal 1;
- * an empty list on a valid record refusal 16; an empty buffer on a valid record refusal 15 (7 stands before it); an empty output on a
- * valid record refusal 15 (18 stands before it), an empty copy too (7 stands before it); and an empty slice for a window is one of
- * another length than a window's. NULL with another length is not allowed.
- * tests/c_interface/null_and_empty.c tests this.
+ * writes a byte. So an empty record, NULL or not, gives 0 for validity and else refusal 1; an empty list on a valid record refusal 16;
+ * an empty buffer on a valid record refusal 15 (7 stands before it); an empty output on a valid record refusal 15 (18 stands before
+ * it), an empty copy too (7 stands before it); and an empty slice for a window is one of another length than a window's. NULL with
+ * another length is not allowed. tests/c_interface/null_and_empty.c tests this.
  *
  * THREADS. The library has no variables and takes no locks: all that a call touches is the bytes lent to it. So threads may call
  * it at the same time, under the rule that C has for all bytes: none may be written by one thread while another reads or writes it.

@@ -13,7 +13,7 @@ fn main() {
     println!("cargo:rerun-if-changed={}", archive.display());
     if !archive.is_file() {
         eprintln!(
-            "error: there is no {}.\nRun `rt staticlib bunvespo` in the repository first, \
+            "error: there is no {}.\nRun `scripts/archive` in the repository first, \
              or set BUNVESPO_LIB to the folder that has libbunvespo.a.",
             archive.display()
         );

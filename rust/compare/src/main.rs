@@ -48,10 +48,10 @@ struct Options {
     program: String,
 }
 
-/// Where `rt check safety_question` writes the program.
+/// Where `rt ci`, or `rt run` in the crate's folder, writes the program.
 const PROGRAM: &str = concat!(
     env!("CARGO_MANIFEST_DIR"),
-    "/../../target/bin/safety_question"
+    "/../../crates/safety_question/out/safety_question"
 );
 
 /// How many inputs on records there are to one time with windows.

@@ -174,7 +174,7 @@ fn check_leak(record: &[u8], question: [u64; 4], printed: &[u8]) -> Result<(), S
 fn print_of(program: &str, input: &[u8]) -> Result<Vec<u8>, String> {
     let failed = |error| {
         format!(
-            "cannot run {program}: {error}\n`rt check safety_question` builds it; --program names another place"
+            "cannot run {program}: {error}\n`rt run </dev/null` in crates/safety_question builds it; --program names another place"
         )
     };
     let mut child = Command::new(program)
