@@ -1,5 +1,5 @@
 -- The list that is printed stands in the buffer, of the right form.
-use Rattle.std.proofs.Common.{refl, arith}
+use Rattle.std.proofs.Common.{ℕ, refl, arith, length-take}
 use Rattle.asking.specs.Stands.{list_stands}
 use Rattle.safety_question.proofs.main.Goals as goal
 
@@ -11,6 +11,9 @@ overflow_add-out c = let s = list_stands _ _ c.in-Leaks.ensures refl in omega (a
 
 pub slice_bounds-out-end : goal.slice_bounds-out-end
 slice_bounds-out-end c = let s = list_stands _ _ c.in-Leaks.ensures refl in omega (arith, s.within)
+
+pub slice_bounds-print_list-end : goal.slice_bounds-print_list-end
+slice_bounds-print_list-end c = let s = list_stands _ _ c.in-Leaks.ensures refl in omega (arith, s.within, length-take {A = ℕ})
 
 pub print_list-requires : goal.print_list-requires
 print_list-requires c = (list_stands _ _ c.in-Leaks.ensures refl).right
