@@ -14,7 +14,8 @@ use Rattle.matrix.specs.Changes.{inherit}
 use Rattle.laws.specs.Same.{same_name_eq}
 use Rattle.laws.specs.Tests.{way}
 use Rattle.codec.specs.Numbers.{set_same}
-use Rattle.codec.specs.ShapeRight.{TwoOrFour, two_or_four}
+use Rattle.codec.specs.ShapeRight.{TwoOrFour}
+use Rattle.codec.proofs.ShapeRight.{two_or_four}
 use Rattle.codec.specs.Update.{bit_read}
 use Rattle.codec.specs.RoundTrip.{within_read}
 use Rattle.cells.specs.Station.{Station, Cell, right_shape}

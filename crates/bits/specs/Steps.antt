@@ -12,7 +12,7 @@ use Rattle.matrix.specs.Reading.{cell_at, set_cell, state_of}
 use Rattle.codec.specs.Bits.{with_bit}
 use Rattle.codec.specs.Cells.{shape_set, shaped_set, octets_set}
 use Rattle.codec.specs.Columns.{name_of_column_of, named_below}
-use Rattle.codec.specs.Update.{state_put, state_clear}
+use Rattle.codec.proofs.Update.{state_put, state_clear}
 use Rattle.cells.specs.Station.{Station, Cell, right_shape}
 use Rattle.cells.specs.Places.{bit_place, bit_stored}
 use Rattle.states.specs.Needs.{RightIn, BitIn}

@@ -6,7 +6,8 @@ use Rattle.matrix.specs.declared.Shape.{Shape}
 use Rattle.matrix.specs.Bytes.{number_at, set_number}
 use Rattle.matrix.specs.Shape.{columns, cell_place, size_of}
 use Rattle.matrix.specs.Reading.{cell_at, set_cell}
-use Rattle.codec.specs.ShapeRight.{ShapeRight, most_bytes, width_some, size_most}
+use Rattle.codec.specs.ShapeRight.{ShapeRight, most_bytes}
+use Rattle.codec.proofs.ShapeRight.{width_some, size_most}
 use Rattle.cells.specs.Station.{Station, right_shape}
 
 -- the number of the cells, and the place of the one numbered k

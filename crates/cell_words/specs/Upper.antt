@@ -19,7 +19,8 @@ use Rattle.matrix.specs.Converting.{basic_from}
 use Rattle.laws.specs.Tests.{way, clash, holds, same_test, and_left, and_right, and_both}
 use Rattle.laws.specs.Bounded.{all_each, each_all}
 use Rattle.laws.specs.Basics.{SetFrom, basic_none}
-use Rattle.codec.specs.ShapeRight.{ShapeRight, two_or_four}
+use Rattle.codec.specs.ShapeRight.{ShapeRight}
+use Rattle.codec.proofs.ShapeRight.{two_or_four}
 use Rattle.codec.specs.Bits.{bit_beyond}
 use Rattle.codec.specs.Codes.{code_of_room}
 use Rattle.codec.specs.Update.{bit_read}

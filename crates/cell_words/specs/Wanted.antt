@@ -8,7 +8,7 @@ use Rattle.matrix.specs.Shaped.{Within}
 use Rattle.matrix.specs.Converting.{in_version, basic_from}
 use Rattle.codec.specs.ShapeRight.{ShapeRight}
 use Rattle.codec.specs.RoundTrip.{within_read}
-use Rattle.codec.specs.InVersion.{right_version, within_version}
+use Rattle.codec.proofs.InVersion.{right_version, within_version}
 use Rattle.cells.specs.Station.{Station, right_shape}
 
 -- a record of shape f, and g that shape in a version that is read

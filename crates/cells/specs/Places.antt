@@ -9,8 +9,10 @@ use Rattle.matrix.specs.Shape.{most_subjects, most_plain, bits_of, columns, cell
 use Rattle.matrix.specs.Reading.{cell_at, set_cell}
 use Rattle.codec.specs.Numbers.{four_read, four_stored}
 use Rattle.codec.specs.Bits.{with_bit, bit_low}
-use Rattle.codec.specs.BitBytes.{byte_of, byte_bit, byte_stored}
-use Rattle.codec.specs.ShapeRight.{ShapeRight, most_width, most_bytes, two_or_four, width_some, size_most}
+use Rattle.codec.specs.BitBytes.{byte_of}
+use Rattle.codec.proofs.BitBytes.{byte_bit, byte_stored}
+use Rattle.codec.specs.ShapeRight.{ShapeRight, most_width, most_bytes}
+use Rattle.codec.proofs.ShapeRight.{two_or_four, width_some, size_most}
 use Rattle.codec.specs.Cells.{place_inside}
 use Rattle.cells.specs.Station.{Station, right_shape}
 

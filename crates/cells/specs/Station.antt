@@ -5,7 +5,7 @@ use Rattle.matrix.specs.declared.Shape.{Shape}
 use Rattle.matrix.specs.Shape.{shape_of, columns}
 use Rattle.matrix.specs.Shaped.{Shaped, Octets}
 use Rattle.codec.specs.ShapeRight.{ShapeRight}
-use Rattle.codec.specs.RoundTrip.{shape_right}
+use Rattle.codec.proofs.RoundTrip.{shape_right}
 
 -- bytes of the right form, with f the shape that they say
 pub record Station (b : List ℕ) (f : Shape) : Type 0 where

@@ -1,32 +1,26 @@
 -- The trusted subjects on the way destroyed in turn, the highest first: v, which owned the highest of them, owns o then.
-use Rattle.std.specs.Prelude.{ℕ, suc, ◌<◌, ◌≡◌, refl, ◌≢◌, ◌⊎◌, Bool, true, false, cond, not, ◌&&◌, ◌||◌, List, [], ◌∷◌, eqb, length}
-use Rattle.std.proofs.Common.{sym, ◌∙◌, ap, subst, inl, inr, ⊎_elim, eqb-true, ltb-true}
+use Rattle.std.specs.Prelude.{ℕ, suc, ◌≡◌, refl, ◌≢◌, ◌⊎◌, Bool, true, false, cond, not, ◌&&◌, ◌||◌, List, [], ◌∷◌, eqb, length}
+use Rattle.std.proofs.Common.{ap, subst, inl, inr, ⊎_elim, eqb-true}
 use Rattle.matrix.specs.declared.Name.{Name}
 use Rattle.matrix.specs.declared.Name.TheVariants.{Subject}
 use Rattle.matrix.specs.declared.Right.TheVariants.{Own}
 use Rattle.matrix.specs.declared.Shape.{Shape}
 use Rattle.matrix.specs.Names.{same_name, column_of}
 use Rattle.matrix.specs.State.{State, exists, exists_name, clear}
-use Rattle.matrix.specs.Owners.{Above, owner, higher, walk, meets}
+use Rattle.matrix.specs.Owners.{Above, owner, higher}
 use Rattle.matrix.specs.Valid.{Valid}
 use Rattle.matrix.specs.Changes.{inherit, in_cross}
-use Rattle.matrix.specs.Tests.{other_controller}
 use Rattle.matrix.specs.Shaped.{Within}
-use Rattle.laws.specs.Tests.{clash, fails, and_left, and_both, or_cases, or_left, or_right}
+use Rattle.laws.specs.Tests.{fails, and_both, or_cases, or_left, or_right}
 use Rattle.laws.specs.Same.{eqb_same, same_name_eq}
 use Rattle.laws.specs.Changed.{inherit_bit}
-use Rattle.owners.specs.Walk.{walk_self, walk_found, walk_finds}
 use Rattle.kept.specs.Cells.{clear_found, clear_other}
 use Rattle.kept.specs.Parts.{Up, up_link, above_heir}
-use Rattle.kept.specs.Subjects.{destroyed_keeps}
-use Rattle.frame.specs.Stays.{within_clear, within_inherit}
-use Rattle.frame.specs.Top.{controller_found}
 use Rattle.question.specs.Leaks.{Untrusted}
 use Rattle.route.specs.Parts.{destroys_all, among}
-use Rattle.route.specs.RunsTo.{RunsTo, done, step}
-use Rattle.steps.specs.Accepted.{destroy_accepted}
-use Rattle.chain.specs.Distinct.{among_here, among_later, among_not_here, among_not_later}
-use Rattle.chain.specs.Chain.{Chain, last, link, chain_distinct, chain_apart}
+use Rattle.route.specs.RunsTo.{RunsTo}
+use Rattle.chain.specs.Distinct.{among_not_here, among_not_later}
+use Rattle.chain.specs.Chain.{Chain, last, link}
 
 -- v destroyed w
 abbrev pub destroyed : ℕ → ℕ → State → State
@@ -39,12 +33,12 @@ left_one true false = refl
 left_one false true = refl
 left_one false false = refl
 
-left_later : (e t m : Bool) → (e && not t && not m) ≡ (e && not (t || m))
+pub left_later : (e t m : Bool) → (e && not t && not m) ≡ (e && not (t || m))
 left_later true true m = refl
 left_later true false m = refl
 left_later false t m = refl
 
-left_none : (e : Bool) → e ≡ (e && true)
+pub left_none : (e : Bool) → e ≡ (e && true)
 left_none true = refl
 left_none false = refl
 
@@ -68,7 +62,7 @@ module _ (S : State) (v w : ℕ) where
       let m = among_not_later w u (x ∷ us) n in
       link (own_stays u (Subject x) (among_not_here w u (x ∷ us) n) (λ e. among_not_here w x us m (ap column_of e)) h) (chain_stays c m rest)
 
-  chain_gained : {o : Name} {us : List ℕ} → v ≢ w → o ≢ Subject w → among w us ≡ false → Chain S.owns o w us
+  pub chain_gained : {o : Name} {us : List ℕ} → v ≢ w → o ≢ Subject w → among w us ≡ false → Chain S.owns o w us
       → Chain (destroyed v w S).owns o v us
   chain_gained {o} r c n (last h) = last (own_gained o r c h)
   chain_gained r c n (link {w = x} {ws = us} h rest) =
@@ -85,13 +79,13 @@ module _ (S : State) (v w : ℕ) where
       ⊎_elim (λ old. ⊎_elim (λ e. owner (subst (λ (n : ℕ). S.owns n x ≡ true) e old)) (λ more. higher old more) up)
       (λ p. higher p.1 (up_link S.owns w v u own (subst (λ (n : ℕ). Up S.owns n u) p.0 up))) (old_link b x h)
 
-  old_above : S.owns v (Subject w) ≡ true → (x : Name) (u : ℕ) → Above (destroyed v w S).owns x u → Above S.owns x u
+  pub old_above : S.owns v (Subject w) ≡ true → (x : Name) (u : ℕ) → Above (destroyed v w S).owns x u → Above S.owns x u
   old_above own x u (owner h) = old_from own x u u h (inl refl)
   old_above own x u (higher {w = b} h up) =
       old_from own x b u h (inr (above_heir S.owns (destroyed v w S).owns v w own (λ c d e. old_link c (Subject d) e) b u up))
 
   -- all that existed but w are left
-  exists_left : (u : ℕ) → exists (destroyed v w S) u ≡ (exists S u && not (eqb u w))
+  pub exists_left : (u : ℕ) → exists (destroyed v w S) u ≡ (exists S u && not (eqb u w))
   exists_left u = left_one (eqb u w) (exists S u)
 
 -- What holds after v destroyed each of ws in turn, from the state S to the state T: v owns o, the subjects ws are gone and no others, and
@@ -107,71 +101,6 @@ pub record Cleared (f : Shape) (S : State) (v : ℕ) (ws : List ℕ) (o : Name) 
   pub existing : (u : ℕ) → exists T u ≡ (exists S u && not (among u ws))
   pub controls : (u : ℕ) (x : Name) → T.controls u x ≡ true → S.controls u x ≡ true
   pub above : (x : Name) (u : ℕ) → Above T.owns x u → Above S.owns x u
-
--- Where v heads a chain of owners ws down to o, it may destroy them all.
-pub clears : (f : Shape) (S : State) (v : ℕ) (ws : List ℕ) (o : Name) → Valid S → Within f S → Chain S.owns o v ws
-    → (T : State) × Cleared f S v ws o T
-unfolding destroys_all among
-clears f S v [] o V₁ k (last h) = (
-  S,
-  record {
-    runs = done;
-    valid = V₁;
-    within = k;
-    top = refl;
-    there = V₁.row Own v o h;
-    owning = h;
-    name = V₁.column Own v o h;
-    existing = λ u. left_none (exists S u);
-    controls = λ u x e. e;
-    above = λ x u a. a;
-  },
-)
-clears f S v (w ∷ ws) o V₁ k (link h c) =
-    let d = chain_distinct V₁ (link h c) in
-    let differs : v ≢ w = λ e. among_not_here v w ws d.0 (sym e) in
-    let apart : o ≢ Subject w = chain_apart V₁ w (link h c) (among_later w v (w ∷ ws) (among_here w ws)) in
-    let row : v < f.n = k.row Own v (Subject w) h in
-    let column : w < f.n = ltb-true w f.n (k.column Own v (Subject w) h) in
-    let S' = destroyed v w S in
-    let r = clears f S' v ws o (destroyed_keeps S v w V₁ (V₁.row Own v (Subject w) h) h)
-    (within_clear f (in_cross w) (inherit v w S) (within_inherit f v w S k row)) (chain_gained S v w differs apart d.1.0 c) in
-    let T = r.0 in
-    let p = r.1 in (
-      T,
-      record {
-        runs = step (destroy_accepted f v w V₁ row column h) p.runs;
-        valid = p.valid;
-        within = p.within;
-        top = p.top;
-        there = p.there;
-        owning = p.owning;
-        name = p.name;
-        existing = λ u. p.existing u ∙ ap (λ (e : Bool). e && not (among u ws)) (exists_left S v w u) ∙ left_later (exists S u) (eqb u w) (among u ws);
-        controls = λ u x e. (clear_found (in_cross w) S.controls u x (p.controls u x e)).1;
-        above = λ x u a. old_above S v w h x u (p.above x u a);
-      },
-    )
-
-module _ {f : Shape} {S T : State} {v : ℕ} {ws : List ℕ} {o : Name} (V₁ : Valid S) (p : Cleared f S v ws o T) where
-  -- who exists then existed
-  pub cleared_before : (u : ℕ) → exists T u ≡ true → exists S u ≡ true
-  cleared_before u e = and_left (exists S u) (not (among u ws)) (sym (p.existing u) ∙ e)
-
-  -- a name that no other controlled is controlled by no other
-  pub cleared_alone : (x : Name) → other_controller S x ≡ false → other_controller T x ≡ false
-  cleared_alone x h =
-      fails (other_controller T x) (λ e. let c = (controller_found p.valid x).0 e in
-      clash ((controller_found V₁ x).1 (c.0, p.controls c.0 x c.1, c.2)) h)
-
-  -- and a walk that did not meet a name does not meet it, where it starts at a subject that is left
-  pub cleared_apart : (s : ℕ) (x : Name) → exists T s ≡ true → meets (walk S s x) ≡ false → meets (walk T s x) ≡ false
-  cleared_apart s x e h =
-      fails (meets (walk T s x))
-      (λ m. ⊎_elim (λ q. clash (subst (λ (y : Name). meets (walk S s y) ≡ true) (sym q) (ap meets (walk_self S V₁ s))) h)
-      (λ u. clash (subst (λ (y : Name). meets (walk S s y) ≡ true) (sym u.1)
-      (walk_finds S V₁ s u.0 (cleared_before s e) (p.above (Subject s) u.0 u.2))) h)
-      (walk_found T s x m))
 
 -- v begins every command, and there are as many as subjects to destroy
 pub destroys_begun : (trusted : ℕ → Bool) (v : ℕ) (ws : List ℕ) → trusted v ≡ false → Untrusted trusted (destroys_all v ws)

@@ -2,27 +2,26 @@
 -- meets one, a chain of trusted owners leads from it down to the name.
 use Prim.Native.Nat.{ℕ, zero, suc, ◌+◌, ◌≤◌, ◌<◌}
 use Rattle.std.proofs.Common.{not-suc-le-zero, arith, sym, ◌∙◌, ap, inl, inr}
-use Rattle.std.specs.Prelude.{◌≡◌, ◌≢◌, Bool, true, false, List, [], ◌∷◌, eqb, ltb, length}
+use Rattle.std.specs.Prelude.{◌≡◌, ◌≢◌, Bool, true, false, List, ◌∷◌, eqb, ltb, length}
 use Rattle.std.proofs.Math.Path.{refl, subst}
 use Rattle.std.proofs.Math.Logic.{⊎_elim}
 use borrow.Author.Tests.{eqb-true, eqb-false, lt-ltb, ltb-true}
 use Rattle.matrix.specs.declared.Name.{Name}
 use Rattle.matrix.specs.declared.Name.TheVariants.{Subject}
-use Rattle.matrix.specs.declared.Right.TheVariants.{Own}
 use Rattle.matrix.specs.Names.{U, is_subject}
 use Rattle.matrix.specs.State.{State, exists}
 use Rattle.matrix.specs.Owners.{Above, owner, higher, owner_of}
-use Rattle.matrix.specs.Valid.{Valid}
 use Rattle.matrix.specs.Record.{climb}
 use Rattle.laws.specs.Tests.{way, clash, holds}
-use Rattle.owners.specs.Framed.{Framed, owner_in, found_owns, valid_framed, owner_same}
-use Rattle.owners.specs.Climb.{climb_in, climb_up, climb_ends, owner_of_below, owner_of_exists}
-use Rattle.owners.specs.Walk.{root_top}
+use Rattle.owners.specs.Framed.{Framed, owner_in, found_owns, owner_same}
+use Rattle.owners.specs.Climb.{climb_in}
+use Rattle.owners.proofs.Climb.{climb_up, owner_of_below, owner_of_exists}
+use Rattle.owners.proofs.Walk.{root_top}
 use Rattle.kept.specs.Parts.{Up}
-use Rattle.route.specs.Parts.{until_owner, among}
+use Rattle.route.specs.Parts.{among}
 use Rattle.route.specs.Rise.{Risen, meets_at, none, rise, rises}
-use Rattle.chain.specs.Distinct.{among_cases, among_none, among_here}
-use Rattle.chain.specs.Chain.{Chain, last, link, above_there, chain_apart, chain_bound, chain_few, chain_fewer, member_above, until_chain, among_until}
+use Rattle.chain.specs.Distinct.{among_cases}
+use Rattle.chain.specs.Chain.{Chain, link}
 
 -- One subject on the way: it is untrusted, or it is U, or the way goes on to its owner, or it has none.
 module _ (top : ℕ) (owns : ℕ → Name → Bool) (trusted : ℕ → Bool) (left w : ℕ) (passed : List ℕ) where
@@ -60,7 +59,7 @@ module _ {S : State} (F : Framed S) (trusted : ℕ → Bool) where
       holds (trusted w) (λ f. clash refl (ap rises (sym (rise_here S.top S.owns trusted left w passed f) ∙ h)))
 
   -- and where the way may visit more subjects than there are links up to U, so is each one above
-  none_from : (left k w v : ℕ) (passed : List ℕ) → exists S w ≡ true → climb_in S k w ≡ U → k < left → rise_in S trusted left w passed ≡ none
+  pub none_from : (left k w v : ℕ) (passed : List ℕ) → exists S w ≡ true → climb_in S k w ≡ U → k < left → rise_in S trusted left w passed ≡ none
       → Up S.owns w v → trusted v ≡ true
   unfolding climb
   none_from zero k w v passed e c l h a = absurd (not-suc-le-zero l)
@@ -73,35 +72,18 @@ module _ {S : State} (F : Framed S) (trusted : ℕ → Bool) where
       none_from left k (owner_in S w) v (w ∷ passed) (owner_of_exists F w n e) (sym (climb_up F k w n e) ∙ c) (omega arith) (sym up ∙ h) (up_owner w v a))
       (way (eqb w U))
 
-module _ (S : State) (V₁ : Valid S) (trusted : ℕ → Bool) where
-  -- The way up from a subject meets no untrusted one: the subject and all above it are trusted.
-  pub rise_none : (w : ℕ) → exists S w ≡ true → rise_in S trusted S.top w [] ≡ none
-      → (trusted w ≡ true) × ((v : ℕ) → Above S.owns (Subject w) v → trusted v ≡ true)
-  rise_none w e h = (each w (inl refl), λ v a. each v (inr a))
-    where
-      each : (v : ℕ) → Up S.owns w v → trusted v ≡ true
-      each v a =
-          let c = climb_ends (valid_framed V₁) V₁.no_cycle w e in
-          none_from (valid_framed V₁) trusted S.top c.0 w v [] e c.2 c.1 h a
-
-  -- The way up from each owner of a name meets no untrusted subject: all above the name are trusted.
-  pub none_above : (o : Name) → ((w : ℕ) → S.owns w o ≡ true → rise_in S trusted S.top w [] ≡ none)
-      → (v : ℕ) → Above S.owns o v → trusted v ≡ true
-  none_above o h v (owner e) = (rise_none v (V₁.row Own v o e) (h v e)).0
-  none_above o h v (higher {w = w} e a) = (rise_none w (V₁.row Own w o e) (h w e)).1 v a
-
 -- an untrusted subject with a chain of trusted owners down to a name
-record Reached (owns : ℕ → Name → Bool) (trusted : ℕ → Bool) (o : Name) (v : ℕ) (ws : List ℕ) : Type 0 where
-  untrusted : trusted v ≡ false
-  chain : Chain owns o v ws
-  trusting : (u : ℕ) → among u ws ≡ true → trusted u ≡ true
+pub record Reached (owns : ℕ → Name → Bool) (trusted : ℕ → Bool) (o : Name) (v : ℕ) (ws : List ℕ) : Type 0 where
+  pub untrusted : trusted v ≡ false
+  pub chain : Chain owns o v ws
+  pub trusting : (u : ℕ) → among u ws ≡ true → trusted u ≡ true
 
-abbrev Reaches : (ℕ → Name → Bool) → (ℕ → Bool) → Name → Risen → Type 0
+abbrev pub Reaches : (ℕ → Name → Bool) → (ℕ → Bool) → Name → Risen → Type 0
 Reaches owns trusted o (meets_at v ws) = Reached owns trusted o v ws
 Reaches owns trusted o none = Unit
 
 -- What is met has such a chain, where the start with what was passed is one. This holds of every state.
-reaches : (S : State) (trusted : ℕ → Bool) (o : Name) (left w : ℕ) (passed : List ℕ) → Chain S.owns o w passed
+pub reaches : (S : State) (trusted : ℕ → Bool) (o : Name) (left w : ℕ) (passed : List ℕ) → Chain S.owns o w passed
     → ((u : ℕ) → among u passed ≡ true → trusted u ≡ true) → Reaches S.owns trusted o (rise_in S trusted left w passed)
 unfolding rise
 reaches S trusted o zero w passed c each = tt
@@ -132,33 +114,3 @@ pub record Met (S : State) (trusted : ℕ → Bool) (o : Name) (v : ℕ) (ws : L
   -- so they are at most as many as subjects may exist
   pub few : length ws + 1 ≤ S.top
   pub fewer : is_subject o ≡ true → length ws + 2 ≤ S.top
-
--- all of it follows from the chain
-met_by : {S : State} → Valid S → {trusted : ℕ → Bool} {o : Name} {v : ℕ} {ws : List ℕ} → trusted v ≡ false → Chain S.owns o v ws
-    → ((u : ℕ) → among u ws ≡ true → trusted u ≡ true) → Met S trusted o v ws
-met_by V₁ {o = o} {v = v} {ws = ws} untrusted chain trusting =
-    record {
-      untrusted = untrusted;
-      there = above_there V₁ v (member_above v chain (among_here v ws));
-      chain = chain;
-      trusting = trusting;
-      above = λ u m. member_above u chain m;
-      existing = λ u m. above_there V₁ u (member_above u chain m);
-      apart = λ u m. chain_apart V₁ u chain m;
-      below = λ u m. chain_bound V₁ u chain m;
-      few = chain_few V₁ chain;
-      fewer = λ k. chain_fewer V₁ o k chain;
-    }
-
-pub rise_meets : (S : State) → Valid S → (trusted : ℕ → Bool) (o : Name) (w v : ℕ) (ws : List ℕ) → S.owns w o ≡ true
-    → rise_in S trusted S.top w [] ≡ meets_at v ws → Met S trusted o v ws
-rise_meets S V₁ trusted o w v ws own h =
-    let r : Reached S.owns trusted o v ws =
-    subst (Reaches S.owns trusted o) h (reaches S trusted o S.top w [] (last own) (λ u m. absurd (among_none u m))) in
-    met_by V₁ r.untrusted r.chain r.trusting
-
--- The same holds of those between v and the first that owns o.
-pub met_until : {S : State} → Valid S → {trusted : ℕ → Bool} {o : Name} {v : ℕ} {ws : List ℕ} → Met S trusted o v ws
-    → Met S trusted o v (until_owner S.owns o ws)
-met_until {S} V₁ {o = o} {ws = ws} m =
-    met_by V₁ m.untrusted (until_chain m.chain) (λ u a. m.trusting u (among_until S.owns o u ws a))

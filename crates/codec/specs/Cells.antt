@@ -9,10 +9,9 @@ use Rattle.matrix.specs.Bytes.{number_at}
 use Rattle.matrix.specs.Shape.{shape_of, header_bytes, bits_of, columns, cell_place, size_of}
 use Rattle.matrix.specs.Reading.{cell_at, set_cell}
 use Rattle.matrix.specs.Shaped.{Shaped, Octets}
-use Rattle.codec.specs.Numbers.{length_set_number, get_or_set_number_other, number_at_set_other, number_at_set_same, octets_set_number, number_at_below, pow_bytes}
+use Rattle.codec.specs.Numbers.{length_set_number, get_or_set_number_other, number_at_set_other, octets_set_number, number_at_below, pow_bytes}
 
 -- ---- the places of the cells of a shape
-
 -- a cell ends within the record
 pub place_inside : (f : Shape) (r c : ℕ) → r < f.n → c < columns f → cell_place f r c + f.width ≤ size_of f
 place_inside f r c h l =
@@ -56,7 +55,6 @@ unfolding shape_of
 cell_after b r c = omega arith
 
 -- ---- storing a cell
-
 module _ (b : List ℕ) (r c v : ℕ) where
   pub length_set_cell : length (set_cell b r c v) ≡ length b
   unfolding set_cell
@@ -91,7 +89,6 @@ module _ (b : List ℕ) (r c v : ℕ) where
   octets_set o = octets_set_number b (cell_place (shape_of b) r c) (shape_of b).width v o
 
 -- ---- the cells of a record
-
 -- a cell is within the bytes
 pub cell_inside : (b : List ℕ) (r c : ℕ) → Shaped b → r < (shape_of b).n → c < columns (shape_of b)
     → cell_place (shape_of b) r c + (shape_of b).width ≤ length b
@@ -100,14 +97,6 @@ cell_inside b r c s h l = rw s.size (place_inside (shape_of b) r c h l)
 pub cell_below : (b : List ℕ) (r c : ℕ) → Octets b → cell_at b r c < 2 ^ bits_of (shape_of b)
 unfolding cell_at
 cell_below b r c o = rw (← pow_bytes (shape_of b).width) (number_at_below b (cell_place (shape_of b) r c) (shape_of b).width o)
-
-pub cell_set_same : (b : List ℕ) (r c v : ℕ) → Shaped b → r < (shape_of b).n → c < columns (shape_of b) → v < 2 ^ bits_of (shape_of b)
-    → cell_at (set_cell b r c v) r c ≡ v
-unfolding cell_at
-cell_set_same b r c v s h l k = rw (shape_set b r c v) (stored (rw (← pow_bytes (shape_of b).width) at k))
-  where
-    stored : v < 256 ^ (shape_of b).width → number_at (set_cell b r c v) (cell_place (shape_of b) r c) (shape_of b).width ≡ v
-    stored z = unfold set_cell in number_at_set_same b (cell_place (shape_of b) r c) (shape_of b).width v (cell_inside b r c s h l) z
 
 pub cell_set_other : (b : List ℕ) (r c v w d : ℕ) → c < columns (shape_of b) → d < columns (shape_of b) → (r ≡ w → c ≡ d → ⊥)
     → cell_at (set_cell b r c v) w d ≡ cell_at b w d

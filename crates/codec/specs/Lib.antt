@@ -7,7 +7,6 @@ pub mod Columns
 pub mod Update
 pub mod Blocks
 pub mod ShapeRight
-pub mod Written
 pub mod RoundTrip
 pub mod InVersion
 pub mod OtherShape

@@ -19,7 +19,8 @@ use Rattle.laws.specs.Tests.{way, same_test, and_left, and_right, and_both}
 use Rattle.laws.specs.Bounded.{all_same, all_each, each_all}
 use Rattle.codec.specs.Bits.{bit_low}
 use Rattle.codec.specs.Numbers.{two_read, four_read}
-use Rattle.codec.specs.ShapeRight.{TwoOrFour, widths}
+use Rattle.codec.specs.ShapeRight.{TwoOrFour}
+use Rattle.codec.proofs.ShapeRight.{widths}
 use Rattle.lanes.specs.declared.Matrix.{Matrix}
 use Rattle.lanes.specs.Lanes.{merged, row_place, lane_in, lane_at, bit_in}
 use Rattle.lanes.specs.Zeros.{or_zero, merged_zero}

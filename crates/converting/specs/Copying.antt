@@ -10,7 +10,8 @@ use Rattle.matrix.specs.Shaped.{Within}
 use Rattle.matrix.specs.Converting.{in_version}
 use Rattle.laws.specs.Bounded.{below_suc}
 use Rattle.codec.specs.ShapeRight.{ShapeRight}
-use Rattle.codec.specs.Cells.{shape_set, shaped_set, octets_set, cell_set_same, cell_set_other}
+use Rattle.codec.specs.Cells.{shape_set, shaped_set, octets_set, cell_set_other}
+use Rattle.codec.proofs.Cells.{cell_set_same}
 use Rattle.codec.specs.RoundTrip.{read_write}
 use Rattle.codec.specs.InVersion.{own_version}
 use Rattle.codec.specs.OtherShape.{cell_fits, cells_write}

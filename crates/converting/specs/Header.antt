@@ -10,7 +10,8 @@ use Rattle.matrix.specs.declared.Shape.{Shape}
 use Rattle.matrix.specs.Bytes.{number_at, set_number}
 use Rattle.matrix.specs.Shape.{header_bytes, shape_of, columns, count_of, size_of}
 use Rattle.matrix.specs.Shaped.{Shaped, Octets}
-use Rattle.codec.specs.ShapeRight.{ShapeRight, most_bytes, versions, size_most}
+use Rattle.codec.specs.ShapeRight.{ShapeRight, most_bytes, versions}
+use Rattle.codec.proofs.ShapeRight.{size_most}
 use Rattle.codec.specs.Numbers.{length_set_number, get_or_set_number_other, number_at_agree, number_at_set_same, octets_set_number}
 use Rattle.cells.specs.Station.{Station}
 

@@ -1,4 +1,3 @@
 -- What is asked of the window's calls (Sequence), its proof (SequenceHolds), and worked rows.
 pub mod Sequence
-pub mod SequenceHolds
 pub mod Rows

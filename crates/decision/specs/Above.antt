@@ -22,12 +22,14 @@ use Rattle.route.specs.Parts.{held_by_own, finish, destroys_all, among}
 use Rattle.steps.specs.Runs.{untrusted_append}
 use Rattle.finish.specs.Reaches.{reaches_none, reaches_append, reaches_leak}
 use Rattle.finish.specs.States.{own_held}
-use Rattle.finish.specs.Finish.{Gainable, Ready, again_needed, finish_runs}
+use Rattle.finish.specs.Finish.{Gainable, Ready, again_needed}
+use Rattle.finish.proofs.Finish.{finish_runs}
 use Rattle.finish.specs.Lists.{finish_untrusted, finish_length}
 use Rattle.chain.specs.Distinct.{among_here}
 use Rattle.chain.specs.Chain.{chain_name}
 use Rattle.chain.specs.Rising.{Met}
-use Rattle.chain.specs.Destroyed.{Cleared, clears, cleared_alone, cleared_apart, destroys_begun, destroys_length}
+use Rattle.chain.specs.Destroyed.{Cleared, destroys_begun, destroys_length}
+use Rattle.chain.proofs.Destroyed.{clears, cleared_alone, cleared_apart}
 use Rattle.decision.specs.Sought.{Sought, gainable, absent_walk, not_both, subject_same}
 
 module _ (f : Shape) (S : State) (trusted : ℕ → Bool) (s : ℕ) (o : Name) where

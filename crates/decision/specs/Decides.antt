@@ -29,10 +29,11 @@ use Rattle.route.specs.Rise.{Risen, meets_at, none, rises}
 use Rattle.safe.specs.Possible.{possible}
 use Rattle.safe.specs.Conditions.{has_star, Starless, TrustedAbove}
 use Rattle.safe.specs.Nobody.{nobody_safe}
-use Rattle.safe.specs.Impossible.{impossible_safe}
-use Rattle.safe.specs.Trusted.{guarded_safe}
+use Rattle.safe.proofs.Impossible.{impossible_safe}
+use Rattle.safe.proofs.Trusted.{guarded_safe}
 use Rattle.finish.specs.Reaches.{reaches_none, reaches_leak}
-use Rattle.chain.specs.Rising.{Met, rise_in, none_above, rise_meets, met_until}
+use Rattle.chain.specs.Rising.{Met, rise_in}
+use Rattle.chain.proofs.Rising.{none_above, rise_meets, met_until}
 use Rattle.ways.specs.Ways.{Way, held_now, by_star, by_creation, from_above, no_way, star_holder, untrusted_in, riser, needed, way_up, risen_over, way_over, way_made, way_of, list_of}
 use Rattle.decision.specs.Sought.{Sought}
 use Rattle.decision.specs.Lists.{star_leaks, creation_leaks}

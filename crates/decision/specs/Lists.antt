@@ -16,7 +16,8 @@ use Rattle.route.specs.Parts.{creates, creates_name, held_by_own, finish}
 use Rattle.safe.specs.Conditions.{has_star}
 use Rattle.steps.specs.Runs.{untrusted_append}
 use Rattle.finish.specs.Reaches.{Reaches, reaches_leak}
-use Rattle.finish.specs.Finish.{absent_runs, absent_own_runs, absent_control_runs, pass_runs}
+use Rattle.finish.specs.Finish.{absent_control_runs, pass_runs}
+use Rattle.finish.proofs.Finish.{absent_runs, absent_own_runs}
 use Rattle.finish.specs.Lists.{create_untrusted, finish_untrusted, pass_untrusted, finish_length, pass_length}
 use Rattle.ways.specs.Ways.{is_control, passes_right, made_held}
 use Rattle.decision.specs.Sought.{Sought, gainable}

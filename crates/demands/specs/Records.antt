@@ -15,11 +15,13 @@ use Rattle.matrix.specs.Record.{record_refusal}
 use Rattle.matrix.specs.CommandList.{commands_of}
 use Rattle.matrix.specs.Calls.{valid_answer, refusal_on, links_on, next_on, command_answer, command_bytes, ran_on}
 use Rattle.codec.specs.ShapeRight.{ShapeRight}
-use Rattle.codec.specs.Written.{shape_write, shaped_write, octets_write}
-use Rattle.codec.specs.RoundTrip.{shape_right, within_read, write_read}
-use Rattle.owners.specs.Read.{record_shaped, valid_record, record_valid}
-use Rattle.kept.specs.Keeps.{on_keeps, run_keeps}
-use Rattle.frame.specs.Stays.{within_next, within_run}
+use Rattle.codec.proofs.Written.{shape_write, shaped_write, octets_write}
+use Rattle.codec.specs.RoundTrip.{within_read}
+use Rattle.codec.proofs.RoundTrip.{shape_right, write_read}
+use Rattle.owners.specs.Read.{record_shaped}
+use Rattle.owners.proofs.Read.{valid_record, record_valid}
+use Rattle.kept.proofs.Keeps.{on_keeps, run_keeps}
+use Rattle.frame.proofs.Stays.{within_next, within_run}
 
 -- a record that is not turned down, by the answer of the validity call
 pub passes : (b : List ℕ) → valid_answer limits b ≡ true → record_refusal limits b ≡ 0

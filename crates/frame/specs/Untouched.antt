@@ -1,6 +1,6 @@
 -- A bit that a command doesn't name is after it as it was before (Manual 5.5).
 use Rattle.std.specs.Prelude.{ℕ, ◌≡◌, refl, ◌≢◌, Bool, true, false, ◌&&◌, eqb}
-use Rattle.std.proofs.Common.{◌∙◌, ⊎_elim, ne_eqb}
+use Rattle.std.proofs.Common.{◌∙◌, ne_eqb}
 use Rattle.std.proofs.Math.Bool.{or-false}
 use Rattle.matrix.specs.declared.Name.{Name}
 use Rattle.matrix.specs.declared.Name.TheVariants.{Subject}
@@ -10,11 +10,11 @@ use Rattle.matrix.specs.declared.Act.{Act}
 use Rattle.matrix.specs.declared.Act.TheVariants.{Transfer, Grant, Delete, CreateObject, DestroyObject, CreateSubject, DestroySubject}
 use Rattle.matrix.specs.declared.Command.{Command}
 use Rattle.matrix.specs.State.{State, has, put}
-use Rattle.matrix.specs.Commands.{Raw, decode}
+use Rattle.matrix.specs.Commands.{Raw}
 use Rattle.matrix.specs.Changes.{change, admit, inherit, in_column, in_cross}
 use Rattle.matrix.specs.Touched.{touched, same_right, is_bit}
 use Rattle.matrix.specs.Step.{refusal, next}
-use Rattle.laws.specs.Tests.{way, or_none_left, or_none_right}
+use Rattle.laws.specs.Tests.{or_none_left, or_none_right}
 use Rattle.laws.specs.Changed.{has_put_other, has_clear, has_inherit, has_admit}
 
 -- a bit that is neither of two in a column is as it was after both were set or cleared
@@ -45,16 +45,6 @@ untouched_by S c DestroySubject z w x h =
     let stays : gone ≡ false = or_none_left gone gained h in
     let nothing : gained ≡ false = or_none_right gone gained h in
     rw (has_clear (in_cross c.s) (inherit c.i c.s S) z w x, stays, has_inherit c.i c.s S z w x, nothing) (or-false (has S z w x))
-
--- for a decoded command
-pub untouched : (S : State) (c : Command) (z : Right) (w : ℕ) (x : Name) → touched S c c.act z w x ≡ false → has (change S c c.act) z w x ≡ has S z w x
-untouched S c z w x h = untouched_by S c c.act z w x h
-
--- for a command as given, accepted or refused
-pub untouched_next : (basics : ℕ) (names : Bool) (S : State) (c : Raw) (z : Right) (w : ℕ) (x : Name) → touched S (decode c) (decode c).act z w x ≡ false → has (next basics names S c) z w x ≡ has S z w x
-unfolding next
-untouched_next basics names S c z w x h =
-    ⊎_elim (λ e. rw e (untouched S (decode c) z w x h)) (λ e. rw e refl) (way (eqb (refusal basics names S c) 0))
 
 -- a refused command changes nothing
 pub refused_same : (basics : ℕ) (names : Bool) (S : State) (c : Raw) → refusal basics names S c ≢ 0 → next basics names S c ≡ S

@@ -1,42 +1,30 @@
 -- What is claimed of the mask of a right, proved: which bits it has, and what a bit says that a cell shares with it.
 use Rattle.std.specs.Prelude.{ℕ, zero, suc, ◌+◌, ◌*◌, ◌/◌, ◌%◌, ◌^◌, ◌<◌, max, ◌≡◌, refl, Bool, true, false, not, ◌||◌, List, [], ◌∷◌, ◌++◌, eqb, ltb}
-use Rattle.std.proofs.Common.{lt_of_le_of_lt, arith, sym, ◌∙◌, ap, ap₂, subst, ⊎_elim, pow_pos, lt-ltb, eqb-true, ne_eqb, ltb-true, ltb-false}
+use Rattle.std.proofs.Common.{lt_of_le_of_lt, arith, sym, ◌∙◌, ap, ⊎_elim, lt-ltb, eqb-true, ne_eqb, ltb-true, ltb-false}
 use Rattle.std.proofs.Math.Bool.{or-false}
 use Rattle.std.specs.Int.Bits.{bit_and, bit_or, or_step, or_zero_r}
-use Rattle.std.proofs.lemmas.Nat.{or_lt, and_le_l}
-use Rattle.std.proofs.Math.Pow.{pow-lt}
-use Rattle.std.proofs.lemmas.Bool.{eqb-false}
+use Rattle.std.proofs.lemmas.Nat.{and_le_l}
 use Rattle.matrix.specs.declared.Name.{Name}
-use Rattle.matrix.specs.declared.Form.TheVariants.{Plain, Starred}
 use Rattle.matrix.specs.declared.Right.{Right}
-use Rattle.matrix.specs.declared.Right.TheVariants.{Own, Control, Basic}
-use Rattle.matrix.specs.declared.Shape.{Shape}
-use Rattle.matrix.specs.Names.{name_of}
 use Rattle.matrix.specs.Numbers.{truth}
-use Rattle.matrix.specs.Rights.{code_of, right_of, held_by}
-use Rattle.matrix.specs.State.{State, has, has_one, held}
+use Rattle.matrix.specs.Rights.{code_of, right_of}
+use Rattle.matrix.specs.State.{State, has, has_one}
 use Rattle.matrix.specs.Bytes.{bit}
-use Rattle.matrix.specs.Shape.{shape_of, bits_of}
-use Rattle.matrix.specs.Reading.{cell_at, state_of, cell_of}
-use Rattle.matrix.specs.Calls.{holds_on}
-use Rattle.laws.specs.Tests.{way, clash, same_test, and_left, and_right, and_both, or_cases, or_left, or_right}
+use Rattle.laws.specs.Tests.{way, clash, and_left, and_right, and_both, or_cases, or_left, or_right}
 use Rattle.laws.specs.Bounded.{any_found}
 use Rattle.laws.specs.Same.{eqb_same}
-use Rattle.laws.specs.BitOps.{bit_and_lem, bit_or_lem}
-use Rattle.codec.specs.Bits.{bit_zero, bit_power, bit_beyond, any_bit, from_bits_bit, from_bits_same, from_bits_below, bit_from_bits}
+use Rattle.laws.specs.BitOps.{bit_and_lem}
+use Rattle.codec.specs.Bits.{bit_zero, bit_beyond, any_bit}
 use Rattle.codec.specs.Codes.{right_of_code_of}
-use Rattle.codec.specs.RoundTrip.{cell_read}
-use Rattle.cells.specs.Station.{Cell}
-use Rattle.holding.specs.Mask.{basic_digit, starred_code, mask_of, code_among, shares, MaskIs, HeldShares}
+use Rattle.holding.specs.Mask.{basic_digit, starred_code, code_among, shares}
 
 -- ---- which bits the mask has
-
 -- the digit of a basic right's code
-basic_digit_lem : (c : ℕ) → 1 < c → basic_digit c ≡ 1
+pub basic_digit_lem : (c : ℕ) → 1 < c → basic_digit c ≡ 1
 basic_digit_lem c l = ap truth (lt-ltb 1 c l)
 
 -- the starred form has the odd one of the two codes
-starred_odd : (c : ℕ) → 1 < c → starred_code c ≡ c / 2 * 2 + 1
+pub starred_odd : (c : ℕ) → 1 < c → starred_code c ≡ c / 2 * 2 + 1
 starred_odd c l =
     ap (bit_or c) (basic_digit_lem c l) ∙ or_step c 1 ∙ ap (λ (m : ℕ). m * 2 + max (c % 2) 1) (or_zero_r (c / 2)) ∙ odd (c % 2) (omega arith)
   where
@@ -45,25 +33,8 @@ starred_odd c l =
     odd (suc zero) h = refl
     odd (suc (suc d)) h = absurd (omega arith)
 
--- the bits are those of two codes and of the digit
-mask_parts : (c j : ℕ) → bit j (mask_of c) ≡ ((eqb j c || eqb j (starred_code c)) || bit j (basic_digit c))
-unfolding mask_of
-mask_parts c j =
-    bit_or_lem j (bit_or (2 ^ c) (2 ^ starred_code c)) (basic_digit c)
-    ∙ ap (λ (t : Bool). t || bit j (basic_digit c))
-    (bit_or_lem j (2 ^ c) (2 ^ starred_code c) ∙ ap₂ (λ (t u : Bool). t || u) (bit_power j c) (bit_power j (starred_code c)))
-
--- which for own and control has no bit, and for a basic right that of own
-two_bits : (c j : ℕ) → basic_digit c ≡ 0 → bit j (mask_of c) ≡ (eqb j c || eqb j (starred_code c))
-two_bits c j e =
-    mask_parts c j ∙ ap (λ (d : ℕ). (eqb j c || eqb j (starred_code c)) || bit j d) e
-    ∙ ap (λ (t : Bool). (eqb j c || eqb j (starred_code c)) || t) (bit_zero j) ∙ or-false (eqb j c || eqb j (starred_code c))
-
-own_bit : (c j : ℕ) → 1 < c → bit j (basic_digit c) ≡ code_among j (Own ∷ [])
-own_bit c j l = ap (bit j) (basic_digit_lem c l) ∙ bit_power j 0 ∙ sym (or-false (eqb j 0))
-
 -- a code among some rights or among others
-among_either : (j : ℕ) (ys zs : List Right) → (code_among j ys || code_among j zs) ≡ code_among j (ys ++ zs)
+pub among_either : (j : ℕ) (ys zs : List Right) → (code_among j ys || code_among j zs) ≡ code_among j (ys ++ zs)
 among_either j [] zs = refl
 among_either j (y ∷ ys) zs = first (eqb j (code_of y)) (among_either j ys zs)
   where
@@ -72,95 +43,35 @@ among_either j (y ∷ ys) zs = first (eqb j (code_of y)) (among_either j ys zs)
     first false e = e
 
 -- the two codes are one for a right that has no other form or is starred, and else those of both forms
-one_code : (j c d : ℕ) (y : Right) → code_of y ≡ c → d ≡ c → (eqb j c || eqb j d) ≡ code_among j (y ∷ [])
+pub one_code : (j c d : ℕ) (y : Right) → code_of y ≡ c → d ≡ c → (eqb j c || eqb j d) ≡ code_among j (y ∷ [])
 one_code j c d y e h = rw (e, h) (twice (eqb j c))
   where
     twice : (t : Bool) → (t || t) ≡ (t || false)
     twice true = refl
     twice false = refl
 
-both_codes : (j c d : ℕ) (y z : Right) → code_of y ≡ c → code_of z ≡ d → (eqb j c || eqb j d) ≡ code_among j (y ∷ z ∷ [])
+pub both_codes : (j c d : ℕ) (y z : Right) → code_of y ≡ c → code_of z ≡ d → (eqb j c || eqb j d) ≡ code_among j (y ∷ z ∷ [])
 both_codes j c d y z e h = rw (e, h) (ap (λ (t : Bool). eqb j c || t) (sym (or-false (eqb j d))))
 
--- so they are those of the rights that make the code's right held
-mask_bits : (c j : ℕ) → bit j (mask_of c) ≡ code_among j (held_by (right_of c))
-mask_bits zero j = two_bits 0 j refl ∙ one_code j 0 (starred_code 0) Own refl refl
-mask_bits (suc zero) j = two_bits 1 j refl ∙ one_code j 1 (starred_code 1) Control refl refl
-mask_bits (suc (suc i)) j =
-    mask_parts (suc (suc i)) j ∙ ap (λ (t : Bool). (eqb j c || eqb j (starred_code c)) || t) (own_bit c j (omega arith))
-    ∙ ⊎_elim plain starred (way (eqb (i % 2) 0))
-  where
-    c : ℕ
-    c = suc (suc i)
-
-    -- the forms of the right, and own beside them
-    with_own : (ys : List Right) → (eqb j c || eqb j (starred_code c)) ≡ code_among j ys
-        → ((eqb j c || eqb j (starred_code c)) || code_among j (Own ∷ [])) ≡ code_among j (ys ++ (Own ∷ []))
-    with_own ys e = ap (λ (t : Bool). t || code_among j (Own ∷ [])) e ∙ among_either j ys (Own ∷ [])
-
-    odd : starred_code c ≡ c / 2 * 2 + 1
-    odd = starred_odd c (omega arith)
-
-    plain : eqb (i % 2) 0 ≡ true → ((eqb j c || eqb j (starred_code c)) || code_among j (Own ∷ [])) ≡ code_among j (held_by (right_of c))
-    plain h =
-        rw h
-        (with_own (Basic (i / 2) Plain ∷ Basic (i / 2) Starred ∷ [])
-        (both_codes j c (starred_code c) (Basic (i / 2) Plain) (Basic (i / 2) Starred) (omega (arith, eqb-true (i % 2) 0 h))
-        (omega (arith, odd, eqb-true (i % 2) 0 h))))
-
-    starred : eqb (i % 2) 0 ≡ false → ((eqb j c || eqb j (starred_code c)) || code_among j (Own ∷ [])) ≡ code_among j (held_by (right_of c))
-    starred h =
-        rw h
-        (with_own (Basic (i / 2) Starred ∷ [])
-        (one_code j c (starred_code c) (Basic (i / 2) Starred) (omega (arith, eqb-false (i % 2) 0 h))
-        (omega (arith, odd, eqb-false (i % 2) 0 h))))
-
--- where the code is one of the bits of a cell of w bytes, so is that of the starred form
-pub starred_below : (w c : ℕ) → c < 8 * w → starred_code c < 8 * w
-starred_below w zero h = omega arith
-starred_below w (suc zero) h = omega arith
-starred_below w (suc (suc i)) h = omega (arith, starred_odd (suc (suc i)) (omega arith))
-
--- and so is bit 0
-digit_below : (w c : ℕ) → c < 8 * w → basic_digit c < 2 ^ (8 * w)
-digit_below w zero h = pow_pos (8 * w)
-digit_below w (suc zero) h = pow_pos (8 * w)
-digit_below w (suc (suc i)) h =
-    let first : 0 < 8 * w = omega arith in
-    let one : 2 ^ 0 < 2 ^ (8 * w) = pow-lt first in
-    subst (λ (d : ℕ). d < 2 ^ (8 * w)) (sym (basic_digit_lem (suc (suc i)) (omega arith))) one
-
-mask_below : (w c : ℕ) → c < 8 * w → mask_of c < 2 ^ (8 * w)
-unfolding mask_of
-mask_below w c h =
-    or_lt (8 * w) (bit_or (2 ^ c) (2 ^ starred_code c)) (basic_digit c)
-    (or_lt (8 * w) (2 ^ c) (2 ^ starred_code c) (pow-lt h) (pow-lt (starred_below w c h))) (digit_below w c h)
-
-pub mask_is : MaskIs
-mask_is w c h =
-    sym (from_bits_bit (8 * w) (mask_of c) (mask_below w c h))
-    ∙ from_bits_same (8 * w) (λ j. bit j (mask_of c)) (λ j. code_among j (held_by (right_of c))) (λ j l. mask_bits c j)
-
 -- ---- what a shared bit says
-
 -- a bit that both numbers have; and one that numbers which share a bit have, below the bits of the first
-shares_hit : (j u v : ℕ) → bit j u ≡ true → bit j v ≡ true → shares u v ≡ true
+pub shares_hit : (j u v : ℕ) → bit j u ≡ true → bit j v ≡ true → shares u v ≡ true
 shares_hit j u v h g =
     ap not (ne_eqb (bit_and u v) 0 (λ z. clash (bit_and_lem j u v ∙ and_both h g) (ap (bit j) z ∙ bit_zero j)))
 
-shares_found : (m u v : ℕ) → u < 2 ^ m → shares u v ≡ true → (j : ℕ) × (j < m) × (bit j u ≡ true) × (bit j v ≡ true)
+pub shares_found : (m u v : ℕ) → u < 2 ^ m → shares u v ≡ true → (j : ℕ) × (j < m) × (bit j u ≡ true) × (bit j v ≡ true)
 shares_found m u v below h =
     let found = any_found m (λ j. bit j (bit_and u v)) (any_bit m (bit_and u v) (lt_of_le_of_lt (and_le_l u v) below) ∙ h) in
     let both = sym (bit_and_lem found.0 u v) ∙ found.2 in
     (found.0, found.1, and_left (bit found.0 u) (bit found.0 v) both, and_right (bit found.0 u) (bit found.0 v) both)
 
 -- a bit that a number of m bits has is one of those
-bit_inside : (m j v : ℕ) → v < 2 ^ m → bit j v ≡ true → j < m
+pub bit_inside : (m j v : ℕ) → v < 2 ^ m → bit j v ≡ true → j < m
 bit_inside m j v below h = ⊎_elim (λ t. ltb-true j m t) (λ t. absurd (clash h (bit_beyond m j v below (ltb-false j m t)))) (way (ltb j m))
 
 -- one of the rights is set exactly where the right of one of their codes is
 module _ (S : State) (w : ℕ) (x : Name) where
-  code_set : (ys : List Right) (j : ℕ) → code_among j ys ≡ true → has S (right_of j) w x ≡ true → has_one S ys w x ≡ true
+  pub code_set : (ys : List Right) (j : ℕ) → code_among j ys ≡ true → has S (right_of j) w x ≡ true → has_one S ys w x ≡ true
   code_set [] j h g = absurd (clash h refl)
   code_set (y ∷ ys) j h g =
       ⊎_elim here (λ e. or_right (has S y w x) (code_set ys j e g)) (or_cases (eqb j (code_of y)) (code_among j ys) h)
@@ -173,7 +84,7 @@ module _ (S : State) (w : ℕ) (x : Name) where
   abbrev SetCode : List Right → Type 0
   SetCode ys = (j : ℕ) × (code_among j ys ≡ true) × (has S (right_of j) w x ≡ true)
 
-  set_code : (ys : List Right) → has_one S ys w x ≡ true → SetCode ys
+  pub set_code : (ys : List Right) → has_one S ys w x ≡ true → SetCode ys
   set_code [] h = absurd (clash h refl)
   set_code (y ∷ ys) h = ⊎_elim here (λ e. later (set_code ys e)) (or_cases (has S y w x) (has_one S ys w x) h)
     where
@@ -182,35 +93,3 @@ module _ (S : State) (w : ℕ) (x : Name) where
 
       later : SetCode ys → SetCode (y ∷ ys)
       later r = (r.0, or_right (eqb r.0 (code_of y)) r.1, r.2)
-
-pub held_shares : HeldShares
-held_shares f S w c right h = same_test (held S (right_of right) w x) (shares cell (mask_of right)) shared set
-  where
-    x : Name
-    x = name_of f.n c
-
-    cell : ℕ
-    cell = cell_of f S w c
-
-    -- a bit of the cell is that of the right of its number
-    bit_of : (j : ℕ) → j < bits_of f → bit j cell ≡ has S (right_of j) w x
-    bit_of j l = bit_from_bits (bits_of f) (λ j. has S (right_of j) w x) j l
-
-    shared : held S (right_of right) w x ≡ true → shares cell (mask_of right) ≡ true
-    shared g =
-        let r = set_code S w x (held_by (right_of right)) g in
-        let m : bit r.0 (mask_of right) ≡ true = mask_bits right r.0 ∙ r.1 in
-        let l : r.0 < bits_of f = bit_inside (bits_of f) r.0 (mask_of right) (mask_below f.width right h) m in
-        shares_hit r.0 cell (mask_of right) (bit_of r.0 l ∙ r.2) m
-
-    set : shares cell (mask_of right) ≡ true → held S (right_of right) w x ≡ true
-    set g =
-        let r = shares_found (bits_of f) cell (mask_of right) (from_bits_below (bits_of f) (λ j. has S (right_of j) w x)) g in
-        code_set S w x (held_by (right_of right)) r.0 (sym (mask_bits right r.0) ∙ r.3) (sym (bit_of r.0 r.1) ∙ r.2)
-
--- the same on a record, where v is the cell that is read and m the mask
-pub held_on_record : {b : List ℕ} {f : Shape} {s o right v m : ℕ} → Cell b f s o → right < bits_of f → v ≡ cell_at b s o → m ≡ mask_of right → shares v m ≡ holds_on b s o right
-held_on_record {b} {f} {s} {o} {right} h l e g =
-    let shape = h.station.shape in
-    ap₂ (λ (v m : ℕ). shares v m) (e ∙ sym (cell_read b h.station.shaped h.station.octets s o (rw (← shape) h.row) (rw (← shape) h.column))) g
-    ∙ sym (held_shares (shape_of b) (state_of b) s o right (rw (← shape) l))

@@ -4,4 +4,3 @@ pub mod Parts
 pub mod Bits
 pub mod Transferred
 pub mod Subjects
-pub mod Keeps

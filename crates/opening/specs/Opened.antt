@@ -4,7 +4,7 @@ use Rattle.matrix.specs.declared.Shape.{Shape}
 use Rattle.matrix.specs.Shape.{limits, header_bytes, width_of, shape_of}
 use Rattle.matrix.specs.Record.{record_refusal}
 use Rattle.matrix.specs.Shaped.{Octets}
-use Rattle.codec.specs.ShapeRight.{width_double}
+use Rattle.codec.proofs.ShapeRight.{width_double}
 use Rattle.owners.specs.Read.{record_shaped, long}
 use Rattle.cells.specs.Station.{Station}
 

@@ -11,7 +11,8 @@ use Rattle.matrix.specs.Reading.{cell_at}
 use Rattle.laws.specs.BitOps.{bit_or_lem}
 use Rattle.laws.specs.Tests.{way}
 use Rattle.codec.specs.Bits.{bit_zero}
-use Rattle.codec.specs.ShapeRight.{ShapeRight, most_bytes, width_some}
+use Rattle.codec.specs.ShapeRight.{ShapeRight, most_bytes}
+use Rattle.codec.proofs.ShapeRight.{width_some}
 use Rattle.cells.specs.Station.{Station, right_shape}
 use Rattle.cells.specs.Places.{row_bytes, low_place, row_small, place_small, place_below, low_bit}
 

@@ -16,7 +16,7 @@ use Rattle.matrix.specs.Calls.{refusal_on, links_on, next_on, Ran, run_from, ran
 use Rattle.matrix.specs.Valid.{Valid}
 use Rattle.laws.specs.Tests.{way}
 use Rattle.laws.specs.Numbers.{answer_number}
-use Rattle.kept.specs.Keeps.{on_keeps}
+use Rattle.kept.proofs.Keeps.{on_keeps}
 use Rattle.states.specs.Needs.{Guessed}
 use Rattle.short_ways.specs.Answered.{Answered}
 use Rattle.bits.specs.Steps.{station_after, length_after}

@@ -18,7 +18,7 @@ use Rattle.laws.specs.Same.{eqb_same, same_name_eq}
 use Rattle.kept.specs.Allowed.{Allowed}
 use Rattle.kept.specs.Cells.{put_keeps, clear_other}
 use Rattle.kept.specs.Bits.{object_kept}
-use Rattle.kept.specs.Transferred.{handed_lasts}
+use Rattle.kept.proofs.Transferred.{handed_lasts}
 
 -- a name that exists is still there when a bit of own or control is set (a transfer of own: `handed_lasts`)
 own_lasts : (r : ℕ) (c : Name) (S : State) (x : Name) → exists_name S x ≡ true → exists_name (put Own r c true S) x ≡ true

@@ -11,7 +11,8 @@ use Rattle.matrix.specs.State.{State, exists}
 use Rattle.matrix.specs.Shape.{most_subjects, basics_of}
 use Rattle.matrix.specs.Reading.{state_of}
 use Rattle.codec.specs.Columns.{named_below}
-use Rattle.codec.specs.ShapeRight.{ShapeRight, width_some}
+use Rattle.codec.specs.ShapeRight.{ShapeRight}
+use Rattle.codec.proofs.ShapeRight.{width_some}
 use Rattle.cells.specs.Station.{right_shape}
 use Rattle.states.specs.Needs.{RightIn}
 use Rattle.question.specs.declared.Safety.{Safety}

@@ -14,7 +14,7 @@ use Rattle.matrix.specs.Calls.{question_fits, holds_on}
 use Rattle.laws.specs.Tests.{and_left}
 use Rattle.codec.specs.Columns.{named_name_of}
 use Rattle.codec.specs.RoundTrip.{within_read}
-use Rattle.owners.specs.Read.{valid_record}
+use Rattle.owners.proofs.Read.{valid_record}
 use Rattle.cells.specs.Station.{Cell, Station, right_shape}
 use Rattle.states.specs.Needs.{RightIn, BitIn}
 use Rattle.holding.specs.Asked.{cell_asked}

@@ -24,7 +24,8 @@ use Rattle.codec.specs.Bits.{word_bits, any_bit}
 use Rattle.codec.specs.Cells.{cell_below}
 use Rattle.codec.specs.Codes.{code_of_room, code_of_right_of}
 use Rattle.codec.specs.Columns.{named_below}
-use Rattle.codec.specs.ShapeRight.{ShapeRight, width_some, bits_most}
+use Rattle.codec.specs.ShapeRight.{ShapeRight}
+use Rattle.codec.proofs.ShapeRight.{width_some, bits_most}
 use Rattle.codec.specs.Update.{has_state, bit_at_named, bit_named}
 use Rattle.owners.specs.Framed.{valid_framed, owner_same}
 use Rattle.cells.specs.Station.{Station, right_shape}

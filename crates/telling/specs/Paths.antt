@@ -7,7 +7,7 @@ use Rattle.laws.specs.Tests.{or_left, or_right}
 use Rattle.route.specs.Parts.{destroys, destroys_all, among}
 use Rattle.ways.specs.Path.{listed}
 use Rattle.writing.specs.Put.{put_command, put_all}
-use Rattle.writing.specs.Commands.{length_put_all}
+use Rattle.writing.proofs.Commands.{length_put_all}
 use Rattle.telling.specs.Tells.{Tells, Fits}
 use Rattle.telling.specs.Parts.{Pair}
 

@@ -4,8 +4,8 @@ use Rattle.std.proofs.Common.{add-zero, le_refl, arith, sym, ◌∙◌, ap, ap�
 use Rattle.matrix.specs.declared.Fields.{Fields}
 use Rattle.matrix.specs.CommandList.{command_place}
 use Rattle.writing.specs.Put.{put_command, put_all}
-use Rattle.writing.specs.Commands.{length_put_all}
-use Rattle.writing.specs.Laws.{put_all_append}
+use Rattle.writing.proofs.Commands.{length_put_all}
+use Rattle.writing.proofs.Laws.{put_all_append}
 
 -- the buffer out became out' by writing the commands cs from number j on, and r is the number of the next one
 pub record Tells (out out' : List ℕ) (j : ℕ) (cs : List Fields) (r : ℕ) : Type 0 where

@@ -11,7 +11,8 @@ use Rattle.matrix.specs.Shape.{limits, shape_of, most_subjects, basics_of}
 use Rattle.matrix.specs.Reading.{state_of}
 use Rattle.matrix.specs.Record.{record_refusal}
 use Rattle.codec.specs.RoundTrip.{within_read}
-use Rattle.owners.specs.Read.{valid_record, record_shaped}
+use Rattle.owners.specs.Read.{record_shaped}
+use Rattle.owners.proofs.Read.{valid_record}
 use Rattle.question.specs.declared.Safety.{Safety}
 use Rattle.question.specs.declared.Safety.TheVariants.{Leaks}
 use Rattle.question.specs.Trust.{trusted_by}
@@ -21,7 +22,7 @@ use Rattle.route.specs.Parts.{basic_number}
 use Rattle.ways.specs.Ways.{Way, held_now, by_star, by_creation, from_above, no_way, way_of, list_of}
 use Rattle.decision.specs.Decides.{Says, decides}
 use Rattle.writing.specs.Put.{put_list, most_commands}
-use Rattle.writing.specs.Laws.{list_size, list_later, list_formed, list_commands}
+use Rattle.writing.proofs.Laws.{list_size, list_later, list_formed, list_commands}
 use Rattle.told.specs.Told.{buffer_of, Told}
 
 -- a question of names and a right of the record, with room for its list

@@ -20,7 +20,7 @@ use Rattle.codec.specs.Bits.{bit_zero, any_bit}
 use Rattle.codec.specs.Codes.{code_of_right_of}
 use Rattle.codec.specs.Cells.{cell_below}
 use Rattle.codec.specs.Columns.{subject_named}
-use Rattle.codec.specs.ShapeRight.{widths}
+use Rattle.codec.proofs.ShapeRight.{widths}
 use Rattle.codec.specs.Update.{has_state, bit_at_cell}
 use Rattle.lanes.specs.declared.Matrix.{Matrix}
 use Rattle.lanes.specs.Lanes.{lane_at, upper_at, bit_in}

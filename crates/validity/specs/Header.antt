@@ -8,7 +8,7 @@ use Rattle.matrix.specs.Shape.{limits, header_bytes, shape_of, known_version, co
 use Rattle.matrix.specs.Reading.{state_of}
 use Rattle.matrix.specs.Tests.{first_failed}
 use Rattle.matrix.specs.Record.{valid_matrix, record_refusal}
-use Rattle.codec.specs.ShapeRight.{two_or_four}
+use Rattle.codec.proofs.ShapeRight.{two_or_four}
 use Rattle.cells.specs.Station.{Station, right_shape}
 use Rattle.lanes.specs.declared.Matrix.{Matrix}
 use Rattle.lanes.specs.Lanes.{row_place}

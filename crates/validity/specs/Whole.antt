@@ -12,7 +12,8 @@ use Rattle.matrix.specs.Record.{valid_matrix}
 use Rattle.laws.specs.Tests.{and_left, and_right}
 use Rattle.laws.specs.Bounded.{all_same}
 use Rattle.laws.specs.Range.{Ranged, ranged}
-use Rattle.codec.specs.ShapeRight.{ShapeRight, right_in, two_or_four}
+use Rattle.codec.specs.ShapeRight.{ShapeRight}
+use Rattle.codec.proofs.ShapeRight.{right_in, two_or_four}
 use Rattle.cells.specs.Station.{Station, right_shape}
 use Rattle.lanes.specs.declared.Matrix.{Matrix}
 use Rattle.lanes.specs.Lists.{Stored}

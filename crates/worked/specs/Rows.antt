@@ -22,7 +22,7 @@ use Rattle.laws.specs.Tests.{clash}
 use Rattle.laws.specs.Bounded.{all_each}
 use Rattle.laws.specs.Passed.{taken}
 use Rattle.codec.specs.RoundTrip.{within_read}
-use Rattle.owners.specs.Read.{valid_record}
+use Rattle.owners.proofs.Read.{valid_record}
 use Rattle.frame.specs.Stays.{names_in}
 use Rattle.frame.specs.StationBytes.{A, B}
 use Rattle.frame.specs.Stations.{Stations, stations}
@@ -36,9 +36,9 @@ use Rattle.route.specs.RunsTo.{RunsTo, step}
 use Rattle.ways.specs.Ways.{Way, no_way, risen_over, way_made, way_of, list_of}
 use Rattle.steps.specs.Runs.{run_runs, leaks_unsafe}
 use Rattle.decision.specs.Decides.{Says, decides}
-use Rattle.demands.specs.Refusals.{safety_numbered}
+use Rattle.demands.proofs.Refusals.{safety_numbered}
 use Rattle.demands.specs.Demand3.{Decides}
-use Rattle.demands.specs.Demand3Holds.{demand_3}
+use Rattle.demands.proofs.Demand3Holds.{demand_3}
 
 -- the way that a question on a record is decided by
 abbrev way_at : List ℕ → ℕ → ℕ → ℕ → ℕ → Way

@@ -3,7 +3,6 @@ use native.Mathlib.Omega.{arith}
 use mathlib.Core.Path.{sym}
 use lib.Seq.{length-take-le}
 use Rattle.asking.specs.Input.{too_long, too_short, asked_so}
-use borrow.Author.Rules.{rules}
 use Rattle.asking.proofs.ask.Goals as goal
 
 pub returns-then-size-gt-MOST_INPUT : goal.returns-then-size-gt-MOST_INPUT

@@ -5,7 +5,6 @@ use mathlib.Core.Path.{◌∙◌, ap₂}
 use Rattle.matrix.specs.Shaped.{Octets}
 use Rattle.lists.specs.Forms.{four_below}
 use Rattle.asking.specs.Numbers.{eight_bytes}
-use borrow.Author.Rules.{rules}
 use Rattle.asking.proofs.mask.Goals as goal
 use Rattle.asking.proofs.mask.Goals.{After-number-low}
 

@@ -1,13 +1,9 @@
 -- `bits::clear_cells` meets its contract.
 use borrow.Author.Rules.{rules}
-use Prim.Native.Nat.{◌-◌, ◌≤◌, ◌<◌}
+use Prim.Native.Nat.{◌-◌, ◌<◌}
 use native.Mathlib.Omega.{arith}
-use Rattle.matrix.specs.State.{clear}
 use Rattle.matrix.specs.Shape.{columns}
-use Rattle.matrix.specs.Reading.{state_of}
 use Rattle.cells.specs.Station.{right_shape}
-use Rattle.bits.specs.Became.{Became}
-use Rattle.bits.specs.Passed.{row_part}
 use Rattle.bits.specs.Steps.{cell_after, length_after}
 use Rattle.bits.specs.Loops.{row_none, row_next, row_all}
 use Rattle.bits.proofs.clear_cells.Goals as goal

@@ -1,13 +1,9 @@
 -- The loop's invariant: the cells of the rows passed so far are cleared.
-use borrow.Author.Rules.{rules}
 use Prim.Native.Nat.{◌-◌, ◌≤◌}
-use native.Mathlib.Omega.{arith}
 use Rattle.matrix.specs.State.{clear}
 use Rattle.matrix.specs.Reading.{state_of}
 use Rattle.bits.specs.Became.{Became}
 use Rattle.bits.specs.Passed.{column_part}
-use Rattle.bits.specs.Steps.{cell_after, length_after}
-use Rattle.bits.specs.Loops.{column_none, column_next, column_all}
 use Rattle.bits.proofs.clear_column.Given as goal
 
 abbrev pub invariant-loop-w : goal.invariant-loop-w

@@ -1,5 +1,4 @@
 -- `bits::clear_row` meets its contract: the width is 2 or 4, and the row's cells are cleared in the same shape.
-use borrow.Author.Rules.{rules}
 use Prim.Native.Nat.{ℕ, ◌<◌}
 use mathlib.Core.Path.{◌≡◌, sym, subst}
 use mathlib.Core.List.{List}

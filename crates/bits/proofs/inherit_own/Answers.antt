@@ -1,16 +1,13 @@
 -- `bits::inherit_own` meets its contract.
 use borrow.Author.Rules.{rules}
-use Prim.Native.Nat.{ℕ, ◌+◌, ◌-◌, ◌/◌, ◌≤◌, ◌<◌}
+use Prim.Native.Nat.{ℕ, ◌+◌, ◌-◌, ◌≤◌, ◌<◌}
 use native.Mathlib.Omega.{arith}
 use mathlib.Core.Path.{refl, ap}
 use lib.ListN.{length}
-use Rattle.matrix.specs.Shape.{shape_of}
-use Rattle.matrix.specs.Reading.{state_of}
-use Rattle.codec.specs.ShapeRight.{most_bytes, two_or_four}
+use Rattle.codec.specs.ShapeRight.{most_bytes}
+use Rattle.codec.proofs.ShapeRight.{two_or_four}
 use Rattle.cells.specs.Station.{right_shape}
 use Rattle.cells.specs.Places.{row_bytes}
-use Rattle.bits.specs.Became.{Became}
-use Rattle.bits.specs.Passed.{inherit_part}
 use Rattle.bits.specs.Steps.{station_after, length_after}
 use Rattle.bits.specs.OwnBytes.{byte_below}
 use Rattle.bits.specs.Inherits.{inherit_none, inherit_byte, inherit_all}

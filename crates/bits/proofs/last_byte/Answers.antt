@@ -1,5 +1,4 @@
 -- `bits::last_byte` meets its contract.
-use borrow.Author.Rules.{rules}
 use Prim.Native.Nat.{ℕ, ◌/◌, ◌%◌}
 use mathlib.Core.Path.{sym, ◌∙◌, ap}
 use lib.Bits.{bit_and, bit_or}

@@ -1,5 +1,4 @@
 -- `bits::put_in_column` meets its contract: the byte of the right's bit is stored with it set or cleared.
-use borrow.Author.Rules.{rules}
 use Prim.Native.Nat.{◌<◌}
 use native.Mathlib.Omega.{arith}
 use lib.ListN.{length}

@@ -1,6 +1,5 @@
 -- `bits::put_right` meets its contract: the name has its column.
 use Rattle.bits.specs.Steps.{bit_cell, became_named, length_after}
-use borrow.Author.Rules.{rules}
 use Rattle.bits.proofs.put_right.Goals as goal
 
 pub put_in_column-requires : goal.put_in_column-requires

@@ -1,5 +1,4 @@
 -- `bits::with_bit` meets its contract: a bit is set by or, and cleared by taking away what the byte has of it.
-use borrow.Author.Rules.{rules}
 use Prim.Native.Nat.{ℕ, ◌-◌}
 use mathlib.Core.Path.{sym, ◌∙◌, ap}
 use mathlib.Core.Bool.{Bool}

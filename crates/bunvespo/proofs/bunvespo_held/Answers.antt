@@ -1,7 +1,6 @@
 -- `bunvespo::bunvespo_held` meets its contract.
 use Rattle.matrix.specs.Numbers.{held_numbers}
 use Rattle.bunvespo.specs.Laws.{numbers_of}
-use borrow.Author.Rules.{rules}
 use Rattle.bunvespo.proofs.bunvespo_held.Goals as goal
 
 pub returns-in-Yes : goal.returns-in-Yes

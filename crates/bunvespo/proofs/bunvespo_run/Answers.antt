@@ -1,7 +1,6 @@
 -- `bunvespo::bunvespo_run` meets its contract.
 use mathlib.Core.Path.{ap}
 use Rattle.matrix.specs.Numbers.{run_numbers}
-use borrow.Author.Rules.{rules}
 use Rattle.bunvespo.proofs.bunvespo_run.Goals as goal
 
 pub returns : goal.returns

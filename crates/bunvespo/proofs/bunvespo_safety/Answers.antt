@@ -1,7 +1,6 @@
 -- `bunvespo::bunvespo_safety` meets its contract.
 use native.Mathlib.Omega.{arith}
 use Rattle.bunvespo.specs.Laws.{answers_numbers, few_commands}
-use borrow.Author.Rules.{rules}
 use Rattle.bunvespo.proofs.bunvespo_safety.Goals as goal
 
 pub overflow_add-result : goal.overflow_add-result

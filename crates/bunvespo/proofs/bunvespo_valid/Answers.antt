@@ -1,7 +1,6 @@
 -- `bunvespo::bunvespo_valid` meets its contract.
 use Rattle.matrix.specs.Numbers.{truth}
 use Rattle.bunvespo.specs.Laws.{numbers_of}
-use borrow.Author.Rules.{rules}
 use Rattle.bunvespo.proofs.bunvespo_valid.Goals as goal
 
 pub returns-then-valid : goal.returns-then-valid

@@ -1,5 +1,4 @@
 -- `cell_words::put_word` meets its contract: two bytes of the word are stored, or all four.
-use borrow.Author.Rules.{rules}
 use Prim.Native.Nat.{ℕ, ◌+◌, ◌≤◌}
 use native.Mathlib.Omega.{arith}
 use mathlib.Core.Path.{◌≡◌, sym, ◌∙◌, ap}

@@ -1,15 +1,15 @@
 -- `cell_words::too_wide` meets its contract.
 use borrow.Author.Rules.{rules}
-use Prim.Native.Nat.{ℕ, ◌+◌, ◌-◌, ◌*◌, ◌%◌, ◌≤◌, ◌<◌}
+use Prim.Native.Nat.{ℕ, ◌+◌, ◌-◌, ◌*◌, ◌≤◌, ◌<◌}
 use native.Mathlib.Omega.{arith}
 use mathlib.Core.Path.{◌≡◌, refl, sym, ◌∙◌, ap, subst}
 use mathlib.Core.Bool.{not}
-use lib.Dec.{eqb}
 use lib.ListN.{length}
 use Rattle.matrix.specs.Bounded.{all}
-use Rattle.codec.specs.ShapeRight.{most_bytes, two_or_four}
+use Rattle.codec.specs.ShapeRight.{most_bytes}
+use Rattle.codec.proofs.ShapeRight.{two_or_four}
 use Rattle.cells.specs.Station.{right_shape}
-use Rattle.cell_words.specs.Places.{place_of, cells_most, next_place, cell_inside}
+use Rattle.cell_words.specs.Places.{cells_most, next_place, cell_inside}
 use Rattle.cell_words.specs.Upper.{small_at, small_next, none_wider, upper_answer}
 use Rattle.cell_words.proofs.too_wide.Goals as goal
 use Rattle.cell_words.proofs.too_wide.Goals.{In-loop-k}

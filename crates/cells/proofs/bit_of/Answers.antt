@@ -1,5 +1,4 @@
 -- `cells::bit_of` meets its contract: the test is the definition's.
-use borrow.Author.Rules.{rules}
 use mathlib.Core.Path.{refl}
 use Rattle.matrix.specs.Bytes.{bit}
 use Rattle.cells.proofs.bit_of.Goals as goal

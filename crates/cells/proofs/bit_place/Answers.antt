@@ -1,5 +1,4 @@
 -- `cells::bit_place` meets its contract.
-use borrow.Author.Rules.{rules}
 use native.Mathlib.Omega.{arith}
 use Rattle.cells.specs.Places.{place_small}
 use Rattle.cells.proofs.bit_place.Goals as goal

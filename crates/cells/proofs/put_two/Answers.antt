@@ -1,5 +1,4 @@
 -- `cells::put_two` meets its contract.
-use borrow.Author.Rules.{rules}
 use mathlib.Core.Path.{sym}
 use Rattle.codec.specs.Numbers.{two_stored}
 use Rattle.cells.proofs.put_two.Goals as goal

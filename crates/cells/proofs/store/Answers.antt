@@ -1,5 +1,4 @@
 -- `cells::store` meets its contract: the two bytes at the cell's place are stored, or they and the two after them.
-use borrow.Author.Rules.{rules}
 use Prim.Native.Nat.{ℕ, ◌+◌, ◌/◌, ◌≤◌}
 use native.Mathlib.Omega.{arith}
 use mathlib.Core.Path.{◌≡◌, ◌∙◌, ap}

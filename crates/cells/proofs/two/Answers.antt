@@ -1,5 +1,4 @@
 -- `cells::two` meets its contract: both bytes make the number, which is one of 16 bits.
-use borrow.Author.Rules.{rules}
 use Prim.Native.Nat.{◌+◌, ◌<◌}
 use native.Mathlib.Omega.{arith}
 use mathlib.Core.Path.{sym}
@@ -29,6 +28,6 @@ overflow_add-result c = omega (arith, first (goal.at.overflow_add-result c).Afte
 
 pub returns : goal.returns
 returns c = record {
-      number = sym (two_read c.args.b.now c.args.at);
-      small = omega (arith, first (goal.at.returns c).After-shared_slice_known-2-1, second (goal.at.returns c).After-shared_slice_known-2-1);
-    }
+  number = sym (two_read c.args.b.now c.args.at);
+  small = omega (arith, first (goal.at.returns c).After-shared_slice_known-2-1, second (goal.at.returns c).After-shared_slice_known-2-1);
+}

@@ -1,6 +1,5 @@
 -- `changes::apply` meets its contract: each arm makes the change of its act.
 use Rattle.changes.specs.Effects.{right_of, object_column, acted, object_cleared}
-use borrow.Author.Rules.{rules}
 use native.Mathlib.Omega.{arith}
 use Rattle.bits.specs.Steps.{length_after}
 use Rattle.changes.proofs.apply.Goals as goal

@@ -2,7 +2,6 @@
 use native.Mathlib.Omega.{arith}
 use Rattle.bits.specs.Steps.{station_after, length_after}
 use Rattle.changes.specs.Effects.{destroyed}
-use borrow.Author.Rules.{rules}
 use Rattle.changes.proofs.destroy_subject.Goals as goal
 
 pub clear_column-requires : goal.clear_column-requires

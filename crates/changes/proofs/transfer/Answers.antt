@@ -2,7 +2,6 @@
 use native.Mathlib.Omega.{arith}
 use Rattle.bits.specs.Steps.{bit_after, length_after}
 use Rattle.changes.specs.Effects.{own_transferred, control_transferred, basic_transferred}
-use borrow.Author.Rules.{rules}
 use Rattle.changes.proofs.transfer.Goals as goal
 
 pub put_right-requires : goal.put_right-requires

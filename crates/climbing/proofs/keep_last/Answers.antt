@@ -1,9 +1,8 @@
 -- `climbing::keep_last` meets its contract.
-use borrow.Author.Rules.{rules}
-use Prim.Native.Nat.{◌-◌, ◌≤◌}
+use Prim.Native.Nat.{◌-◌}
 use native.Mathlib.Omega.{arith}
 use mathlib.Core.Path.{refl}
-use Rattle.climbing.specs.Needed.{Moved, moved_none, moved_more, moved_all}
+use Rattle.climbing.specs.Needed.{moved_none, moved_more, moved_all}
 use Rattle.climbing.proofs.keep_last.Goals as goal
 
 pub loop-j-init : goal.loop-j-init

@@ -1,9 +1,6 @@
 -- The invariant: the first j subjects have moved, and the others are as they were.
-use borrow.Author.Rules.{rules}
 use Prim.Native.Nat.{◌-◌, ◌≤◌}
-use native.Mathlib.Omega.{arith}
-use mathlib.Core.Path.{refl}
-use Rattle.climbing.specs.Needed.{Moved, moved_none, moved_more, moved_all}
+use Rattle.climbing.specs.Needed.{Moved}
 use Rattle.climbing.proofs.keep_last.Given as goal
 
 abbrev pub invariant-loop-j : goal.invariant-loop-j

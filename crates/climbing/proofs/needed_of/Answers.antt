@@ -1,12 +1,11 @@
 -- `climbing::needed_of` meets its contract.
-use borrow.Author.Rules.{rules}
-use Prim.Native.Nat.{◌-◌, ◌<◌}
+use Prim.Native.Nat.{◌-◌}
 use native.Mathlib.Omega.{arith}
 use mathlib.Core.Path.{sym, ◌∙◌}
 use Rattle.matrix.specs.declared.Name.TheVariants.{Plain}
 use Rattle.matrix.specs.Reading.{state_of}
 use Rattle.cells.specs.Station.{right_shape}
-use Rattle.climbing.specs.Needed.{Counted, counted_first, counted_next, counted_here, counted_all}
+use Rattle.climbing.specs.Needed.{counted_first, counted_next, counted_here, counted_all}
 use Rattle.climbing.proofs.needed_of.Goals as goal
 
 pub loop-t-init : goal.loop-t-init

@@ -1,8 +1,6 @@
 -- `climbing::owner_rise` meets its contract.
 use mathlib.Core.Path.{sym, ◌∙◌}
-use borrow.Author.Tests.{not-true, not-false}
 use Rattle.climbing.specs.Over.{owner_not, owner_rises}
-use borrow.Author.Rules.{rules}
 use Rattle.climbing.proofs.owner_rise.Goals as goal
 
 pub returns-then-not-has_bit : goal.returns-then-not-has_bit

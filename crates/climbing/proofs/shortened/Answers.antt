@@ -1,5 +1,4 @@
 -- `climbing::shortened` meets its contract: what is needed of the path becomes its first part.
-use borrow.Author.Rules.{rules}
 use native.Mathlib.Omega.{arith}
 use Rattle.cells.specs.Station.{right_shape}
 use Rattle.climbing.specs.Needed.{needed_few, passes_found, shortened_one, shortened_found, shortened_lost}

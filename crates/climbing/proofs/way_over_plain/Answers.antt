@@ -1,21 +1,17 @@
 -- `climbing::way_over_plain` meets its contract.
-use borrow.Author.Rules.{rules}
 use Prim.Native.Nat.{◌-◌, ◌/◌}
 use native.Mathlib.Numerals.{add-one}
 use native.Mathlib.Omega.{arith}
-use mathlib.Core.Path.{◌≡◌, refl}
+use mathlib.Core.Path.{refl}
 use mathlib.Core.Bool.{false}
-use lib.ListN.{length}
 use Rattle.matrix.specs.declared.Name.TheVariants.{Plain}
-use Rattle.matrix.specs.Bounded.{any}
-use Rattle.matrix.specs.Shape.{most_subjects}
 use Rattle.matrix.specs.Reading.{state_of}
 use Rattle.laws.specs.Bounded.{any_miss}
 use Rattle.row_search.specs.Blocks.{block_has}
 use Rattle.states.specs.Reads.{named_plain}
 use Rattle.question.specs.Trust.{trusted_by}
 use Rattle.ways.specs.Ways.{riser}
-use Rattle.rising.specs.Shut.{ShutAll, shut_none}
+use Rattle.rising.specs.Shut.{shut_none}
 use Rattle.masks.specs.Lowest.{least_most, none_lower}
 use Rattle.climbing.specs.Over.{climbs_met, climbs_none, unowned}
 use Rattle.climbing.proofs.way_over_plain.Goals as goal

@@ -1,5 +1,4 @@
 -- `climbing::way_over_subject` meets its contract: nobody but its owner owns v.
-use borrow.Author.Rules.{rules}
 use Rattle.question.specs.Trust.{trusted_by}
 use Rattle.rising.specs.Shut.{shut_none}
 use Rattle.climbing.specs.Over.{subject_lost, subject_rises}

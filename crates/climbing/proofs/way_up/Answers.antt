@@ -1,5 +1,4 @@
 -- `climbing::way_up` meets its contract: each arm is the way over a name of that kind.
-use borrow.Author.Rules.{rules}
 use Rattle.states.specs.Reads.{named_subject}
 use Rattle.climbing.specs.Over.{named_as, leads_over, leads_subject}
 use Rattle.climbing.specs.Needed.{leads_plain}

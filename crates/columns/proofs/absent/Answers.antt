@@ -3,7 +3,6 @@ use mathlib.Core.Path.{refl, sym, ◌∙◌}
 use native.Mathlib.Omega.{arith}
 use Rattle.columns.specs.Cells.{last_counted}
 use Rattle.columns.specs.Loops.{absent_root, absent_column, absent_row}
-use borrow.Author.Rules.{rules}
 use Rattle.columns.proofs.absent.Goals as goal
 
 pub returns-then-s-eq0 : goal.returns-then-s-eq0

@@ -1,12 +1,12 @@
 -- `columns::all_present` meets its contract.
 use borrow.Author.Rules.{rules}
-use Prim.Native.Nat.{ℕ, ◌+◌, ◌*◌, ◌-◌, ◌≤◌, ◌<◌}
+use Prim.Native.Nat.{ℕ, ◌+◌, ◌*◌, ◌-◌, ◌<◌}
 use native.Mathlib.Omega.{arith}
 use mathlib.Core.Path.{◌≡◌, refl, ◌∙◌, ap}
 use lib.Bits.{bit_or}
 use lib.ListN.{get_or}
 use Rattle.matrix.specs.Bytes.{bit}
-use Rattle.lanes.specs.Lanes.{merged, fault_of, row_place}
+use Rattle.lanes.specs.Lanes.{fault_of, row_place}
 use Rattle.lanes.specs.LaneLaws.{first_room, row_room}
 use Rattle.lanes.specs.Zeros.{merged_none, merged_more, merged_done, no_fault}
 use Rattle.columns.specs.Cells.{last_lane, lanes_few, lanes_most, last_inside, counted_most}

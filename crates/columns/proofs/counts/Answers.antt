@@ -1,5 +1,4 @@
 -- `columns::counts` meets its contract.
-use borrow.Author.Rules.{rules}
 use borrow.Author.Tests.{eq-eqb, ne_eqb}
 use Rattle.columns.proofs.counts.Goals as goal
 

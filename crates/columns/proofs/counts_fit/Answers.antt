@@ -1,11 +1,10 @@
 -- `columns::counts_fit` meets its contract.
 use borrow.Author.Rules.{rules}
-use Prim.Native.Nat.{ℕ, ◌-◌, ◌≤◌}
+use Prim.Native.Nat.{ℕ, ◌-◌}
 use native.Mathlib.Omega.{arith}
-use mathlib.Core.Path.{◌≡◌, ◌∙◌, ap}
+use mathlib.Core.Path.{◌∙◌, ap}
 use lib.Bits.{bit_or}
-use borrow.Author.Tests.{not-true, not-false}
-use Rattle.lanes.specs.Lanes.{merged, fault_of}
+use Rattle.lanes.specs.Lanes.{fault_of}
 use Rattle.lanes.specs.Passing.{all_stop}
 use Rattle.lanes.specs.Zeros.{merged_more, merged_done, first_fault, no_fault}
 use Rattle.columns.specs.Cells.{last_counted}

@@ -2,15 +2,11 @@
 use borrow.Author.Rules.{rules}
 use Prim.Native.Nat.{◌+◌, ◌-◌, ◌≤◌}
 use native.Mathlib.Omega.{arith}
-use mathlib.Core.Path.{◌≡◌}
 use mathlib.Core.Bool.{true}
-use borrow.Author.Tests.{not-true, not-false}
-use lib.ListN.{length, get_or}
-use Rattle.matrix.specs.Bounded.{all}
+use lib.ListN.{length}
 use Rattle.lanes.specs.Lanes.{row_bytes, row_place}
 use Rattle.lanes.specs.LaneLaws.{first_place, next_place, row_room}
 use Rattle.lanes.specs.Passing.{all_none, all_more, all_done, all_stop}
-use Rattle.columns.specs.Checks.{subject_test}
 use Rattle.columns.specs.Loops.{subject_test_lem, cell_inside}
 use Rattle.columns.proofs.each_subject.Goals as goal
 use Rattle.columns.proofs.each_subject.Goals.{In-loop-s}

@@ -1,17 +1,11 @@
 -- The invariant: every subject below s passes, and the row of s begins at `at`.
-use borrow.Author.Rules.{rules}
-use Prim.Native.Nat.{◌+◌, ◌-◌, ◌≤◌}
-use native.Mathlib.Omega.{arith}
+use Prim.Native.Nat.{◌-◌, ◌≤◌}
 use mathlib.Core.Path.{◌≡◌}
 use mathlib.Core.Bool.{true}
-use borrow.Author.Tests.{not-true, not-false}
-use lib.ListN.{length, get_or}
+use lib.ListN.{get_or}
 use Rattle.matrix.specs.Bounded.{all}
-use Rattle.lanes.specs.Lanes.{row_bytes, row_place}
-use Rattle.lanes.specs.LaneLaws.{first_place, next_place, row_room}
-use Rattle.lanes.specs.Passing.{all_none, all_more, all_done, all_stop}
+use Rattle.lanes.specs.Lanes.{row_place}
 use Rattle.columns.specs.Checks.{subject_test}
-use Rattle.columns.specs.Loops.{subject_test_lem, cell_inside}
 use Rattle.columns.proofs.each_subject.Given as goal
 
 abbrev pub invariant-loop-s : goal.invariant-loop-s

@@ -1,7 +1,6 @@
 -- `columns::other_counts` meets its contract. By whether an odd number control.
 use mathlib.Core.Path.{sym, ◌∙◌}
 use Rattle.columns.specs.Loops.{other_odd, other_even}
-use borrow.Author.Rules.{rules}
 use Rattle.columns.proofs.other_counts.Goals as goal
 
 pub returns-then-controls : goal.returns-then-controls

@@ -1,12 +1,8 @@
 -- The invariant: the owners of the subjects below s are in place.
-use borrow.Author.Rules.{rules}
-use Prim.Native.Nat.{ℕ, ◌-◌, ◌≤◌, ◌<◌}
-use native.Mathlib.Omega.{arith}
-use mathlib.Core.Path.{ap}
+use Prim.Native.Nat.{◌-◌, ◌≤◌}
 use lib.ListN.{get_or}
-use Rattle.matrix.specs.Shape.{most_subjects}
-use Rattle.lanes.specs.Lists.{Stored, stored_none, stored_step, stored_done}
-use Rattle.columns.specs.Cells.{last_lane, last_counted}
+use Rattle.lanes.specs.Lists.{Stored}
+use Rattle.columns.specs.Cells.{last_lane}
 use Rattle.columns.proofs.put_owners.Given as goal
 
 abbrev pub invariant-loop-s : goal.invariant-loop-s

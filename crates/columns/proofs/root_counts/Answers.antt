@@ -1,6 +1,5 @@
 -- `columns::root_counts` meets its contract. Both tests, one after the other.
 use Rattle.columns.specs.Loops.{root_right, root_wrong}
-use borrow.Author.Rules.{rules}
 use Rattle.columns.proofs.root_counts.Goals as goal
 
 pub returns-then-tally-eq2 : goal.returns-then-tally-eq2

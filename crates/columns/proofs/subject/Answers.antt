@@ -4,7 +4,6 @@ use mathlib.Core.Path.{◌≡◌, sym, ◌∙◌}
 use mathlib.Core.Bool.{true}
 use lib.ListN.{get_or}
 use Rattle.matrix.specs.Bytes.{bit}
-use borrow.Author.Tests.{not-true, not-false}
 use Rattle.columns.specs.Cells.{last_lane, last_counted}
 use Rattle.columns.specs.Loops.{subject_here, subject_absent}
 use borrow.Author.Rules.{rules}

@@ -1,10 +1,8 @@
 -- `columns::subjects` meets its contract. Where all exist, the test of a subject is that of its counts.
-use borrow.Author.Rules.{rules}
 use Prim.Native.Nat.{ℕ}
 use mathlib.Core.Path.{◌≡◌, refl, sym, ◌∙◌, ap}
 use mathlib.Core.Logic.{inl, inr}
 use mathlib.Core.Bool.{true}
-use borrow.Author.Tests.{not-false}
 use Rattle.matrix.specs.Bounded.{all}
 use Rattle.columns.specs.Cells.{not_one}
 use Rattle.columns.specs.Checks.{present, count_test}

@@ -1,5 +1,4 @@
 -- `columns::with_absent` meets its contract. The list has what is seen in the lanes of the subjects.
-use borrow.Author.Rules.{rules}
 use Prim.Native.Nat.{ℕ}
 use native.Mathlib.Omega.{arith}
 use mathlib.Core.Path.{refl, ◌∙◌, subst}

@@ -1,10 +1,8 @@
 -- The invariant: `any` is the bytes below j merged.
-use borrow.Author.Rules.{rules}
 use Prim.Native.Nat.{◌+◌, ◌-◌, ◌≤◌}
 use mathlib.Core.Path.{◌≡◌}
 use lib.ListN.{get_or}
 use Rattle.lanes.specs.Lanes.{merged}
-use Rattle.lanes.specs.Zeros.{merged_none, merged_more, merged_done}
 use Rattle.columns.proofs.zero_from.Given as goal
 
 abbrev pub invariant-loop-j : goal.invariant-loop-j

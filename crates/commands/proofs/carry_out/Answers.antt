@@ -2,7 +2,6 @@
 use native.Mathlib.Nat.{lt_of_lt_of_le}
 use Rattle.cells.specs.Station.{right_shape}
 use Rattle.commands.specs.Carrying.{carried_refused, carried_accepted}
-use borrow.Author.Rules.{rules}
 use Rattle.commands.proofs.carry_out.Goals as goal
 
 pub returns-then-v-ne0 : goal.returns-then-v-ne0

@@ -3,7 +3,6 @@ use native.Mathlib.Nat.{lt_of_lt_of_le}
 use mathlib.Core.Path.{refl, sym, ◌∙◌, subst}
 use mathlib.Core.List.{List}
 use Prim.Native.Nat.{ℕ}
-use borrow.Author.Tests.{not-true, not-false}
 use Rattle.matrix.specs.declared.Answer.TheVariants.{Accepted}
 use Rattle.matrix.specs.declared.Fields.{Fields}
 use Rattle.matrix.specs.Reading.{state_of}
@@ -12,7 +11,6 @@ use Rattle.cells.specs.Station.{Station, right_shape}
 use Rattle.states.specs.Needs.{Guessed, guessed_at}
 use Rattle.short_ways.specs.Answered.{Answered}
 use Rattle.short_ways.specs.Ready.{row_i, row_s}
-use borrow.Author.Rules.{rules}
 use Rattle.commands.proofs.command_in_list.Goals as goal
 
 pub by_right-requires : goal.by_right-requires

@@ -4,7 +4,6 @@ use Rattle.states.specs.Needs.{Guessed, guessed_at}
 use Rattle.opening.specs.Opened.{station_long}
 use Rattle.short_ways.specs.Ready.{decoded_to, refused_by}
 use Rattle.short_ways.specs.Outcomes.{answered_refused, answered_decoded, command_in}
-use borrow.Author.Rules.{rules}
 use Rattle.commands.proofs.command_on.Goals as goal
 use Rattle.commands.proofs.command_on.Goals.{After-shape-f}
 

@@ -1,9 +1,8 @@
 -- `commands::hand_on` meets its contract.
 use borrow.Author.Rules.{rules}
-use Prim.Native.Nat.{◌-◌, ◌≤◌}
-use mathlib.Core.Path.{◌≡◌, ◌∙◌}
-use lib.ListN.{length, length-set}
-use Rattle.matrix.specs.Shape.{most_subjects}
+use Prim.Native.Nat.{◌-◌}
+use mathlib.Core.Path.{◌∙◌}
+use lib.ListN.{length-set}
 use Rattle.commands.proofs.hand_on.Goals as goal
 
 pub loop-v-preserved : goal.loop-v-preserved

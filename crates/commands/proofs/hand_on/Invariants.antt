@@ -1,8 +1,7 @@
 -- The loop's invariant: the table keeps its length.
-use borrow.Author.Rules.{rules}
 use Prim.Native.Nat.{◌-◌, ◌≤◌}
-use mathlib.Core.Path.{◌≡◌, ◌∙◌}
-use lib.ListN.{length, length-set}
+use mathlib.Core.Path.{◌≡◌}
+use lib.ListN.{length}
 use Rattle.matrix.specs.Shape.{most_subjects}
 use Rattle.commands.proofs.hand_on.Given as goal
 

@@ -1,5 +1,4 @@
 -- `converting::convert` meets its contract: the answer is the refusal after 1 to 5, or the new record stands before the output's rest.
-use borrow.Author.Rules.{rules}
 use Prim.Native.Nat.{ℕ, ◌≤◌}
 use mathlib.Core.Path.{◌≡◌, sym, ◌∙◌, ap, ap₂}
 use mathlib.Core.Bool.{false}

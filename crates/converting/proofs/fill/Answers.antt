@@ -1,9 +1,6 @@
 -- `converting::fill` meets its contract: a record of the wanted version is the record itself.
-use native.Mathlib.Omega.{arith}
 use mathlib.Core.Path.{sym, ◌∙◌}
-use Rattle.laws.specs.Copied.{copied_over}
 use Rattle.converting.specs.Copying.{own_record, own_size}
-use borrow.Author.Rules.{rules}
 use Rattle.converting.proofs.fill.Goals as goal
 
 pub copy_from_slice-requires : goal.copy_from_slice-requires

@@ -1,5 +1,4 @@
 -- `converting::put_header` meets its contract: the seven stores are those of the definition.
-use borrow.Author.Rules.{rules}
 use Prim.Native.Nat.{ℕ, ◌-◌, ◌≤◌}
 use native.Mathlib.Omega.{arith}
 use mathlib.Core.Path.{sym, subst}

@@ -1,9 +1,9 @@
 -- `converting::size_of` meets its contract: a record is not long.
-use borrow.Author.Rules.{rules}
 use Prim.Native.Nat.{ℕ, ◌+◌, ◌*◌, ◌≤◌}
 use native.Mathlib.Omega.{arith}
 use mathlib.Core.Path.{sym, ap, subst}
-use Rattle.codec.specs.ShapeRight.{most_bytes, size_most}
+use Rattle.codec.specs.ShapeRight.{most_bytes}
+use Rattle.codec.proofs.ShapeRight.{size_most}
 use Rattle.cell_words.specs.Places.{cells_most}
 use Rattle.converting.proofs.size_of.Goals as goal
 use Rattle.converting.proofs.size_of.Goals.{After-columns_of}

@@ -5,10 +5,11 @@ use native.Mathlib.Omega.{arith}
 use mathlib.Core.Path.{◌≡◌, sym, ◌∙◌, ap, subst}
 use lib.ListN.{length}
 use Rattle.matrix.specs.Bytes.{number_at}
-use Rattle.codec.specs.ShapeRight.{most_bytes, two_or_four}
+use Rattle.codec.specs.ShapeRight.{most_bytes}
+use Rattle.codec.proofs.ShapeRight.{two_or_four}
 use Rattle.cells.specs.Station.{right_shape}
 use Rattle.cell_words.specs.Wanted.{wanted_right}
-use Rattle.cell_words.specs.Places.{cells_of, place_of, cells_most, next_place, cell_inside}
+use Rattle.cell_words.specs.Places.{cells_of, cells_most, next_place, cell_inside}
 use Rattle.converting.specs.Needs.{Copied}
 use Rattle.converting.specs.Copying.{copied_none, copied_next, copied_all, copied_length, same_cells}
 use Rattle.converting.proofs.write.Goals as goal

@@ -1,16 +1,8 @@
 -- The loop's invariant: the cells passed so far are copied, and the two places are those of the next.
-use borrow.Author.Rules.{rules}
-use Prim.Native.Nat.{ℕ, ◌+◌, ◌-◌, ◌*◌, ◌≤◌, ◌<◌}
-use native.Mathlib.Omega.{arith}
-use mathlib.Core.Path.{◌≡◌, sym, ◌∙◌, ap, subst}
-use lib.ListN.{length}
-use Rattle.matrix.specs.Bytes.{number_at}
-use Rattle.codec.specs.ShapeRight.{most_bytes, two_or_four}
-use Rattle.cells.specs.Station.{right_shape}
-use Rattle.cell_words.specs.Wanted.{wanted_right}
-use Rattle.cell_words.specs.Places.{cells_of, place_of, cells_most, next_place, cell_inside}
+use Prim.Native.Nat.{◌-◌, ◌≤◌}
+use mathlib.Core.Path.{◌≡◌}
+use Rattle.cell_words.specs.Places.{place_of}
 use Rattle.converting.specs.Needs.{Copied}
-use Rattle.converting.specs.Copying.{copied_none, copied_next, copied_all, copied_length, same_cells}
 use Rattle.converting.proofs.write.Given as goal
 
 abbrev pub invariant-loop-k : goal.invariant-loop-k

@@ -1,12 +1,8 @@
 -- The invariant of both loops: the lanes below c are counted. In the second, c is a whole number of parts, so that the next part fits the lists.
-use borrow.Author.Rules.{rules}
-use Prim.Native.Nat.{◌-◌, ◌%◌, ◌≤◌, ◌<◌}
-use native.Mathlib.Omega.{arith}
-use mathlib.Core.Path.{◌≡◌, refl}
+use Prim.Native.Nat.{◌-◌, ◌%◌, ◌≤◌}
+use mathlib.Core.Path.{◌≡◌}
 use lib.ListN.{length}
-use Rattle.lanes.specs.Lists.{part_next}
-use Rattle.lanes.specs.LaneLaws.{first_room}
-use Rattle.tallies.specs.Blocks.{at_once, Below, below_none, below_sized, below_part, below_done}
+use Rattle.tallies.specs.Blocks.{at_once, Below}
 use Rattle.counting.proofs.count.Given as goal
 
 abbrev pub invariant-loop-c : goal.invariant-loop-c

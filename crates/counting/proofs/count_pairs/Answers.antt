@@ -1,11 +1,10 @@
 -- `counting::count_pairs` meets its contract.
 use borrow.Author.Rules.{rules}
-use Prim.Native.Nat.{◌-◌, ◌*◌, ◌%◌}
+use Prim.Native.Nat.{◌-◌, ◌*◌}
 use native.Mathlib.Omega.{arith}
-use mathlib.Core.Path.{◌≡◌, refl}
-use lib.ListN.{length}
+use mathlib.Core.Path.{refl}
 use Rattle.lanes.specs.LaneLaws.{first_room}
-use Rattle.tallies.specs.Blocks.{at_once, Below, below_none, below_sized, below_part, below_done}
+use Rattle.tallies.specs.Blocks.{at_once, below_none, below_sized, below_part, below_done}
 use Rattle.counting.proofs.count_pairs.Goals as goal
 
 pub loop-c-init : goal.loop-c-init

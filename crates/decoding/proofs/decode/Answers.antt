@@ -1,10 +1,8 @@
 -- `decoding::decode` meets its contract.
 use mathlib.Core.Path.{◌≡◌, sym, ◌∙◌}
 use mathlib.Core.Bool.{true}
-use borrow.Author.Tests.{not-true, not-false}
 use Rattle.matrix.specs.Calls.{names_fit}
 use Rattle.decoding.specs.Decides.{RowFound, found, refused_6, names_7, fields_7, ready}
-use borrow.Author.Rules.{rules}
 use Rattle.decoding.proofs.decode.Goals as goal
 use Rattle.decoding.proofs.decode.Goals.{After-basics_of}
 

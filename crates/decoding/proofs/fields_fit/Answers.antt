@@ -1,7 +1,5 @@
 -- `decoding::fields_fit` meets its contract: each return rewrites with the tests that led there.
-use borrow.Author.Tests.{not-true, not-false}
 use Rattle.decoding.specs.Decides.{subject_unfit, object_unfit, fields_fit_by}
-use borrow.Author.Rules.{rules}
 use Rattle.decoding.proofs.fields_fit.Goals as goal
 
 pub returns-then-not-used_or_zero : goal.returns-then-not-used_or_zero

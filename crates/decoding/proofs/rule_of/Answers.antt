@@ -4,7 +4,6 @@ use mathlib.Core.Path.{refl}
 use Rattle.matrix.specs.declared.Act.TheVariants.{Transfer, Grant, Delete}
 use Rattle.decoding.specs.Decoded.{ruled_of}
 use Rattle.decoding.specs.Arms.{one_row, two_rows, below_codes, above_codes}
-use borrow.Author.Rules.{rules}
 use Rattle.decoding.proofs.rule_of.Goals as goal
 
 pub returns-in-3 : goal.returns-in-3

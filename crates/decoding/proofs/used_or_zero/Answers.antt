@@ -1,6 +1,5 @@
 -- `decoding::used_or_zero` meets its contract.
 use mathlib.Core.Path.{refl}
-use borrow.Author.Rules.{rules}
 use Rattle.decoding.proofs.used_or_zero.Goals as goal
 
 pub returns : goal.returns

@@ -1,9 +1,9 @@
 -- `few_subjects::counts_fit` meets its contract.
 use borrow.Author.Rules.{rules}
-use Prim.Native.Nat.{ℕ, ◌-◌, ◌≤◌}
-use mathlib.Core.Path.{◌≡◌, ◌∙◌, ap}
+use Prim.Native.Nat.{ℕ, ◌-◌}
+use mathlib.Core.Path.{◌∙◌, ap}
 use lib.Bits.{bit_or}
-use Rattle.lanes.specs.Lanes.{merged, fault_of}
+use Rattle.lanes.specs.Lanes.{fault_of}
 use Rattle.lanes.specs.Zeros.{merged_none, merged_more, merged_done, no_fault}
 use Rattle.few_subjects.specs.Counts.{few_test, few_test_lem}
 use Rattle.few_subjects.proofs.counts_fit.Goals as goal

@@ -1,11 +1,8 @@
 -- The invariant: `wrong` is the faults of the subjects below s, merged.
-use borrow.Author.Rules.{rules}
-use Prim.Native.Nat.{ℕ, ◌-◌, ◌≤◌}
-use mathlib.Core.Path.{◌≡◌, ◌∙◌, ap}
-use lib.Bits.{bit_or}
+use Prim.Native.Nat.{◌-◌, ◌≤◌}
+use mathlib.Core.Path.{◌≡◌}
 use Rattle.lanes.specs.Lanes.{merged, fault_of}
-use Rattle.lanes.specs.Zeros.{merged_none, merged_more, merged_done, no_fault}
-use Rattle.few_subjects.specs.Counts.{few_test, few_test_lem}
+use Rattle.few_subjects.specs.Counts.{few_test}
 use Rattle.few_subjects.proofs.counts_fit.Given as goal
 
 abbrev pub invariant-loop-s : goal.invariant-loop-s

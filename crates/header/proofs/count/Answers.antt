@@ -2,7 +2,6 @@
 use Rattle.header.specs.Headed.{count_bytes}
 use mathlib.Core.Path.{sym}
 use native.Mathlib.Omega.{arith}
-use borrow.Author.Rules.{rules}
 use Rattle.header.proofs.count.Goals as goal
 
 pub overflow_cast-result : goal.overflow_cast-result

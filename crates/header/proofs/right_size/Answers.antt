@@ -1,8 +1,7 @@
 -- `header::right_size` meets its contract. L first, then the true length.
 use Rattle.header.specs.Headed.{cells_most, count_right, count_wrong}
-use Rattle.codec.specs.ShapeRight.{size_most}
+use Rattle.codec.proofs.ShapeRight.{size_most}
 use native.Mathlib.Omega.{arith}
-use borrow.Author.Rules.{rules}
 use Rattle.header.proofs.right_size.Goals as goal
 
 pub overflow_mul-size : goal.overflow_mul-size

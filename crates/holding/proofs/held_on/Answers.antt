@@ -1,6 +1,5 @@
 -- `holding::held_on` meets its contract.
 use mathlib.Core.Bool.{true, false}
-use borrow.Author.Tests.{not-true, not-false}
 use Rattle.cells.specs.Station.{right_shape}
 use Rattle.holding.specs.Asked.{held_unfit, held_fit, cell_asked}
 use Rattle.holding.proofs.held_on.Goals as goal

@@ -1,9 +1,8 @@
 -- `holding::is_held` meets its contract: the cell and the mask share a bit.
 use native.Mathlib.Omega.{arith}
-use Rattle.codec.specs.ShapeRight.{bits_most}
+use Rattle.codec.proofs.ShapeRight.{bits_most}
 use Rattle.cells.specs.Station.{right_shape}
-use Rattle.holding.specs.MaskHolds.{held_on_record}
-use borrow.Author.Rules.{rules}
+use Rattle.holding.proofs.MaskHolds.{held_on_record}
 use Rattle.holding.proofs.is_held.Goals as goal
 
 pub mask_of-requires : goal.mask_of-requires

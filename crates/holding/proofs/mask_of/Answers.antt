@@ -7,8 +7,7 @@ use mir.Val.{bool_byte}
 use Rattle.laws.specs.Numbers.{digit}
 use Rattle.codec.specs.Bits.{word_bits, one_shifted}
 use Rattle.holding.specs.Mask.{mask_of}
-use Rattle.holding.specs.MaskHolds.{starred_below}
-use borrow.Author.Rules.{rules}
+use Rattle.holding.proofs.MaskHolds.{starred_below}
 use Rattle.holding.proofs.mask_of.Goals as goal
 
 starred-small : (c : ℕ) → c < word_bits → bit_or c (bool_byte (ltb 1 c)) < word_bits

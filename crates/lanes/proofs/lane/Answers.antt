@@ -1,5 +1,4 @@
 -- `lanes::lane` meets its contract: the first of two bytes is below 256, so it does not reach the upper part.
-use borrow.Author.Rules.{rules}
 use Prim.Native.Nat.{◌+◌}
 use native.Mathlib.Omega.{arith}
 use mathlib.Core.Path.{refl}

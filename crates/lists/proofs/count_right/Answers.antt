@@ -1,6 +1,5 @@
 -- `lists::count_right` meets its contract.
 use Rattle.lists.specs.Forms.{wrong_length, too_long, no_multiple, by_lengths}
-use borrow.Author.Rules.{rules}
 use Rattle.lists.proofs.count_right.Goals as goal
 
 pub returns-then-count-l : goal.returns-then-count-l

@@ -1,10 +1,8 @@
 -- The loop's invariant: the length bytes passed are right.
-use borrow.Author.Rules.{rules}
-use Prim.Native.Nat.{ℕ, ◌-◌, ◌≤◌}
-use native.Mathlib.Omega.{arith}
-use mathlib.Core.Path.{◌≡◌, sym, subst}
+use Prim.Native.Nat.{◌-◌, ◌≤◌}
+use mathlib.Core.Path.{◌≡◌}
 use mathlib.Core.Bool.{true}
-use Rattle.lists.specs.Forms.{lengths_right, lengths_none, lengths_more, lengths_wrong}
+use Rattle.lists.specs.Forms.{lengths_right}
 use Rattle.lists.proofs.lengths_right.Given as goal
 
 abbrev pub invariant-loop-j : goal.invariant-loop-j

@@ -1,6 +1,5 @@
 -- `lists::number` meets its contract.
 use Rattle.lists.specs.Forms.{number_of}
-use borrow.Author.Rules.{rules}
 use Rattle.lists.proofs.number.Goals as goal
 
 pub returns : goal.returns

@@ -2,7 +2,6 @@
 use Prim.Native.Nat.{ℕ, ◌^◌, ◌<◌}
 use mathlib.Core.Path.{sym, subst}
 use Rattle.lists.specs.Forms.{too_short, other_version, by_count, four_below}
-use borrow.Author.Rules.{rules}
 use Rattle.lists.proofs.well_formed.Goals as goal
 
 pub returns-then-l-lt-LIST_HEAD : goal.returns-then-l-lt-LIST_HEAD

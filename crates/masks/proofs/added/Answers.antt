@@ -1,5 +1,4 @@
 -- `masks::added` meets its contract: the disjunction with one bit sets that bit alone.
-use borrow.Author.Rules.{rules}
 use Rattle.masks.specs.Adding.{one_added}
 use Rattle.masks.proofs.added.Goals as goal
 

@@ -1,11 +1,10 @@
 -- `masks::existing` meets its contract.
 use borrow.Author.Rules.{rules}
-use Prim.Native.Nat.{◌-◌, ◌≤◌, ◌<◌}
+use Prim.Native.Nat.{◌-◌, ◌<◌}
 use native.Mathlib.Omega.{arith}
-use mathlib.Core.Logic.{⊎_elim}
 use Rattle.cells.specs.Station.{right_shape}
 use Rattle.masks.specs.Marks.{mask_bits}
-use Rattle.masks.specs.Existing.{Upto, upto_none, room, upto_more, upto_same, upto_all}
+use Rattle.masks.specs.Existing.{upto_none, room, upto_more, upto_same, upto_all}
 use Rattle.masks.proofs.existing.Goals as goal
 use Rattle.masks.proofs.existing.Goals.{Then-subject_exists, then-subject_exists, else-subject_exists}
 
@@ -28,8 +27,9 @@ loop-s-preserved c =
     let t = c.subject_exists.ensures in (
       search rules,
       elim c.if-subject_exists.branch [
-        then-subject_exists w ↦ upto_more l.invariant.1 (omega (arith, (right_shape q).high)) t w.if-subject_exists.true w.m-is
-      | else-subject_exists w ↦ upto_same l.invariant.1 t w.if-subject_exists.false w.m-is ],
+        | then-subject_exists w ↦ upto_more l.invariant.1 (omega (arith, (right_shape q).high)) t w.if-subject_exists.true w.m-is
+        | else-subject_exists w ↦ upto_same l.invariant.1 t w.if-subject_exists.false w.m-is
+      ],
     )
 
 pub returns : goal.returns

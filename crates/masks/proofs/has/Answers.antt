@@ -1,5 +1,4 @@
 -- `masks::has` meets its contract: the test is the definition's.
-use borrow.Author.Rules.{rules}
 use mathlib.Core.Path.{refl}
 use Rattle.matrix.specs.Bytes.{bit}
 use Rattle.masks.proofs.has.Goals as goal

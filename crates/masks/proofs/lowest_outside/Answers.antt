@@ -1,5 +1,4 @@
 -- `masks::lowest_outside` meets its contract: the members of the complement are those that the set hasn't.
-use borrow.Author.Rules.{rules}
 use native.Mathlib.Omega.{arith}
 use mathlib.Core.Path.{◌∙◌}
 use mathlib.Core.Bool.{not}

@@ -1,5 +1,4 @@
 -- `masks::lowest_untrusted` meets its contract: the lowest bit of the untrusted existing subjects, or none where the set is empty.
-use borrow.Author.Rules.{rules}
 use Rattle.masks.specs.Untrusted.{none_untrusted, lowest_untrusted}
 use Rattle.masks.proofs.lowest_untrusted.Goals as goal
 

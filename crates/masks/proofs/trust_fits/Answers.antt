@@ -1,5 +1,4 @@
 -- `masks::trust_fits` meets its contract: nothing is left of the mask above bit n.
-use borrow.Author.Rules.{rules}
 use Rattle.masks.specs.Digits.{fits_shifted}
 use Rattle.masks.proofs.trust_fits.Goals as goal
 

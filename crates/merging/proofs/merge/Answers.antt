@@ -1,12 +1,12 @@
 -- `merging::merge` meets its contract.
 use borrow.Author.Rules.{rules}
-use Prim.Native.Nat.{ℕ, ◌+◌, ◌*◌, ◌-◌, ◌≤◌, ◌<◌}
+use Prim.Native.Nat.{ℕ, ◌+◌, ◌*◌, ◌-◌, ◌<◌}
 use native.Mathlib.Omega.{arith}
-use mathlib.Core.Path.{◌≡◌, refl, ◌∙◌, ap}
+use mathlib.Core.Path.{refl, ◌∙◌, ap}
 use lib.ListN.{length}
-use Rattle.lanes.specs.Lanes.{row_place, lane_in, lane_at}
+use Rattle.lanes.specs.Lanes.{row_place, lane_in}
 use Rattle.lanes.specs.LaneLaws.{first_place, first_room, next_place, row_room}
-use Rattle.merging.specs.Rows.{Joined, joined_none, joined_first, joined_step, joined_row, joined_all}
+use Rattle.merging.specs.Rows.{joined_none, joined_first, joined_step, joined_row, joined_all}
 use Rattle.merging.proofs.merge.Goals as goal
 use Rattle.merging.proofs.merge.Goals.{After-slice_known-in-loop-j-1}
 

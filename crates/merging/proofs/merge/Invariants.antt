@@ -1,12 +1,9 @@
 -- The invariants: row r has joined the places below j of `seen`, the rows before it the first k places, and its lanes begin at `at`.
-use borrow.Author.Rules.{rules}
-use Prim.Native.Nat.{ℕ, ◌+◌, ◌*◌, ◌-◌, ◌≤◌, ◌<◌}
-use native.Mathlib.Omega.{arith}
-use mathlib.Core.Path.{◌≡◌, refl, ◌∙◌, ap}
+use Prim.Native.Nat.{◌+◌, ◌*◌, ◌-◌, ◌≤◌}
+use mathlib.Core.Path.{◌≡◌}
 use lib.ListN.{length}
-use Rattle.lanes.specs.Lanes.{row_place, lane_in, lane_at}
-use Rattle.lanes.specs.LaneLaws.{first_place, first_room, next_place, row_room}
-use Rattle.merging.specs.Rows.{Joined, joined_none, joined_first, joined_step, joined_row, joined_all}
+use Rattle.lanes.specs.Lanes.{row_place, lane_at}
+use Rattle.merging.specs.Rows.{Joined}
 use Rattle.merging.proofs.merge.Given as goal
 
 abbrev pub invariant-loop-j : goal.invariant-loop-j

@@ -1,7 +1,6 @@
 -- `object_ways::create_object` meets its contract.
 use mathlib.Core.Path.{sym, ◌∙◌, ap}
 use mathlib.Core.Bool.{true}
-use borrow.Author.Tests.{not-false}
 use Rattle.matrix.specs.declared.Name.{Name}
 use Rattle.matrix.specs.declared.Right.TheVariants.{Own}
 use Rattle.matrix.specs.declared.Kind.TheVariants.{PlainName}
@@ -12,7 +11,6 @@ use Rattle.bits.specs.Steps.{became_as}
 use Rattle.short_ways.specs.Ready.{row_i, name_is}
 use Rattle.short_ways.specs.Allowed.{left_alone, made, at_name}
 use Rattle.object_ways.specs.Objects.{own_in, answered_create}
-use borrow.Author.Rules.{rules}
 use Rattle.object_ways.proofs.create_object.Goals as goal
 
 pub returns-then-c-ne0 : goal.returns-then-c-ne0

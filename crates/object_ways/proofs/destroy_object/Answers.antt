@@ -1,5 +1,4 @@
 -- `object_ways::destroy_object` meets its contract.
-use borrow.Author.Tests.{not-false}
 use Rattle.matrix.specs.declared.Name.{Name}
 use Rattle.matrix.specs.declared.Kind.TheVariants.{PlainName}
 use Rattle.matrix.specs.Tests.{kind_fits}
@@ -7,7 +6,6 @@ use Rattle.matrix.specs.Reading.{state_of}
 use Rattle.short_ways.specs.Ready.{row_i, column_o}
 use Rattle.short_ways.specs.Allowed.{left_alone, made, at_name}
 use Rattle.object_ways.specs.Objects.{own_in, answered_destroy}
-use borrow.Author.Rules.{rules}
 use Rattle.object_ways.proofs.destroy_object.Goals as goal
 
 pub returns-then-c-ne0 : goal.returns-then-c-ne0

@@ -1,6 +1,5 @@
 -- `object_ways::give_own` meets its contract.
 use mathlib.Core.Path.{sym, ◌∙◌}
-use borrow.Author.Tests.{not-false}
 use Rattle.matrix.specs.declared.Name.{Name}
 use Rattle.matrix.specs.declared.Kind.TheVariants.{PlainName}
 use Rattle.matrix.specs.Tests.{kind_fits}
@@ -9,7 +8,6 @@ use Rattle.bits.specs.Steps.{bit_after}
 use Rattle.short_ways.specs.Ready.{row_i, row_s, name_is}
 use Rattle.short_ways.specs.Allowed.{left_alone, made, at_name}
 use Rattle.object_ways.specs.Objects.{own_in, own_given, answered_given}
-use borrow.Author.Rules.{rules}
 use Rattle.object_ways.proofs.give_own.Goals as goal
 
 pub returns-then-not-kind_fits : goal.returns-then-not-kind_fits

@@ -1,10 +1,8 @@
 -- `object_ways::over_object` meets its contract.
 use Rattle.short_ways.specs.Allowed.{left_alone}
 use mathlib.Core.Path.{sym, ◌∙◌}
-use borrow.Author.Tests.{not-false}
 use Rattle.cells.specs.Station.{right_shape}
 use Rattle.short_ways.specs.WithoutBasic.{WithoutBasic}
-use borrow.Author.Rules.{rules}
 use Rattle.object_ways.proofs.over_object.Goals as goal
 use Rattle.object_ways.proofs.over_object.Goals.{Else-not-names_fit}
 

@@ -1,6 +1,5 @@
 -- `opening::byte` meets its contract.
 use native.Mathlib.Omega.{arith}
-use borrow.Author.Rules.{rules}
 use Rattle.opening.proofs.byte.Goals as goal
 
 pub overflow_cast-result : goal.overflow_cast-result

@@ -1,5 +1,4 @@
 -- `opening::shape` meets its contract.
-use borrow.Author.Rules.{rules}
 use mathlib.Core.Path.{◌∙◌}
 use Rattle.matrix.specs.Shape.{shape_of, shape_in}
 use Rattle.opening.proofs.shape.Goals as goal

@@ -1,5 +1,4 @@
 -- `opening::shape_in` meets its contract, field by field.
-use borrow.Author.Rules.{rules}
 use Rattle.opening.proofs.shape_in.Goals as goal
 
 pub returns : goal.returns

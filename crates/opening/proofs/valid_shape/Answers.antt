@@ -2,7 +2,6 @@
 use Prim.Native.Nat.{ℕ, ◌*◌}
 use native.Mathlib.Omega.{arith}
 use mathlib.Core.Path.{◌∙◌, ap}
-use borrow.Author.Rules.{rules}
 use Rattle.matrix.specs.Shape.{shape_of}
 use Rattle.opening.specs.Opened.{long_enough, width_read}
 use Rattle.opening.proofs.valid_shape.Goals as goal

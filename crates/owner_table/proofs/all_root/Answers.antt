@@ -1,9 +1,8 @@
 -- `owner_table::all_root` meets its contract.
 use borrow.Author.Rules.{rules}
-use Prim.Native.Nat.{◌-◌, ◌≤◌}
-use mathlib.Core.Path.{◌≡◌, ◌∙◌}
+use Prim.Native.Nat.{◌-◌}
+use mathlib.Core.Path.{◌∙◌}
 use lib.ListN.{get_or}
-use Rattle.lanes.specs.Lanes.{merged}
 use Rattle.lanes.specs.Zeros.{merged_none, merged_more, merged_done, merged_zero}
 use Rattle.owner_table.proofs.all_root.Goals as goal
 

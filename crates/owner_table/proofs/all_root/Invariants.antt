@@ -1,10 +1,8 @@
 -- The invariant: `any` is the entries below s merged.
-use borrow.Author.Rules.{rules}
 use Prim.Native.Nat.{◌-◌, ◌≤◌}
-use mathlib.Core.Path.{◌≡◌, ◌∙◌}
+use mathlib.Core.Path.{◌≡◌}
 use lib.ListN.{get_or}
 use Rattle.lanes.specs.Lanes.{merged}
-use Rattle.lanes.specs.Zeros.{merged_none, merged_more, merged_done, merged_zero}
 use Rattle.owner_table.proofs.all_root.Given as goal
 
 abbrev pub invariant-loop-s : goal.invariant-loop-s

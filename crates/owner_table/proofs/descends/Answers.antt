@@ -1,10 +1,10 @@
 -- `owner_table::descends` meets its contract.
 use borrow.Author.Rules.{rules}
-use Prim.Native.Nat.{ℕ, ◌-◌, ◌≤◌}
-use mathlib.Core.Path.{◌≡◌, ◌∙◌, ap}
+use Prim.Native.Nat.{ℕ, ◌-◌}
+use mathlib.Core.Path.{◌∙◌, ap}
 use lib.Bits.{bit_or}
 use borrow.Author.Tests.{eq-eqb, ne_eqb}
-use Rattle.lanes.specs.Lanes.{merged, fault_of}
+use Rattle.lanes.specs.Lanes.{fault_of}
 use Rattle.lanes.specs.Passing.{all_stop}
 use Rattle.lanes.specs.Zeros.{merged_more, merged_done, first_fault, no_fault}
 use Rattle.owner_table.specs.Table.{lower_test, lower_root, lower_other}

@@ -1,13 +1,8 @@
 -- The invariant: U's entry is U, and `wrong` is the faults of the subjects below s, merged.
-use borrow.Author.Rules.{rules}
-use Prim.Native.Nat.{ℕ, ◌-◌, ◌≤◌}
-use mathlib.Core.Path.{◌≡◌, ◌∙◌, ap}
-use lib.Bits.{bit_or}
-use borrow.Author.Tests.{eq-eqb, ne_eqb}
+use Prim.Native.Nat.{◌-◌, ◌≤◌}
+use mathlib.Core.Path.{◌≡◌}
 use Rattle.lanes.specs.Lanes.{merged, fault_of}
-use Rattle.lanes.specs.Passing.{all_stop}
-use Rattle.lanes.specs.Zeros.{merged_more, merged_done, first_fault, no_fault}
-use Rattle.owner_table.specs.Table.{lower_test, lower_root, lower_other}
+use Rattle.owner_table.specs.Table.{lower_test}
 use Rattle.owner_table.proofs.descends.Given as goal
 
 abbrev pub invariant-loop-s : goal.invariant-loop-s

@@ -1,10 +1,9 @@
 -- `owner_table::double` meets its contract.
 use borrow.Author.Rules.{rules}
-use Prim.Native.Nat.{◌-◌, ◌≤◌}
+use Prim.Native.Nat.{◌-◌}
 use native.Mathlib.Omega.{arith}
 use mathlib.Core.Path.{refl}
-use lib.ListN.{get_or}
-use Rattle.lanes.specs.Lists.{Stored, stored_none, stored_step, stored_done}
+use Rattle.lanes.specs.Lists.{stored_none, stored_step, stored_done}
 use Rattle.owner_table.proofs.double.Goals as goal
 
 pub loop-s-init : goal.loop-s-init

@@ -1,10 +1,7 @@
 -- The invariant: the entries below s are filled. An entry of t is a subject, so it is an index of t.
-use borrow.Author.Rules.{rules}
 use Prim.Native.Nat.{◌-◌, ◌≤◌}
-use native.Mathlib.Omega.{arith}
-use mathlib.Core.Path.{refl}
 use lib.ListN.{get_or}
-use Rattle.lanes.specs.Lists.{Stored, stored_none, stored_step, stored_done}
+use Rattle.lanes.specs.Lists.{Stored}
 use Rattle.owner_table.proofs.double.Given as goal
 
 abbrev pub invariant-loop-s : goal.invariant-loop-s

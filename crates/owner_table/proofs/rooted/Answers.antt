@@ -2,7 +2,6 @@
 use native.Mathlib.Omega.{arith}
 use mathlib.Core.Path.{refl, sym, ◌∙◌}
 use Rattle.owner_table.specs.Table.{reach, owner_in, Follows, follows_once, follows_twice, follows_inside, lower_rooted, rooted_twice, follows_rooted}
-use borrow.Author.Rules.{rules}
 use Rattle.owner_table.proofs.rooted.Goals as goal
 use Rattle.owner_table.proofs.rooted.Goals.{After-double, After-double-2, After-double-3, After-double-4, After-double-5, After-double-6}
 

@@ -1,12 +1,8 @@
 -- The invariant: the halves of the lists' numbers count the first r rows, and row r's lanes begin at `at`.
-use borrow.Author.Rules.{rules}
-use Prim.Native.Nat.{ℕ, ◌+◌, ◌*◌, ◌-◌, ◌≤◌}
-use native.Mathlib.Omega.{arith}
-use mathlib.Core.Path.{◌≡◌, refl, ap}
-use lib.ListN.{length}
-use Rattle.lanes.specs.Lanes.{row_bytes, row_place}
-use Rattle.lanes.specs.LaneLaws.{first_place, first_room, next_place, row_room}
-use Rattle.pairs.specs.Pairs.{lower, upper, unit_of, PairRoom, Pairs, pairs_none, pairs_room, pairs_next, pairs_done, pairs_count, pairs_filling}
+use Prim.Native.Nat.{◌+◌, ◌*◌, ◌-◌, ◌≤◌}
+use mathlib.Core.Path.{◌≡◌}
+use Rattle.lanes.specs.Lanes.{row_place}
+use Rattle.pairs.specs.Pairs.{Pairs}
 use Rattle.pairs.proofs.pairs.Given as goal
 
 abbrev pub invariant-loop-r : goal.invariant-loop-r

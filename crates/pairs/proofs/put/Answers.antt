@@ -1,10 +1,9 @@
 -- `pairs::put` meets its contract.
 use borrow.Author.Rules.{rules}
-use Prim.Native.Nat.{ℕ, ◌-◌, ◌≤◌}
+use Prim.Native.Nat.{ℕ, ◌-◌}
 use native.Mathlib.Omega.{arith}
 use mathlib.Core.Path.{ap}
-use Rattle.lanes.specs.Lists.{Filled, filled_none, filled_step, filled_done}
-use Rattle.tallies.specs.Blocks.{at_once}
+use Rattle.lanes.specs.Lists.{filled_none, filled_step, filled_done}
 use Rattle.pairs.specs.Pairs.{taken}
 use Rattle.pairs.proofs.put.Goals as goal
 

@@ -1,9 +1,6 @@
 -- The invariant: the first j places are filled.
-use borrow.Author.Rules.{rules}
-use Prim.Native.Nat.{ℕ, ◌-◌, ◌≤◌}
-use native.Mathlib.Omega.{arith}
-use mathlib.Core.Path.{◌∙◌, ap}
-use Rattle.lanes.specs.Lists.{Filled, filled_none, filled_step, filled_done}
+use Prim.Native.Nat.{◌-◌, ◌≤◌}
+use Rattle.lanes.specs.Lists.{Filled}
 use Rattle.lanes.specs.Lanes.{place_of}
 use Rattle.tallies.specs.Blocks.{at_once}
 use Rattle.pairs.specs.Pairs.{taken}

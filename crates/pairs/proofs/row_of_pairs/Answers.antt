@@ -1,10 +1,10 @@
 -- `pairs::row_of_pairs` meets its contract.
 use borrow.Author.Rules.{rules}
-use Prim.Native.Nat.{◌-◌, ◌≤◌}
+use Prim.Native.Nat.{◌-◌}
 use native.Mathlib.Nat.{le_refl}
 use native.Mathlib.Omega.{arith}
-use Rattle.tallies.specs.Blocks.{at_once, Joined, joined_none, joined_step, joined_done}
-use Rattle.pairs.specs.Pairs.{lower, upper, half, pairs_from, own_both}
+use Rattle.tallies.specs.Blocks.{joined_none, joined_step, joined_done}
+use Rattle.pairs.specs.Pairs.{lower, upper, half}
 use Rattle.pairs.proofs.row_of_pairs.Goals as goal
 
 pub loop-j-init : goal.loop-j-init

@@ -1,10 +1,7 @@
 -- The invariant: in each of the three lists the numbers below j have the row, those from j on are as before.
-use borrow.Author.Rules.{rules}
 use Prim.Native.Nat.{◌-◌, ◌≤◌}
-use native.Mathlib.Nat.{le_refl}
-use native.Mathlib.Omega.{arith}
-use Rattle.tallies.specs.Blocks.{at_once, Joined, joined_none, joined_step, joined_done}
-use Rattle.pairs.specs.Pairs.{lower, upper, half, pairs_from, own_both}
+use Rattle.tallies.specs.Blocks.{at_once, Joined}
+use Rattle.pairs.specs.Pairs.{pairs_from, own_both}
 use Rattle.pairs.proofs.row_of_pairs.Given as goal
 
 abbrev pub invariant-loop-j : goal.invariant-loop-j

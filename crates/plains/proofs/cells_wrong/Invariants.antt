@@ -1,13 +1,8 @@
 -- The invariant: `wrong` is what is wrong with the cells from `from` on below c, merged.
-use borrow.Author.Rules.{rules}
-use Prim.Native.Nat.{ℕ, ◌-◌, ◌≤◌}
-use native.Mathlib.Omega.{arith}
-use mathlib.Core.Path.{◌≡◌, ◌∙◌, ap}
-use lib.Bits.{bit_or}
+use Prim.Native.Nat.{◌-◌, ◌≤◌}
+use mathlib.Core.Path.{◌≡◌}
 use lib.ListN.{get_or}
-use Rattle.columns.specs.Cells.{last_inside}
 use Rattle.plains.specs.Checks.{plain_wrong, wrong_of}
-use Rattle.plains.specs.Parts.{wrong_none, wrong_more}
 use Rattle.plains.proofs.cells_wrong.Given as goal
 
 abbrev pub invariant-loop-c : goal.invariant-loop-c

@@ -1,5 +1,4 @@
 -- `plains::known_wrong` meets its contract, number by number.
-use borrow.Author.Rules.{rules}
 use native.Mathlib.Omega.{arith}
 use mathlib.Core.Path.{◌≡◌, refl}
 use Rattle.plains.specs.Parts.{at_once, some, many, most, last_lanes, part_of, of_lanes}

@@ -1,5 +1,4 @@
 -- `plains::part_wrong` meets its contract.
-use borrow.Author.Rules.{rules}
 use Prim.Native.Nat.{ℕ}
 use mathlib.Core.Path.{◌∙◌, subst}
 use lib.ListN.{length}

@@ -1,5 +1,4 @@
 -- `plains::plain_wrong` meets its contract, by whether it is owned and not controlled.
-use borrow.Author.Rules.{rules}
 use Rattle.plains.specs.Checks.{plain_owned, plain_other}
 use Rattle.plains.proofs.plain_wrong.Goals as goal
 

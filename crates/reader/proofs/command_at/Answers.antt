@@ -1,12 +1,11 @@
 -- `reader::command_at` meets its contract. A list of the right form is as long as its head says.
-use borrow.Author.Rules.{rules}
 use Prim.Native.Nat.{◌+◌}
 use native.Mathlib.Omega.{arith}
 use mathlib.Core.Path.{sym, ◌∙◌, ap}
 use Rattle.matrix.specs.declared.Fields.{Fields}
 use Rattle.lists.specs.Formed.{formed}
 use Rattle.reader.specs.declared.Read.TheVariants.{Command}
-use Rattle.reader.specs.Left.{read_command, read_end}
+use Rattle.reader.proofs.Left.{read_command, read_end}
 use Rattle.reader.proofs.command_at.Goals as goal
 
 pub overflow_sub-l : goal.overflow_sub-l

@@ -1,7 +1,6 @@
 -- `reader::fields` meets its contract.
 use Rattle.matrix.specs.CommandList.{command_place}
 use Rattle.lists.specs.Forms.{fields_of}
-use borrow.Author.Rules.{rules}
 use Rattle.reader.proofs.fields.Goals as goal
 
 pub returns : goal.returns

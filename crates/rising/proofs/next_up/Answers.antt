@@ -1,5 +1,4 @@
 -- `rising::next_up` meets its contract: each way out is a case of a step up.
-use borrow.Author.Rules.{rules}
 use native.Mathlib.Omega.{arith}
 use mathlib.Core.Path.{sym, ◌∙◌}
 use Rattle.cells.specs.Station.{right_shape}

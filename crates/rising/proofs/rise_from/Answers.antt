@@ -1,14 +1,10 @@
 -- `rising::rise_from` meets its contract.
-use Prim.Native.Nat.{◌+◌, ◌<◌}
 use native.Mathlib.Omega.{arith}
-use borrow.Author.Tests.{not-true, not-false}
-use mathlib.Core.Path.{◌≡◌, sym, ◌∙◌}
-use Rattle.matrix.specs.Reading.{state_of}
+use mathlib.Core.Path.{sym, ◌∙◌}
 use Rattle.cells.specs.Station.{right_shape}
 use Rattle.states.specs.Reads.{top_is}
-use Rattle.question.specs.Trust.{trusted_by}
-use Rattle.rising.specs.Shut.{ShutAll, Seen, seen_none, seen_up}
-use Rattle.rising.specs.Rising.{Rising, rising_none, rises_out, rises_met, rises_shut, rising_up}
+use Rattle.rising.specs.Shut.{seen_none, seen_up}
+use Rattle.rising.specs.Rising.{rising_none, rises_out, rises_met, rises_shut, rising_up}
 use Rattle.rising.proofs.rise_from.Goals as goal
 
 pub up-init : goal.up-init

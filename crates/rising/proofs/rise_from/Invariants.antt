@@ -1,14 +1,10 @@
 -- The loop's invariant: what is left of the way up is the whole way up, and those seen are shut if the subject come to is.
 use Prim.Native.Nat.{◌+◌, ◌<◌}
-use native.Mathlib.Omega.{arith}
-use borrow.Author.Tests.{not-true, not-false}
-use mathlib.Core.Path.{◌≡◌, sym, ◌∙◌}
+use mathlib.Core.Path.{◌≡◌}
 use Rattle.matrix.specs.Reading.{state_of}
-use Rattle.cells.specs.Station.{right_shape}
-use Rattle.states.specs.Reads.{top_is}
 use Rattle.question.specs.Trust.{trusted_by}
-use Rattle.rising.specs.Shut.{ShutAll, Seen, seen_none, seen_up}
-use Rattle.rising.specs.Rising.{Rising, rising_none, rises_out, rises_met, rises_shut, rising_up}
+use Rattle.rising.specs.Shut.{ShutAll, Seen}
+use Rattle.rising.specs.Rising.{Rising}
 use Rattle.rising.proofs.rise_from.Given as goal
 
 abbrev pub invariant-up : goal.invariant-up

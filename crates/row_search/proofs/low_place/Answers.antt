@@ -1,5 +1,4 @@
 -- `row_search::low_place` meets its contract.
-use borrow.Author.Rules.{rules}
 use native.Mathlib.Omega.{arith}
 use Rattle.cells.specs.Places.{place_small}
 use Rattle.row_search.proofs.low_place.Goals as goal

@@ -1,5 +1,4 @@
 -- `row_search::one_of_four` meets its contract: the four bytes are joined, and a bit of what is joined is that of one of them.
-use borrow.Author.Rules.{rules}
 use Prim.Native.Nat.{ℕ, ◌+◌, ◌*◌, ◌^◌, ◌<◌}
 use native.Mathlib.Omega.{arith}
 use mathlib.Core.Path.{◌∙◌}

@@ -1,11 +1,10 @@
 -- `row_search::some_row` meets its contract.
 use borrow.Author.Rules.{rules}
-use Prim.Native.Nat.{ℕ, ◌+◌, ◌-◌, ◌*◌, ◌≤◌}
+use Prim.Native.Nat.{ℕ, ◌-◌}
 use native.Mathlib.Nat.{zero-mul}
 use native.Mathlib.Omega.{arith}
 use mathlib.Core.Path.{◌≡◌, ◌∙◌, ap}
 use Rattle.matrix.specs.Bounded.{any}
-use Rattle.matrix.specs.Bytes.{bit}
 use Rattle.codec.specs.Bits.{bit_zero}
 use Rattle.cells.specs.Station.{right_shape}
 use Rattle.cells.specs.Places.{low_place}

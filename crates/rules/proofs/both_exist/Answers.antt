@@ -1,6 +1,5 @@
 -- `rules::both_exist` meets its contract.
 use Rattle.laws.specs.Tests.{and_then, and_stop}
-use borrow.Author.Rules.{rules}
 use Rattle.rules.proofs.both_exist.Goals as goal
 
 pub returns-then-subject_exists : goal.returns-then-subject_exists

@@ -1,10 +1,6 @@
 -- `rules::is_deletable` meets its contract: a delete is a case of the definition, and of every other act the bit is not asked.
-use native.Mathlib.Omega.{arith}
 use mathlib.Core.Path.{◌≡◌, refl, sym, ◌∙◌, ap, subst}
-use mathlib.Core.Logic.{inl, inr}
 use mathlib.Core.Bool.{true}
-use mathlib.Core.List.{[], ◌∷◌}
-use types.Run.{OneOf}
 use denote.Enum.Declared as Declared
 use Rattle.matrix.specs.contracts.Act as acts
 use Rattle.matrix.specs.declared.Act.{Act}
@@ -15,7 +11,6 @@ use Rattle.matrix.specs.State.{State}
 use Rattle.matrix.specs.Reading.{state_of}
 use Rattle.matrix.specs.Tests.{deletable}
 use Rattle.rules.specs.Needs.{ActIn}
-use borrow.Author.Rules.{rules}
 use Rattle.rules.proofs.is_deletable.Goals as goal
 
 -- an act that is no delete asks for no bit

@@ -6,7 +6,6 @@ use native.Mathlib.Omega.{arith}
 use borrow.Author.Tests.{lt-ltb}
 use Rattle.matrix.specs.Tests.{permitted}
 use Rattle.rules.specs.Needs.{ActIn}
-use borrow.Author.Rules.{rules}
 use Rattle.rules.proofs.is_permitted.Goals as goal
 
 pub may_transfer-requires : goal.may_transfer-requires

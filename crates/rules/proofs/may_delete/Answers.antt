@@ -7,7 +7,6 @@ use borrow.Author.Tests.{lt-ltb}
 use Rattle.matrix.specs.declared.Act.TheVariants.{Delete}
 use Rattle.matrix.specs.Tests.{permitted}
 use Rattle.laws.specs.Tests.{or_stop, or_next}
-use borrow.Author.Rules.{rules}
 use Rattle.rules.proofs.may_delete.Goals as goal
 
 pub returns-then-owns_object : goal.returns-then-owns_object

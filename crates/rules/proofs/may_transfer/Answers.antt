@@ -5,7 +5,6 @@ use Rattle.matrix.specs.Reading.{state_of}
 use Rattle.matrix.specs.declared.Act.TheVariants.{Transfer}
 use Rattle.matrix.specs.Tests.{permitted}
 use Rattle.states.specs.Reads.{basic_in}
-use borrow.Author.Rules.{rules}
 use Rattle.rules.proofs.may_transfer.Goals as goal
 
 pub has_bit-requires : goal.has_bit-requires

@@ -4,7 +4,6 @@ use mathlib.Core.Bool.{not}
 use Rattle.matrix.specs.declared.Act.{Act}
 use Rattle.matrix.specs.Reading.{state_of}
 use Rattle.matrix.specs.Tests.{free}
-use borrow.Author.Rules.{rules}
 use Rattle.rules.proofs.name_free.Goals as goal
 
 pub returns-in-CreateObject : goal.returns-in-CreateObject

@@ -1,9 +1,6 @@
 -- `rules::names_present` meets its contract: each arm is a case of the definition, and the last arm has the acts that are left: a transfer, a
 -- grant and a delete.
-use native.Mathlib.Omega.{arith}
-use Prim.Native.Nat.{ℕ, ◌≤◌}
 use mathlib.Core.Path.{◌≡◌, refl, sym, ◌∙◌, ap}
-use mathlib.Core.Logic.{◌⊎◌, ⊎_elim}
 use mathlib.Core.Bool.{◌&&◌}
 use denote.Enum.Declared as Declared
 use Rattle.matrix.specs.contracts.Act as acts
@@ -13,7 +10,6 @@ use Rattle.matrix.specs.declared.Command.{Command}
 use Rattle.matrix.specs.State.{State, exists, exists_name}
 use Rattle.matrix.specs.Reading.{state_of}
 use Rattle.matrix.specs.Tests.{present}
-use borrow.Author.Rules.{rules}
 use Rattle.rules.proofs.names_present.Goals as goal
 
 -- an act that is none of the four that create or destroy needs both names

@@ -1,13 +1,8 @@
 -- `runs::run_on` meets its contract.
-use borrow.Author.Rules.{rules}
 use Prim.Native.Nat.{ℕ, ◌+◌, ◌-◌}
 use native.Mathlib.Omega.{arith}
-use lib.ListN.{length}
-use mathlib.Core.Path.{◌≡◌, refl, sym, ◌∙◌, ap}
-use Rattle.matrix.specs.Shape.{most_subjects}
-use Rattle.matrix.specs.CommandList.{commands_in}
-use Rattle.reader.specs.Left.{yields_command, yields_end}
-use Rattle.runs.specs.Reached.{Reached, ran_from}
+use mathlib.Core.Path.{refl, sym, ◌∙◌, ap}
+use Rattle.reader.proofs.Left.{yields_command, yields_end}
 use Rattle.runs.specs.Steps.{reached_none, reached_more, reached_as, run_accepts, ran_refused, ran_all, counted_as}
 use Rattle.runs.proofs.run_on.Goals as goal
 

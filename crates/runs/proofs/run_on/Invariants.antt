@@ -1,14 +1,10 @@
 -- The loop's invariant: what is left of the run ends as the whole run does.
-use borrow.Author.Rules.{rules}
-use Prim.Native.Nat.{ℕ, ◌+◌, ◌-◌}
-use native.Mathlib.Omega.{arith}
+use Prim.Native.Nat.{◌-◌}
 use lib.ListN.{length}
-use mathlib.Core.Path.{◌≡◌, refl, sym, ◌∙◌, ap}
+use mathlib.Core.Path.{◌≡◌}
 use Rattle.matrix.specs.Shape.{most_subjects}
 use Rattle.matrix.specs.CommandList.{commands_in}
-use Rattle.reader.specs.Left.{yields_command, yields_end}
 use Rattle.runs.specs.Reached.{Reached, ran_from}
-use Rattle.runs.specs.Steps.{reached_none, reached_more, reached_as, run_accepts, ran_refused, ran_all, counted_as}
 use Rattle.runs.proofs.run_on.Given as goal
 
 abbrev pub invariant-loop-c : goal.invariant-loop-c

@@ -1,16 +1,14 @@
 -- `safety::ask` meets its contract.
 use native.Mathlib.Omega.{arith}
 use mathlib.Core.Path.{◌≡◌, refl, sym, ◌∙◌}
-use borrow.Author.Tests.{not-true, not-false}
 use Rattle.matrix.specs.Shape.{limits}
 use Rattle.matrix.specs.Record.{record_refusal}
 use Rattle.matrix.specs.Shaped.{Octets}
-use Rattle.owners.specs.Read.{valid_record}
+use Rattle.owners.proofs.Read.{valid_record}
 use Rattle.cells.specs.Station.{Station, right_shape}
 use Rattle.opening.specs.Opened.{station_of, long_enough}
 use Rattle.safety.specs.Turned.{turned_record}
 use Rattle.safety.specs.Whole.{unfit, no_room, Fitting, asked, asks, unheld, answered, answered_held}
-use borrow.Author.Rules.{rules}
 use Rattle.safety.proofs.ask.Goals as goal
 use Rattle.safety.proofs.ask.Goals.{After-shape-f, Else-out-f, Else-turned-ne0}
 
@@ -66,8 +64,7 @@ returns-then-is_held c =
 
 pub decide-requires : goal.decide-requires
 decide-requires c =
-    let q = fitting (goal.at.decide-requires c).Else-out-f in
-    (
+    let q = fitting (goal.at.decide-requires c).Else-out-f in (
       asks q c.name_of-x.ensures c.right_of-y.ensures,
       record { station = q.station; valid = valid_record _ q.valid; size = c.refusal_with-turned.ensures.table },
       unheld q c.name_of-x.ensures c.right_of-y.ensures c.is_held.ensures c.if-is_held.false,

@@ -3,7 +3,6 @@ use native.Mathlib.Omega.{arith}
 use mathlib.Core.Path.{refl}
 use Rattle.matrix.specs.Reading.{state_of}
 use Rattle.safety.specs.Tellings.{part_of, head_by, creation_list, told_creation}
-use borrow.Author.Rules.{rules}
 use Rattle.safety.proofs.by_creation.Goals as goal
 
 pub put_creation-k-requires : goal.put_creation-k-requires

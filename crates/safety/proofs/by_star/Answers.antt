@@ -4,7 +4,6 @@ use mathlib.Core.Path.{refl, ap}
 use mathlib.Core.Bool.{not}
 use Rattle.matrix.specs.Reading.{state_of}
 use Rattle.safety.specs.Tellings.{part_of, head_by, star_list, told_star}
-use borrow.Author.Rules.{rules}
 use Rattle.safety.proofs.by_star.Goals as goal
 
 pub put_star-k-requires : goal.put_star-k-requires

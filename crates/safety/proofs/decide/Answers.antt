@@ -1,12 +1,10 @@
 -- `safety::decide` meets its contract: each return is the way that the tests before it leave.
 use mathlib.Core.Path.{◌≡◌}
-use borrow.Author.Tests.{not-true, not-false}
 use Rattle.matrix.specs.Reading.{state_of}
 use Rattle.states.specs.Reads.{top_is}
 use Rattle.question.specs.Trust.{trusted_by}
-use Rattle.ways.specs.Ways.{Way, by_star, way_over, way_made, way_of}
+use Rattle.ways.specs.Ways.{by_star, way_over, way_made, way_of}
 use Rattle.safety.specs.Steps.{asks_at, told_at, told_none, way_impossible, way_star, way_over_lem, way_made_lem}
-use borrow.Author.Rules.{rules}
 use Rattle.safety.proofs.decide.Goals as goal
 use Rattle.safety.proofs.decide.Goals.{Else-name_exists, Then-i-n, Then-name_exists}
 

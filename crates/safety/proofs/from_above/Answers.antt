@@ -3,7 +3,6 @@ use Rattle.matrix.specs.Reading.{state_of}
 use Rattle.ways.specs.Path.{listed}
 use Rattle.telling.specs.Tells.{tells_then}
 use Rattle.safety.specs.Tellings.{head_by, path_short, path_room, owned_list, above_list, finish_part, told_above}
-use borrow.Author.Rules.{rules}
 use Rattle.safety.proofs.from_above.Goals as goal
 
 pub put_destroys-j-requires : goal.put_destroys-j-requires

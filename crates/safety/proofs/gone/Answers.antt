@@ -2,7 +2,6 @@
 use mathlib.Core.Path.{ap}
 use mathlib.Core.Bool.{not}
 use Rattle.laws.specs.Tests.{or_stop, or_next}
-use borrow.Author.Rules.{rules}
 use Rattle.safety.proofs.gone.Goals as goal
 
 pub returns-then-not-subject_exists : goal.returns-then-not-subject_exists

@@ -1,7 +1,6 @@
 -- `safety::made` meets its contract.
 use Rattle.states.specs.Reads.{top_is}
 use Rattle.safety.specs.Steps.{asks_at, told_at, told_none, made_by, made_none}
-use borrow.Author.Rules.{rules}
 use Rattle.safety.proofs.made.Goals as goal
 
 pub returns-then-n-v : goal.returns-then-n-v

@@ -1,6 +1,5 @@
 -- `safety::still_absent` meets its contract.
 use Rattle.safety.specs.Tellings.{self_made, other_made, object_made}
-use borrow.Author.Rules.{rules}
 use Rattle.safety.proofs.still_absent.Goals as goal
 
 pub returns-then-s-w : goal.returns-then-s-w

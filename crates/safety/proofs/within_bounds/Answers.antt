@@ -1,6 +1,5 @@
 -- `safety::within_bounds` meets its contract.
 use Rattle.laws.specs.Tests.{and_then, and_stop}
-use borrow.Author.Rules.{rules}
 use Rattle.safety.proofs.within_bounds.Goals as goal
 
 pub returns-then-question_fits : goal.returns-then-question_fits

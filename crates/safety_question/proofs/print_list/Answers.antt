@@ -1,6 +1,6 @@
 -- Each command that is printed moves the position on, and stands within the list.
 use Rattle.std.proofs.Common.{arith}
-use Rattle.reader.specs.Left.{yields_command}
+use Rattle.reader.proofs.Left.{yields_command}
 use Rattle.safety_question.proofs.print_list.Goals as goal
 
 pub loop-c-smaller : goal.loop-c-smaller

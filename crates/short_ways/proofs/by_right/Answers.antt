@@ -3,12 +3,10 @@ use native.Mathlib.Omega.{arith}
 use Prim.Native.Nat.{◌<◌}
 use mathlib.Core.Path.{◌≡◌, sym, ◌∙◌}
 use mathlib.Core.Bool.{true}
-use borrow.Author.Tests.{not-false}
 use Rattle.matrix.specs.Shape.{basics_of}
 use Rattle.matrix.specs.Calls.{names_fit}
 use Rattle.cells.specs.Station.{right_shape}
 use Rattle.short_ways.specs.Allowed.{left_alone, where_then, answered_transfer, answered_grant, answered_delete}
-use borrow.Author.Rules.{rules}
 use Rattle.short_ways.proofs.by_right.Goals as goal
 use Rattle.short_ways.proofs.by_right.Goals.{Else-not-names_fit}
 

@@ -1,6 +1,5 @@
 -- `short_ways::put_allowed` meets its contract.
 use mathlib.Core.Path.{sym, ◌∙◌, ap₂}
-use borrow.Author.Tests.{not-false}
 use Rattle.matrix.specs.declared.Name.{Name}
 use Rattle.matrix.specs.declared.Form.{Form}
 use Rattle.matrix.specs.declared.Right.TheVariants.{Basic}
@@ -9,7 +8,6 @@ use Rattle.matrix.specs.Reading.{state_of}
 use Rattle.bits.specs.Steps.{became_as}
 use Rattle.short_ways.specs.Ready.{row_i, row_s, name_is}
 use Rattle.short_ways.specs.Allowed.{left_alone, made, subject_fits, at_name}
-use borrow.Author.Rules.{rules}
 use Rattle.short_ways.proofs.put_allowed.Goals as goal
 
 pub subject_fits-requires : goal.subject_fits-requires

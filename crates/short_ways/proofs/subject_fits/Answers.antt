@@ -3,7 +3,6 @@ use mathlib.Core.Path.{sym, ◌∙◌, ap}
 use mathlib.Core.Bool.{Bool}
 use Rattle.matrix.specs.Reading.{state_of}
 use Rattle.short_ways.specs.Allowed.{subject_fits}
-use borrow.Author.Rules.{rules}
 use Rattle.short_ways.proofs.subject_fits.Goals as goal
 
 pub returns-then-on : goal.returns-then-on

@@ -3,7 +3,6 @@ use Prim.Native.Nat.{ℕ, ◌+◌, ◌*◌}
 use native.Mathlib.Omega.{arith}
 use mathlib.Core.Path.{◌∙◌, ap}
 use Rattle.states.specs.Reads.{basic_code}
-use borrow.Author.Rules.{rules}
 use Rattle.states.proofs.code_of.Goals as goal
 
 pub overflow_mul-result : goal.overflow_mul-result

@@ -1,5 +1,4 @@
 -- `states::controlled` meets its contract.
-use borrow.Author.Rules.{rules}
 use mathlib.Core.Path.{◌∙◌}
 use Rattle.states.specs.Reads.{some_other}
 use Rattle.states.proofs.controlled.Goals as goal

@@ -1,5 +1,4 @@
 -- `states::exists_by` meets its contract: in a valid record an object over which somebody has a right exists.
-use borrow.Author.Rules.{rules}
 use mathlib.Core.Path.{sym, ◌∙◌, ap, subst}
 use Rattle.matrix.specs.declared.Name.{Name}
 use Rattle.matrix.specs.State.{exists_name}

@@ -8,7 +8,6 @@ use Rattle.matrix.specs.Reading.{cell_at}
 use Rattle.codec.specs.Columns.{named_below}
 use Rattle.cells.specs.Station.{right_shape}
 use Rattle.states.specs.Reads.{code_in, code_small, read_bit}
-use borrow.Author.Rules.{rules}
 use Rattle.states.proofs.has_bit.Goals as goal
 
 pub code_of-j-requires : goal.code_of-j-requires

@@ -1,5 +1,4 @@
 -- `states::name_exists` meets its contract: a subject by its own cell, a plain object by a test of its column for an owner.
-use borrow.Author.Rules.{rules}
 use native.Mathlib.Omega.{arith}
 use mathlib.Core.Path.{sym, ◌∙◌, ap}
 use Rattle.matrix.specs.declared.Name.{Name}

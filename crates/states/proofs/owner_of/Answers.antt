@@ -1,5 +1,4 @@
 -- `states::owner_of` meets its contract: a guess that owns v is the owner, and else the search finds it.
-use borrow.Author.Rules.{rules}
 use native.Mathlib.Omega.{arith}
 use borrow.Author.Tests.{lt-ltb}
 use Rattle.cells.specs.Station.{right_shape}

@@ -1,10 +1,10 @@
 -- `states::owner_walk` meets its contract.
 use borrow.Author.Rules.{rules}
-use Prim.Native.Nat.{ℕ, ◌+◌, ◌<◌}
+use Prim.Native.Nat.{ℕ}
 use native.Mathlib.Omega.{arith}
-use mathlib.Core.Path.{◌≡◌, sym, ◌∙◌, ap}
+use mathlib.Core.Path.{sym, ◌∙◌, ap}
 use Rattle.matrix.specs.declared.Name.TheVariants.{Subject}
-use Rattle.matrix.specs.Owners.{walk, walk_from}
+use Rattle.matrix.specs.Owners.{walk_from}
 use Rattle.matrix.specs.Reading.{state_of}
 use Rattle.states.specs.Reads.{top_is}
 use Rattle.states.specs.Walks.{walk_out, walk_meets, walk_root, walk_unowned, walk_up}
@@ -26,13 +26,12 @@ pub up-smaller : goal.up-smaller
 up-smaller c = omega arith
 
 pub up-preserved : goal.up-preserved
-up-preserved c =
-    (
-      c.if-n-owner.false,
-      omega arith,
-      sym (walk_up _ _ _ _ _ _ c.if-left-eq0.false c.if-at-o.false c.if-at-eq0.false c.owner_of-owner.ensures (top_is _ _ c.requires.0.station) c.if-n-owner.false)
-          ∙ c.up.invariant.2,
-    )
+up-preserved c = (
+  c.if-n-owner.false,
+  omega arith,
+  sym (walk_up _ _ _ _ _ _ c.if-left-eq0.false c.if-at-o.false c.if-at-eq0.false c.owner_of-owner.ensures (top_is _ _ c.requires.0.station) c.if-n-owner.false)
+      ∙ c.up.invariant.2,
+)
 
 pub returns-then-left-eq0 : goal.returns-then-left-eq0
 returns-then-left-eq0 c = sym (walk_out _ _ _ _ _ _ c.if-left-eq0.true) ∙ c.up.invariant.2

@@ -1,13 +1,9 @@
 -- The loop's invariant: what is left of the walk is the whole walk's answer.
-use borrow.Author.Rules.{rules}
-use Prim.Native.Nat.{ℕ, ◌+◌, ◌<◌}
-use native.Mathlib.Omega.{arith}
-use mathlib.Core.Path.{◌≡◌, sym, ◌∙◌, ap}
+use Prim.Native.Nat.{◌+◌, ◌<◌}
+use mathlib.Core.Path.{◌≡◌}
 use Rattle.matrix.specs.declared.Name.TheVariants.{Subject}
 use Rattle.matrix.specs.Owners.{walk, walk_from}
 use Rattle.matrix.specs.Reading.{state_of}
-use Rattle.states.specs.Reads.{top_is}
-use Rattle.states.specs.Walks.{walk_out, walk_meets, walk_root, walk_unowned, walk_up}
 use Rattle.states.proofs.owner_walk.Given as goal
 
 abbrev pub invariant-up : goal.invariant-up

@@ -1,6 +1,5 @@
 -- `states::right_of` meets its contract.
 use Rattle.states.specs.Reads.{right_of_plain, right_of_starred}
-use borrow.Author.Rules.{rules}
 use Rattle.states.proofs.right_of.Goals as goal
 
 pub returns-then-j-eq0 : goal.returns-then-j-eq0

@@ -1,6 +1,5 @@
 -- `states::subject_exists` meets its contract.
 use borrow.Author.Tests.{lt-ltb}
-use borrow.Author.Rules.{rules}
 use Rattle.states.proofs.subject_exists.Goals as goal
 
 pub has_bit-requires : goal.has_bit-requires

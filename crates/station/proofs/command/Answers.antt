@@ -3,12 +3,11 @@ use mathlib.Core.Path.{◌≡◌, refl, sym, ◌∙◌}
 use Rattle.matrix.specs.Shape.{limits, shape_of}
 use Rattle.matrix.specs.Record.{record_refusal}
 use Rattle.matrix.specs.Shaped.{Octets}
-use Rattle.owners.specs.Read.{valid_record}
+use Rattle.owners.proofs.Read.{valid_record}
 use Rattle.cells.specs.Station.{Station}
 use Rattle.opening.specs.Opened.{station_of}
 use Rattle.laws.specs.Numbers.{command_numbers_lem}
 use Rattle.station.specs.Done.{command_turned_down, command_kept, command_reply, command_done}
-use borrow.Author.Rules.{rules}
 use Rattle.station.proofs.command.Goals as goal
 use Rattle.station.proofs.command.Goals.{Else-turned-ne0}
 

@@ -1,5 +1,4 @@
 -- `station::convert` meets its contract.
-use borrow.Author.Rules.{rules}
 use mathlib.Core.Path.{◌≡◌, sym, ◌∙◌}
 use Rattle.matrix.specs.Shape.{limits}
 use Rattle.matrix.specs.Record.{record_refusal}
@@ -18,7 +17,7 @@ octets c = record { octet = λ j. (c.type_inv.b j).fits }
 
 pub returns-then-turned-ne0 : goal.returns-then-turned-ne0
 returns-then-turned-ne0 c =
-        let r = convert_turned_down _ c.refusal-turned.ensures c.if-turned-ne0.true _ _ in
+    let r = convert_turned_down _ c.refusal-turned.ensures c.if-turned-ne0.true _ _ in
     record { result = r.0; output = r.1 }
 
 pub shape-f-requires : goal.shape-f-requires

@@ -7,7 +7,6 @@ use Rattle.holding.specs.Asked.{held_answer_lem}
 use Rattle.opening.specs.Opened.{station_of, long_enough}
 use Rattle.laws.specs.Numbers.{held_numbers_lem}
 use Rattle.station.specs.Done.{held_turned_down}
-use borrow.Author.Rules.{rules}
 use Rattle.station.proofs.held.Goals as goal
 use Rattle.station.proofs.held.Goals.{Else-turned-ne0}
 
@@ -20,9 +19,9 @@ octets c = record { octet = λ j. (c.type_inv.b j).fits }
 
 pub returns-then-turned-ne0 : goal.returns-then-turned-ne0
 returns-then-turned-ne0 c = let e = held_turned_down _ c.refusal-turned.ensures c.if-turned-ne0.true _ _ _ in record {
-      answer = e;
-      numbers = held_numbers_lem _ _ _ _ e;
-    }
+  answer = e;
+  numbers = held_numbers_lem _ _ _ _ e;
+}
 
 pub shape-f-requires : goal.shape-f-requires
 shape-f-requires c = long_enough _ (right c)
@@ -32,6 +31,6 @@ held_on-requires c = station_of (octets (goal.at.held_on-requires c).Else-turned
 
 pub returns : goal.returns
 returns c = let e = c.held_on.ensures ∙ held_answer_lem _ _ _ _ (right (goal.at.returns c).Else-turned-ne0) in record {
-      answer = e;
-      numbers = held_numbers_lem _ _ _ _ e;
-    }
+  answer = e;
+  numbers = held_numbers_lem _ _ _ _ e;
+}

@@ -5,13 +5,11 @@ use Rattle.matrix.specs.Record.{record_refusal}
 use Rattle.matrix.specs.Shaped.{Octets}
 use Rattle.matrix.specs.CommandList.{well_formed}
 use mathlib.Core.Bool.{true}
-use borrow.Author.Tests.{not-true, not-false}
-use Rattle.owners.specs.Read.{valid_record}
+use Rattle.owners.proofs.Read.{valid_record}
 use Rattle.cells.specs.Station.{Station}
 use Rattle.opening.specs.Opened.{station_of}
 use Rattle.laws.specs.Numbers.{run_numbers_lem}
 use Rattle.station.specs.Done.{run_turned_down, run_kept, list_turned_down, list_kept, run_outcome, run_done}
-use borrow.Author.Rules.{rules}
 use Rattle.station.proofs.run.Goals as goal
 use Rattle.station.proofs.run.Goals.{After-valid_shape-f, Else-not-well_formed, Else-turned-ne0}
 

@@ -1,6 +1,5 @@
 -- `station::valid` meets its contract.
 use Rattle.station.specs.Done.{valid_test}
-use borrow.Author.Rules.{rules}
 use Rattle.station.proofs.valid.Goals as goal
 
 pub returns : goal.returns

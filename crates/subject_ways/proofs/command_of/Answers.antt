@@ -2,7 +2,6 @@
 use mathlib.Core.Path.{ap}
 use Rattle.matrix.specs.declared.Name.{Name}
 use Rattle.matrix.specs.declared.Command.{Command}
-use borrow.Author.Rules.{rules}
 use Rattle.subject_ways.proofs.command_of.Goals as goal
 
 pub returns : goal.returns

@@ -1,6 +1,6 @@
 -- `subject_ways::destroy_subject` meets its contract.
 use mathlib.Core.Path.{sym, ◌∙◌, ap}
-use borrow.Author.Tests.{not-false, lt-ltb}
+use borrow.Author.Tests.{lt-ltb}
 use Rattle.matrix.specs.declared.Command.{Command}
 use Rattle.matrix.specs.declared.Act.TheVariants.{DestroySubject}
 use Rattle.matrix.specs.Changes.{change}
@@ -9,7 +9,6 @@ use Rattle.bits.specs.Steps.{became_as}
 use Rattle.short_ways.specs.Ready.{row_i, row_s}
 use Rattle.short_ways.specs.Allowed.{left_alone, made}
 use Rattle.subject_ways.specs.Subjects.{on_names, answered_destroyed}
-use borrow.Author.Rules.{rules}
 use Rattle.subject_ways.proofs.destroy_subject.Goals as goal
 
 pub returns-then-c-ne0 : goal.returns-then-c-ne0

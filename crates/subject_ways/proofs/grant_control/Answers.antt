@@ -1,11 +1,10 @@
 -- `subject_ways::grant_control` meets its contract.
 use native.Mathlib.Omega.{arith}
 use mathlib.Core.Path.{sym, ◌∙◌}
-use borrow.Author.Tests.{not-false, lt-ltb}
+use borrow.Author.Tests.{lt-ltb}
 use Rattle.short_ways.specs.Ready.{row_i, row_s}
 use Rattle.short_ways.specs.Allowed.{left_alone, made}
 use Rattle.subject_ways.specs.Subjects.{answered_controlled}
-use borrow.Author.Rules.{rules}
 use Rattle.subject_ways.proofs.grant_control.Goals as goal
 
 pub returns-then-f-c : goal.returns-then-f-c

@@ -1,10 +1,8 @@
 -- `subject_ways::over_subject` meets its contract.
 use mathlib.Core.Path.{sym, ◌∙◌}
-use borrow.Author.Tests.{not-false}
 use Rattle.cells.specs.Station.{right_shape}
 use Rattle.short_ways.specs.Allowed.{left_alone, where_then}
 use Rattle.short_ways.specs.WithoutBasic.{WithoutBasic}
-use borrow.Author.Rules.{rules}
 use Rattle.subject_ways.proofs.over_subject.Goals as goal
 use Rattle.subject_ways.proofs.over_subject.Goals.{Else-not-names_fit}
 

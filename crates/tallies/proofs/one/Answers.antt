@@ -2,7 +2,7 @@
 use borrow.Author.Rules.{rules}
 use Prim.Native.Nat.{ℕ, ◌+◌, ◌*◌, ◌-◌, ◌≤◌}
 use native.Mathlib.Omega.{arith}
-use mathlib.Core.Path.{◌≡◌, refl, ap}
+use mathlib.Core.Path.{refl, ap}
 use lib.ListN.{length, get_or}
 use Rattle.lanes.specs.Lanes.{row_bytes, row_place, upper_at}
 use Rattle.lanes.specs.LaneLaws.{first_place, first_room, next_place, row_room}

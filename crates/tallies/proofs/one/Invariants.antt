@@ -1,12 +1,8 @@
 -- The invariant: what is counted of the lane is that of the first r rows, and `at` is its upper byte in row r.
-use borrow.Author.Rules.{rules}
-use Prim.Native.Nat.{ℕ, ◌+◌, ◌*◌, ◌-◌, ◌≤◌}
-use native.Mathlib.Omega.{arith}
-use mathlib.Core.Path.{◌≡◌, refl, ap}
-use lib.ListN.{length, get_or}
-use Rattle.lanes.specs.Lanes.{row_bytes, row_place, upper_at}
-use Rattle.lanes.specs.LaneLaws.{first_place, first_room, next_place, row_room}
-use Rattle.tallies.specs.Blocks.{Column, column_none, column_next, column_low, column_count, column_done, filling_one}
+use Prim.Native.Nat.{◌+◌, ◌*◌, ◌-◌, ◌≤◌}
+use mathlib.Core.Path.{◌≡◌}
+use Rattle.lanes.specs.Lanes.{row_place, upper_at}
+use Rattle.tallies.specs.Blocks.{Column}
 use Rattle.tallies.proofs.one.Given as goal
 
 abbrev pub invariant-loop-r : goal.invariant-loop-r

@@ -1,7 +1,6 @@
 -- `tallies::place` meets its contract: the definition makes the same test.
 use mathlib.Core.Path.{refl}
 use borrow.Author.Tests.{eq-eqb, ne_eqb}
-use borrow.Author.Rules.{rules}
 use Rattle.tallies.proofs.place.Goals as goal
 
 pub returns-then-a-eq0 : goal.returns-then-a-eq0

@@ -1,10 +1,10 @@
 -- `tallies::row` meets its contract.
 use borrow.Author.Rules.{rules}
-use Prim.Native.Nat.{ℕ, ◌-◌, ◌*◌, ◌%◌, ◌≤◌}
+use Prim.Native.Nat.{ℕ, ◌-◌, ◌*◌, ◌%◌}
 use native.Mathlib.Nat.{le_refl}
 use native.Mathlib.Omega.{arith}
 use mathlib.Core.Path.{ap}
-use Rattle.tallies.specs.Blocks.{at_once, low_bits, lanes_from, own_upper, Joined, joined_none, joined_step, joined_done}
+use Rattle.tallies.specs.Blocks.{joined_none, joined_step, joined_done}
 use Rattle.tallies.proofs.row.Goals as goal
 
 pub loop-j-init : goal.loop-j-init

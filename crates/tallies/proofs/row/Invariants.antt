@@ -1,10 +1,6 @@
 -- The invariant: in each of the three lists the lanes below j have the row, those from j on are as before.
-use borrow.Author.Rules.{rules}
-use Prim.Native.Nat.{ℕ, ◌-◌, ◌*◌, ◌%◌, ◌≤◌}
-use native.Mathlib.Nat.{le_refl}
-use native.Mathlib.Omega.{arith}
-use mathlib.Core.Path.{ap}
-use Rattle.tallies.specs.Blocks.{at_once, low_bits, lanes_from, own_upper, Joined, joined_none, joined_step, joined_done}
+use Prim.Native.Nat.{◌-◌, ◌≤◌}
+use Rattle.tallies.specs.Blocks.{at_once, low_bits, lanes_from, own_upper, Joined}
 use Rattle.tallies.proofs.row.Given as goal
 
 abbrev pub invariant-loop-j : goal.invariant-loop-j

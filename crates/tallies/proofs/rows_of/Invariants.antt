@@ -1,12 +1,8 @@
 -- The invariant: the lists count the first r rows, and row r's lanes begin at `at`.
-use borrow.Author.Rules.{rules}
-use Prim.Native.Nat.{ℕ, ◌+◌, ◌*◌, ◌-◌, ◌≤◌}
-use native.Mathlib.Omega.{arith}
-use mathlib.Core.Path.{◌≡◌, refl, ap, subst}
-use lib.ListN.{length}
-use Rattle.lanes.specs.Lanes.{row_bytes, row_place}
-use Rattle.lanes.specs.LaneLaws.{first_place, first_room, next_place, row_room}
-use Rattle.tallies.specs.Blocks.{Several, several_room, several_next}
+use Prim.Native.Nat.{◌+◌, ◌*◌, ◌-◌, ◌≤◌}
+use mathlib.Core.Path.{◌≡◌}
+use Rattle.lanes.specs.Lanes.{row_place}
+use Rattle.tallies.specs.Blocks.{Several}
 use Rattle.tallies.proofs.rows_of.Given as goal
 
 abbrev pub invariant-loop-r : goal.invariant-loop-r

@@ -1,10 +1,10 @@
 -- `tallies::several` meets its contract.
 use borrow.Author.Rules.{rules}
-use Prim.Native.Nat.{◌+◌, ◌/◌, ◌-◌, ◌≤◌}
+use Prim.Native.Nat.{◌+◌, ◌/◌, ◌-◌}
 use native.Mathlib.Omega.{arith}
 use lib.ListN.{get_or}
 use Rattle.lanes.specs.Lanes.{upper_at}
-use Rattle.tallies.specs.Blocks.{at_once, Column, column_low, column_count, several_none, Filling, filling_none, filling_step, filling_done}
+use Rattle.tallies.specs.Blocks.{Column, column_low, column_count, several_none, filling_none, filling_step, filling_done}
 use Rattle.tallies.proofs.several.Goals as goal
 use Rattle.tallies.proofs.several.Goals.{In-loop-j}
 

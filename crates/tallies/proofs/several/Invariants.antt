@@ -1,10 +1,6 @@
 -- The invariant: the first j lanes are filled.
-use borrow.Author.Rules.{rules}
-use Prim.Native.Nat.{◌+◌, ◌/◌, ◌-◌, ◌≤◌}
-use native.Mathlib.Omega.{arith}
-use lib.ListN.{get_or}
-use Rattle.lanes.specs.Lanes.{upper_at}
-use Rattle.tallies.specs.Blocks.{at_once, Column, column_low, column_count, several_none, Filling, filling_none, filling_step, filling_done}
+use Prim.Native.Nat.{◌-◌, ◌≤◌}
+use Rattle.tallies.specs.Blocks.{at_once, Filling}
 use Rattle.tallies.proofs.several.Given as goal
 
 abbrev pub invariant-loop-j : goal.invariant-loop-j

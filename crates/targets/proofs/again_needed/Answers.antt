@@ -3,7 +3,6 @@ use mathlib.Core.Path.{sym, ◌∙◌}
 use Rattle.matrix.specs.Reading.{state_of}
 use Rattle.states.specs.Reads.{named_subject}
 use Rattle.targets.specs.Targets.{again_is, plain_stays}
-use borrow.Author.Rules.{rules}
 use Rattle.targets.proofs.again_needed.Goals as goal
 
 pub controlled-requires : goal.controlled-requires

@@ -1,6 +1,5 @@
 -- `targets::is_possible` meets its contract: each arm is a case of the definition.
 use Rattle.targets.specs.Targets.{own_other, own_itself, control_other, control_root}
-use borrow.Author.Rules.{rules}
 use Rattle.targets.proofs.is_possible.Goals as goal
 
 pub returns-then-o-s : goal.returns-then-o-s

@@ -5,7 +5,6 @@ use Rattle.matrix.specs.Reading.{state_of}
 use Rattle.states.specs.Reads.{basic_in}
 use Rattle.question.specs.Trust.{trusted_by}
 use Rattle.targets.specs.Targets.{no_star, star_is}
-use borrow.Author.Rules.{rules}
 use Rattle.targets.proofs.star_holder.Goals as goal
 
 pub star_row-requires : goal.star_row-requires

@@ -1,17 +1,8 @@
 -- `targets::star_row` meets its contract.
-use borrow.Author.Rules.{rules}
 use Prim.Native.Nat.{◌-◌}
 use native.Mathlib.Omega.{arith}
-use mathlib.Core.Path.{◌≡◌}
-use mathlib.Core.Bool.{not}
-use Rattle.matrix.specs.Bounded.{least}
-use Rattle.matrix.specs.Bytes.{bit}
-use Rattle.matrix.specs.declared.Form.TheVariants.{Starred}
-use Rattle.matrix.specs.Reading.{state_of}
 use Rattle.cells.specs.Station.{right_shape}
-use Rattle.masks.specs.Marks.{mask_bits}
-use Rattle.question.specs.Trust.{trusted_by}
-use Rattle.targets.specs.Passing.{Passed, passed_trusted, star_none, star_found, passed_more, passed_higher}
+use Rattle.targets.specs.Passing.{passed_trusted, star_none, star_found, passed_more, passed_higher}
 use Rattle.targets.proofs.star_row.Goals as goal
 
 pub loop-v-init : goal.loop-v-init

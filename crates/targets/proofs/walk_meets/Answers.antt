@@ -1,7 +1,6 @@
 -- `targets::walk_meets` meets its contract: each arm is a case of the definition.
 use mathlib.Core.Path.{sym, ◌∙◌, ap}
 use Rattle.matrix.specs.Owners.{meets}
-use borrow.Author.Rules.{rules}
 use Rattle.targets.proofs.walk_meets.Goals as goal
 
 pub returns-in-Meets : goal.returns-in-Meets

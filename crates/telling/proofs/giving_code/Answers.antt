@@ -1,6 +1,5 @@
 -- `telling::giving_code` meets its contract: each arm is a case of the definition.
 use Rattle.telling.specs.Parts.{giving_control, giving_plain, giving_starred}
-use borrow.Author.Rules.{rules}
 use Rattle.telling.proofs.giving_code.Goals as goal
 
 pub returns-in-Control : goal.returns-in-Control

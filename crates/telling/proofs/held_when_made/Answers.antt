@@ -1,7 +1,6 @@
 -- `telling::held_when_made` meets its contract: the creator has what own makes held, and a subject control of itself.
 use mathlib.Core.Path.{refl}
 use Rattle.telling.specs.Parts.{made_owned, made_control}
-use borrow.Author.Rules.{rules}
 use Rattle.telling.proofs.held_when_made.Goals as goal
 
 pub returns-in-Own : goal.returns-in-Own

@@ -1,10 +1,8 @@
 -- `telling::is_among` meets its contract.
 use borrow.Author.Rules.{rules}
-use Prim.Native.Nat.{◌-◌, ◌≤◌}
-use mathlib.Core.Path.{◌≡◌, sym, ◌∙◌}
+use Prim.Native.Nat.{◌-◌}
+use mathlib.Core.Path.{sym, ◌∙◌}
 use mathlib.Core.Bool.{false}
-use Rattle.route.specs.Parts.{among}
-use Rattle.ways.specs.Path.{listed}
 use Rattle.telling.specs.Paths.{among_none, among_more, among_done, among_hit}
 use Rattle.telling.proofs.is_among.Goals as goal
 

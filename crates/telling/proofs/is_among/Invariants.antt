@@ -1,11 +1,9 @@
 -- The invariant: s is none of the subjects before t.
-use borrow.Author.Rules.{rules}
 use Prim.Native.Nat.{◌-◌, ◌≤◌}
-use mathlib.Core.Path.{◌≡◌, sym, ◌∙◌}
+use mathlib.Core.Path.{◌≡◌}
 use mathlib.Core.Bool.{false}
 use Rattle.route.specs.Parts.{among}
 use Rattle.ways.specs.Path.{listed}
-use Rattle.telling.specs.Paths.{among_none, among_more, among_done, among_hit}
 use Rattle.telling.proofs.is_among.Given as goal
 
 abbrev pub invariant-loop-t : goal.invariant-loop-t

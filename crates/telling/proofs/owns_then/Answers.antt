@@ -1,7 +1,6 @@
 -- `telling::owns_then` meets its contract.
 use mathlib.Core.Path.{refl}
 use Rattle.telling.specs.Parts.{owned}
-use borrow.Author.Rules.{rules}
 use Rattle.telling.proofs.owns_then.Goals as goal
 
 pub returns-in-Own : goal.returns-in-Own

@@ -2,7 +2,6 @@
 use Rattle.telling.specs.Tells.{tells_skipped, tells_chosen, tells_then}
 use native.Mathlib.Omega.{arith}
 use Rattle.telling.specs.Parts.{pair_first, pair_after, pair_chosen}
-use borrow.Author.Rules.{rules}
 use Rattle.telling.proofs.put_again.Goals as goal
 
 pub put_destroy-next-requires : goal.put_destroy-next-requires

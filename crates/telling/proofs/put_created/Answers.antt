@@ -1,7 +1,6 @@
 -- `telling::put_created` meets its contract.
 use Rattle.telling.specs.Tells.{tells_skipped, tells_chosen}
 use Rattle.telling.specs.Parts.{pair_chosen}
-use borrow.Author.Rules.{rules}
 use Rattle.telling.proofs.put_created.Goals as goal
 
 pub put_create-requires : goal.put_create-requires

@@ -3,7 +3,6 @@ use native.Mathlib.Omega.{arith}
 use mathlib.Core.Path.{refl}
 use Rattle.telling.specs.Tells.{tells_only, tells_more}
 use Rattle.telling.specs.Parts.{part_after, part_weak, pair_over}
-use borrow.Author.Rules.{rules}
 use Rattle.telling.proofs.put_creation.Goals as goal
 
 pub put_name-next-requires : goal.put_name-next-requires

@@ -1,8 +1,7 @@
 -- `telling::put_destroys` meets its contract.
-use borrow.Author.Rules.{rules}
 use Prim.Native.Nat.{◌-◌}
 use native.Mathlib.Omega.{arith}
-use Rattle.telling.specs.Paths.{Reached, reached_none, reached_length, destroy_pair, reached_more, reached_all}
+use Rattle.telling.specs.Paths.{reached_none, reached_length, destroy_pair, reached_more, reached_all}
 use Rattle.telling.proofs.put_destroys.Goals as goal
 
 pub loop-t-init : goal.loop-t-init

@@ -2,7 +2,6 @@
 use Rattle.telling.specs.Tells.{tells_then}
 use mathlib.Core.Bool.{cond}
 use Rattle.telling.specs.Parts.{pair_over, creating_pair, after_again, after_creating, tells_again}
-use borrow.Author.Rules.{rules}
 use Rattle.telling.proofs.put_finish.Goals as goal
 
 pub put_again-after-requires : goal.put_again-after-requires

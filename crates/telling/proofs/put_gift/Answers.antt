@@ -1,7 +1,6 @@
 -- `telling::put_gift` meets its contract.
 use native.Mathlib.Omega.{arith}
 use Rattle.telling.specs.Parts.{giving_small, part_room, tells_gift}
-use borrow.Author.Rules.{rules}
 use Rattle.telling.proofs.put_gift.Goals as goal
 
 pub put_one-requires : goal.put_one-requires

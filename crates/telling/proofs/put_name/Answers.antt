@@ -1,6 +1,5 @@
 -- `telling::put_name` meets its contract: the command by the kind of the name.
 use Rattle.telling.specs.Parts.{subject_pair, plain_room, tells_name}
-use borrow.Author.Rules.{rules}
 use Rattle.telling.proofs.put_name.Goals as goal
 
 pub put_create-requires : goal.put_create-requires

@@ -1,6 +1,5 @@
 -- `telling::put_one` meets its contract.
 use Rattle.telling.specs.Tells.{tells_one}
-use borrow.Author.Rules.{rules}
 use Rattle.telling.proofs.put_one.Goals as goal
 
 pub returns : goal.returns

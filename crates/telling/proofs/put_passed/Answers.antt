@@ -1,7 +1,6 @@
 -- `telling::put_passed` meets its contract.
 use native.Mathlib.Omega.{arith}
 use Rattle.telling.specs.Parts.{passing_small, part_room, tells_passed}
-use borrow.Author.Rules.{rules}
 use Rattle.telling.proofs.put_passed.Goals as goal
 
 pub put_one-requires : goal.put_one-requires

@@ -1,7 +1,6 @@
 -- `telling::put_star` meets its contract.
 use Rattle.telling.specs.Tells.{tells_then}
 use Rattle.telling.specs.Parts.{after_created, pair_to, pair_weak}
-use borrow.Author.Rules.{rules}
 use Rattle.telling.proofs.put_star.Goals as goal
 
 pub put_created-next-requires : goal.put_created-next-requires

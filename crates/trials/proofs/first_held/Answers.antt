@@ -1,5 +1,4 @@
 -- `trials::first_held` meets its contract.
-use borrow.Author.Rules.{rules}
 use Prim.Native.Nat.{◌≤◌}
 use mathlib.Core.Path.{◌≡◌, sym, ◌∙◌, ap}
 use mathlib.Core.Bool.{false, not}
@@ -13,7 +12,7 @@ use Rattle.matrix.specs.Record.{record_refusal}
 use Rattle.matrix.specs.Shaped.{Octets}
 use Rattle.matrix.specs.CommandList.{well_formed}
 use Rattle.matrix.specs.Calls.{question_fits}
-use Rattle.owners.specs.Read.{valid_record}
+use Rattle.owners.proofs.Read.{valid_record}
 use Rattle.cells.specs.Station.{Station, right_shape}
 use Rattle.opening.specs.Opened.{station_of, long_enough}
 use Rattle.holding.specs.Asked.{cell_asked}

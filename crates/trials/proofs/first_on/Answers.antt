@@ -1,17 +1,12 @@
 -- `trials::first_on` meets its contract.
-use borrow.Author.Rules.{rules}
-use Prim.Native.Nat.{◌-◌, ◌≤◌}
+use Prim.Native.Nat.{◌-◌}
 use native.Mathlib.Omega.{arith}
-use lib.ListN.{length}
-use mathlib.Core.Path.{◌≡◌, refl, sym, ◌∙◌}
-use Rattle.matrix.specs.Shape.{most_subjects}
-use Rattle.matrix.specs.CommandList.{commands_in}
+use mathlib.Core.Path.{refl, sym, ◌∙◌}
 use Rattle.lists.specs.Formed.{formed}
 use Rattle.states.specs.Needs.{guessed_at}
-use Rattle.reader.specs.Left.{yields_command, yields_end}
-use Rattle.runs.specs.Reached.{Reached}
+use Rattle.reader.proofs.Left.{yields_command, yields_end}
 use Rattle.runs.specs.Steps.{reached_none, reached_as}
-use Rattle.trials.specs.Steps.{found_from, found, found_never, found_refused, found_later}
+use Rattle.trials.specs.Steps.{found, found_never, found_refused, found_later}
 use Rattle.trials.proofs.first_on.Goals as goal
 
 pub loop-f-init : goal.loop-f-init

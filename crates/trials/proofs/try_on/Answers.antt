@@ -1,10 +1,8 @@
 -- `trials::try_on` meets its contract: after copying the copy is the record.
-use borrow.Author.Rules.{rules}
-use mathlib.Core.Path.{◌≡◌, sym, ◌∙◌, ap, subst}
+use mathlib.Core.Path.{sym, ◌∙◌, ap, subst}
 use Rattle.matrix.specs.FirstHeld.{first_on}
 use Rattle.cells.specs.Station.{Cell}
 use Rattle.states.specs.Needs.{Guessed}
-use Rattle.laws.specs.Copied.{copied_over}
 use Rattle.trials.proofs.try_on.Goals as goal
 
 pub copy_from_slice-requires : goal.copy_from_slice-requires

@@ -1,7 +1,6 @@
 -- `validity::few_columns` meets its contract.
 use mathlib.Core.Path.{sym}
 use mathlib.Core.Bool.{true≢false}
-use borrow.Author.Rules.{rules}
 use Rattle.validity.proofs.few_columns.Goals as goal
 
 pub returns-then-f-ne2 : goal.returns-then-f-ne2

@@ -4,8 +4,6 @@ use native.Mathlib.Omega.{arith}
 use mathlib.Core.Path.{◌≡◌, refl, sym, ◌∙◌, ap, subst}
 use mathlib.Core.Logic.{inl}
 use mathlib.Core.Bool.{true≢false}
-use borrow.Author.Rules.{rules}
-use borrow.Author.Tests.{not-false}
 use Rattle.matrix.specs.declared.Shape.{Shape}
 use Rattle.codec.specs.ShapeRight.{ShapeRight}
 use Rattle.cells.specs.Station.{right_shape}

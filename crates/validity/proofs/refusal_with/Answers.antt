@@ -1,16 +1,11 @@
 -- `validity::refusal_with` meets its contract. The tests 1 to 5, one after the other; each refusal by the law of its number.
 use mathlib.Core.Path.{◌≡◌, sym, ◌∙◌}
 use mathlib.Core.Bool.{true}
-use borrow.Author.Tests.{not-true, not-false}
-use Prim.Native.Nat.{ℕ}
-use mathlib.Core.List.{List}
-use Rattle.matrix.specs.declared.Shape.{Shape}
 use Rattle.matrix.specs.Shape.{limits, shape_of, known_version, in_range, sized}
 use Rattle.matrix.specs.Shaped.{Octets}
 use Rattle.header.specs.Headed.{Headed}
 use Rattle.validity.specs.Header.{refused_1, refused_2, refused_3, refused_4, refused_5, refused_none}
 use Rattle.validity.specs.Whole.{unread, version_read, range_read, headed, station_read}
-use borrow.Author.Rules.{rules}
 use Rattle.validity.proofs.refusal_with.Goals as goal
 use Rattle.validity.proofs.refusal_with.Goals.{After-shape-f, Else-not-in_range, Else-not-known_version, Else-not-right_size}
 

@@ -2,7 +2,6 @@
 use mathlib.Core.Path.{sym}
 use mathlib.Core.Bool.{true≢false}
 use Rattle.cells.specs.Station.{right_shape}
-use borrow.Author.Rules.{rules}
 use Rattle.validity.proofs.surely_valid.Goals as goal
 
 pub few_columns-requires : goal.few_columns-requires

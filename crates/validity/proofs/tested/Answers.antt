@@ -3,10 +3,10 @@ use Prim.Native.Nat.{ℕ, ◌+◌, ◌/◌}
 use native.Mathlib.Omega.{arith}
 use mathlib.Core.Path.{◌≡◌, refl, sym, ◌∙◌, subst}
 use mathlib.Core.Bool.{true}
-use borrow.Author.Tests.{not-true, not-false}
 use Rattle.matrix.specs.Bounded.{all}
 use Rattle.matrix.specs.declared.Shape.{Shape}
-use Rattle.codec.specs.ShapeRight.{ShapeRight, two_or_four}
+use Rattle.codec.specs.ShapeRight.{ShapeRight}
+use Rattle.codec.proofs.ShapeRight.{two_or_four}
 use Rattle.cells.specs.Station.{right_shape}
 use Rattle.lanes.specs.declared.Matrix.{Matrix}
 use Rattle.lanes.specs.Lanes.{seen_at, Counted}
@@ -15,7 +15,6 @@ use Rattle.columns.specs.Checks.{subject_test, Celled}
 use Rattle.plains.specs.Checks.{plain_test}
 use Rattle.validity.specs.Header.{lanes_celled}
 use Rattle.validity.specs.Whole.{Scanned, table_size, table_inside, subjects_wrong, plain_wrong, owners_left}
-use borrow.Author.Rules.{rules}
 use Rattle.validity.proofs.tested.Goals as goal
 use Rattle.validity.proofs.tested.Goals.{After-count, After-lanes_of, Else-not-plains, Else-not-subjects, Start}
 
@@ -76,7 +75,7 @@ subjects-requires c =
 pub returns-then-not-subjects : goal.returns-then-not-subjects
 returns-then-not-subjects c =
     let r =
-        subjects_wrong _ _ _ _ _ _ _ (scanned (goal.at.returns-then-not-subjects c).After-count) c.args.owners.now c.requires.1 (sym c.subjects.ensures ∙ c.if-not-subjects.true) in
+    subjects_wrong _ _ _ _ _ _ _ (scanned (goal.at.returns-then-not-subjects c).After-count) c.args.owners.now c.requires.1 (sym c.subjects.ensures ∙ c.if-not-subjects.true) in
     record { verdict = r.0; table = r.1 }
 
 pub plains-requires : goal.plains-requires
@@ -97,7 +96,7 @@ plains-pass c = sym c.plains.ensures ∙ c.if-not-plains.false
 pub returns-then-not-plains : goal.returns-then-not-plains
 returns-then-not-plains c =
     let r =
-        plain_wrong _ _ _ _ _ _ _ (scanned (goal.at.returns-then-not-plains c).After-count) c.args.owners.now c.requires.1 (subjects-pass (goal.at.returns-then-not-plains c).Else-not-subjects) (sym c.plains.ensures ∙ c.if-not-plains.true) in
+    plain_wrong _ _ _ _ _ _ _ (scanned (goal.at.returns-then-not-plains c).After-count) c.args.owners.now c.requires.1 (subjects-pass (goal.at.returns-then-not-plains c).Else-not-subjects) (sym c.plains.ensures ∙ c.if-not-plains.true) in
     record { verdict = r.0; table = r.1 }
 
 pub owners-requires : goal.owners-requires
@@ -117,5 +116,5 @@ rooted-requires c =
 pub returns : goal.returns
 returns c =
     let r =
-        owners_left _ _ _ _ _ _ _ (scanned (goal.at.returns c).After-count) c.args.owners.now c.requires.1 _ (subjects-pass (goal.at.returns c).Else-not-subjects) (plains-pass (goal.at.returns c).Else-not-plains) c.owners.ensures _ c.rooted.ensures in
+    owners_left _ _ _ _ _ _ _ (scanned (goal.at.returns c).After-count) c.args.owners.now c.requires.1 _ (subjects-pass (goal.at.returns c).Else-not-subjects) (plains-pass (goal.at.returns c).Else-not-plains) c.owners.ensures _ c.rooted.ensures in
     record { verdict = r.0; table = r.1 }

@@ -1,5 +1,4 @@
 -- `validity::valid` meets its contract.
-use borrow.Author.Rules.{rules}
 use Rattle.validity.proofs.valid.Goals as goal
 
 pub returns-then-surely_valid : goal.returns-then-surely_valid

@@ -2,7 +2,6 @@
 use mathlib.Core.Path.{refl}
 use Rattle.states.specs.Reads.{named_subject}
 use Rattle.verdict.specs.Late.{control_judged, not_plain}
-use borrow.Author.Rules.{rules}
 use Rattle.verdict.proofs.control_granted.Goals as goal
 
 pub controlled-requires : goal.controlled-requires

@@ -3,7 +3,6 @@ use mathlib.Core.Path.{refl, ◌∙◌, ap}
 use Rattle.matrix.specs.declared.Act.TheVariants.{Grant}
 use Rattle.matrix.specs.declared.Right.{Right}
 use Rattle.verdict.specs.Late.{pass_judged}
-use borrow.Author.Rules.{rules}
 use Rattle.verdict.proofs.granted.Goals as goal
 
 pub control_granted-requires : goal.control_granted-requires

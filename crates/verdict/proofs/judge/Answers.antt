@@ -2,7 +2,6 @@
 use mathlib.Core.Path.{sym, ◌∙◌}
 use Rattle.verdict.specs.Stages.{early_kind}
 use Rattle.verdict.specs.Late.{judged_early, judged_late}
-use borrow.Author.Rules.{rules}
 use Rattle.verdict.proofs.judge.Goals as goal
 
 pub returns-then-first-ne0 : goal.returns-then-first-ne0

@@ -1,14 +1,12 @@
 -- `verdict::judge_early` meets its contract: each return rewrites with the tests that led there.
 use mathlib.Core.Path.{◌≡◌, sym, ◌∙◌, ap}
 use mathlib.Core.Bool.{true}
-use borrow.Author.Tests.{not-true, not-false}
 use Rattle.verdict.specs.Stages.{early_8, early_9, early_10, early_11}
 use Rattle.matrix.specs.declared.Kind.{Kind}
 use Rattle.matrix.specs.State.{exists}
 use Rattle.matrix.specs.Commands.{kind_of}
 use Rattle.matrix.specs.Tests.{kind_fits, present}
 use Rattle.matrix.specs.Reading.{state_of}
-use borrow.Author.Rules.{rules}
 use Rattle.verdict.proofs.judge_early.Goals as goal
 use Rattle.verdict.proofs.judge_early.Goals.{After-kind_fits, Else-not-kind_fits, Else-not-names_present, Else-not-subject_exists}
 

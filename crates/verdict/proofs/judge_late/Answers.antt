@@ -1,12 +1,10 @@
 -- `verdict::judge_late` meets its contract.
 use mathlib.Core.Path.{◌≡◌, refl, sym, ◌∙◌}
 use mathlib.Core.Bool.{true}
-use borrow.Author.Tests.{not-true, not-false}
 use Rattle.matrix.specs.Tests.{permitted}
 use Rattle.matrix.specs.Reading.{state_of}
 use Rattle.verdict.specs.Judged.{Entitled}
 use Rattle.verdict.specs.Late.{denied, unset, pass_judged}
-use borrow.Author.Rules.{rules}
 use Rattle.verdict.proofs.judge_late.Goals as goal
 use Rattle.verdict.proofs.judge_late.Goals.{Else-not-is_deletable, Else-not-is_permitted}
 

@@ -1,6 +1,5 @@
 -- `verdict::own_transferred` meets its contract.
 use Rattle.verdict.specs.Late.{own_judged, object_judged}
-use borrow.Author.Rules.{rules}
 use Rattle.verdict.proofs.own_transferred.Goals as goal
 
 pub returns-in-Meets : goal.returns-in-Meets

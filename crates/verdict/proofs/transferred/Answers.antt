@@ -3,7 +3,6 @@ use mathlib.Core.Path.{refl, ◌∙◌, ap}
 use Rattle.matrix.specs.declared.Act.TheVariants.{Transfer}
 use Rattle.matrix.specs.declared.Right.{Right}
 use Rattle.verdict.specs.Late.{pass_judged}
-use borrow.Author.Rules.{rules}
 use Rattle.verdict.proofs.transferred.Goals as goal
 
 pub own_transferred-requires : goal.own_transferred-requires

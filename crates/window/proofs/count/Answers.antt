@@ -2,7 +2,6 @@
 use native.Mathlib.Omega.{arith}
 use mathlib.Core.Path.{sym, ◌∙◌}
 use Rattle.window.specs.Answered.{named_of, count_shown}
-use borrow.Author.Rules.{rules}
 use Rattle.window.proofs.count.Goals as goal
 
 pub count_at-requires : goal.count_at-requires

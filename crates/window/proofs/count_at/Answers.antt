@@ -3,7 +3,6 @@ use native.Mathlib.Omega.{arith}
 use Prim.Native.Nat.{ℕ, ◌+◌, ◌*◌}
 use mathlib.Core.Path.{sym, ◌∙◌, ap₂}
 use Rattle.codec.specs.Numbers.{two_read}
-use borrow.Author.Rules.{rules}
 use Rattle.window.proofs.count_at.Goals as goal
 
 pub returns : goal.returns

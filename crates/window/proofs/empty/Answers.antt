@@ -1,10 +1,11 @@
 -- `window::empty` meets its contract.
-use Prim.Native.Nat.{ℕ, ◌≤◌, ◌<◌, ◌-◌}
+use Prim.Native.Nat.{◌-◌}
 use native.Mathlib.Omega.{arith}
 use mathlib.Core.Path.{◌≡◌, refl, ◌∙◌}
-use lib.ListN.{length, get_or, length-set}
+use lib.ListN.{length, length-set}
 use Rattle.history.specs.Window.{window_bytes}
-use Rattle.window.specs.Shown.{zeros_show, zero_more}
+use Rattle.window.specs.Shown.{zero_more}
+use Rattle.window.proofs.Shown.{zeros_show}
 use Rattle.window.proofs.empty.Goals as goal
 
 pub returns-then-w-ne-WINDOW_BYTES : goal.returns-then-w-ne-WINDOW_BYTES

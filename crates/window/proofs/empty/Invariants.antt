@@ -1,10 +1,8 @@
 -- The loop's invariant: the bytes passed are zero.
 use Prim.Native.Nat.{ℕ, ◌≤◌, ◌<◌, ◌-◌}
-use native.Mathlib.Omega.{arith}
-use mathlib.Core.Path.{◌≡◌, refl, ◌∙◌}
-use lib.ListN.{length, get_or, length-set}
+use mathlib.Core.Path.{◌≡◌}
+use lib.ListN.{length, get_or}
 use Rattle.history.specs.Window.{window_bytes}
-use Rattle.window.specs.Shown.{zeros_show, zero_more}
 use Rattle.window.proofs.empty.Given as goal
 
 abbrev pub invariant-loop-j : goal.invariant-loop-j

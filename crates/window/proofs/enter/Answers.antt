@@ -8,8 +8,8 @@ use Rattle.matrix.specs.Bytes.{set_number}
 use Rattle.history.specs.Entries.{window_numbers}
 use Rattle.history.specs.Window.{count_place}
 use Rattle.window.specs.Changed.{lowered, placed, raised, entered}
-use Rattle.window.specs.Bytes.{byte_few, length_entered}
-use borrow.Author.Rules.{rules}
+use Rattle.window.specs.Bytes.{byte_few}
+use Rattle.window.proofs.Bytes.{length_entered}
 use Rattle.window.proofs.enter.Goals as goal
 use Rattle.window.proofs.enter.Goals.{After-slice_known-4-1}
 

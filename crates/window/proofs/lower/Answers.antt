@@ -5,8 +5,7 @@ use mathlib.Core.Path.{sym, ◌∙◌, ap}
 use Rattle.matrix.specs.Bytes.{set_number}
 use Rattle.history.specs.Window.{count_place}
 use Rattle.window.specs.Changed.{initiator_of, refused_bit}
-use Rattle.window.specs.Bytes.{lowered_beyond, lowered_within}
-use borrow.Author.Rules.{rules}
+use Rattle.window.proofs.Bytes.{lowered_beyond, lowered_within}
 use Rattle.window.proofs.lower.Goals as goal
 
 pub returns-then-leaving-gt-WINDOW_NUMBERS : goal.returns-then-leaving-gt-WINDOW_NUMBERS

@@ -2,9 +2,9 @@
 use native.Mathlib.Omega.{arith}
 use mathlib.Core.Path.{sym, ◌∙◌, ap}
 use Rattle.window.specs.Changed.{entered}
-use Rattle.window.specs.Shown.{one_few}
-use Rattle.window.specs.Answered.{named_of, put_refused, put_other, put_taken}
-use borrow.Author.Rules.{rules}
+use Rattle.window.proofs.Shown.{one_few}
+use Rattle.window.specs.Answered.{named_of}
+use Rattle.window.proofs.Answered.{put_refused, put_other, put_taken}
 use Rattle.window.proofs.put.Goals as goal
 
 pub returns-then-refusal-ne0 : goal.returns-then-refusal-ne0

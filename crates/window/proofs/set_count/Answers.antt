@@ -3,7 +3,6 @@ use native.Mathlib.Omega.{arith}
 use mathlib.Core.Path.{sym}
 use lib.ListN.{length-set}
 use Rattle.codec.specs.Numbers.{two_stored}
-use borrow.Author.Rules.{rules}
 use Rattle.window.proofs.set_count.Goals as goal
 
 pub bounds-w-at-2 : goal.bounds-w-at-2

@@ -1,5 +1,4 @@
 -- `writing::put_command` meets its contract: the six stores are those of the definition.
-use borrow.Author.Rules.{rules}
 use native.Mathlib.Omega.{arith}
 use mathlib.Core.Path.{refl}
 use lib.ListN.{length-set}

@@ -1,5 +1,4 @@
 -- `writing::put_head` meets its contract: the five stores are those of the definition.
-use borrow.Author.Rules.{rules}
 use native.Mathlib.Omega.{arith}
 use mathlib.Core.Path.{refl}
 use lib.ListN.{length-set}

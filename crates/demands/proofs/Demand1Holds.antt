@@ -24,15 +24,15 @@ use Rattle.matrix.specs.Record.{record_refusal}
 use Rattle.matrix.specs.Calls.{valid_answer, question_fits, held_refusal, holds_on, held_answer, held_result, refusal_on, links_on, command_answer, command_result, command_bytes}
 use Rattle.laws.specs.Tests.{way, clash, fails, or_cases}
 use Rattle.laws.specs.Numbers.{answer_number, held_numbers_lem, command_numbers_lem}
-use Rattle.owners.specs.Read.{valid_record}
+use Rattle.owners.proofs.Read.{valid_record}
 use Rattle.question.specs.declared.Safety.{Safety}
 use Rattle.question.specs.Numbers.{safety_numbers}
 use Rattle.question.specs.Asked.{safety_refusal, Decided, Answers}
 use Rattle.demands.specs.First.{condition, NoneHolds, Numbered}
 use Rattle.demands.specs.FirstLaws.{numbered_then, numbered_among, none_before}
 use Rattle.demands.specs.Printed.{record_conditions, command_conditions, held_conditions, given_conditions, safety_conditions}
-use Rattle.demands.specs.Refusals.{record_numbered, command_numbered, held_numbered, safety_numbered}
-use Rattle.demands.specs.RunHolds.{run_right}
+use Rattle.demands.proofs.Refusals.{record_numbered, command_numbered, held_numbered, safety_numbered}
+use Rattle.demands.proofs.RunHolds.{run_right}
 use Rattle.demands.specs.Demand1.{AbsentName, HeldRight, CommandRight, SafetyRight, Demand1}
 
 -- ---- held

@@ -36,17 +36,18 @@ use Rattle.laws.specs.Numbers.{command_numbers_lem}
 use Rattle.codec.specs.Bits.{from_bits_same}
 use Rattle.codec.specs.Cells.{cell_inside}
 use Rattle.codec.specs.Numbers.{bytes_number_at}
-use Rattle.codec.specs.Written.{length_header, shaped_write, cell_write}
+use Rattle.codec.proofs.Written.{length_header, shaped_write, cell_write}
 use Rattle.codec.specs.RoundTrip.{read_write}
-use Rattle.owners.specs.Read.{record_shaped, record_links}
-use Rattle.frame.specs.Untouched.{untouched_next}
+use Rattle.owners.specs.Read.{record_shaped}
+use Rattle.owners.proofs.Read.{record_links}
+use Rattle.frame.proofs.Untouched.{untouched_next}
 use Rattle.frame.specs.Answers.{links_only, links_only_three, links_only_subjects}
 use Rattle.demands.specs.First.{NoneHolds}
 use Rattle.demands.specs.Printed.{run_conditions}
-use Rattle.demands.specs.Refusals.{run_numbered}
+use Rattle.demands.proofs.Refusals.{run_numbered}
 use Rattle.demands.specs.Records.{passes, valid_so, Sound, sound_record, content_read, bytes_pass, bytes_octets, sound_next, sound_run}
-use Rattle.demands.specs.Turns.{run_valid}
-use Rattle.demands.specs.Demand1Holds.{command_number}
+use Rattle.demands.proofs.Turns.{run_valid}
+use Rattle.demands.proofs.Demand1Holds.{command_number}
 use Rattle.demands.specs.Demand2.{cell_bytes, Unnamed, NextRight, Allowed, refusal_for, links_for, RunLeaves, Demand2}
 
 -- ---- records and what they hold

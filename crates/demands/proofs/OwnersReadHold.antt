@@ -22,8 +22,8 @@ use Rattle.steps.specs.Runs.{leaks_unsafe}
 use Rattle.demands.specs.First.{condition, NoneHolds}
 use Rattle.demands.specs.FirstLaws.{none_before, none_after, none_both}
 use Rattle.demands.specs.Printed.{record_conditions, safety_conditions}
-use Rattle.demands.specs.Refusals.{held_numbered}
-use Rattle.demands.specs.Demand3Holds.{demand_3}
+use Rattle.demands.proofs.Refusals.{held_numbered}
+use Rattle.demands.proofs.Demand3Holds.{demand_3}
 use Rattle.demands.specs.OwnersRead.{OwnersRead}
 
 -- the last of some tests put first

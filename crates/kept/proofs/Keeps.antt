@@ -21,8 +21,9 @@ use Rattle.laws.specs.Passed.{taken}
 use Rattle.owners.specs.Framed.{valid_framed, owned_not_root}
 use Rattle.kept.specs.Allowed.{Allowed, allowed}
 use Rattle.kept.specs.Bits.{basic_keeps, object_keeps, control_keeps, object_destroyed}
-use Rattle.kept.specs.Transferred.{transfer_keeps, handed_lasts}
-use Rattle.kept.specs.Subjects.{created_keeps, destroyed_keeps}
+use Rattle.kept.proofs.Transferred.{transfer_keeps, handed_lasts}
+use Rattle.kept.specs.Subjects.{created_keeps}
+use Rattle.kept.proofs.Subjects.{destroyed_keeps}
 
 -- the change of each command that passed its tests
 act_keeps : (S : State) (c : Command) (a : Act) → Valid S → Allowed S c a → Valid (change S c a)

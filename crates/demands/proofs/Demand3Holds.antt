@@ -20,7 +20,7 @@ use Rattle.steps.specs.Runs.{leaks_unsafe}
 use Rattle.demands.specs.First.{condition, Condition, NoneHolds}
 use Rattle.demands.specs.FirstLaws.{none_before, none_after, none_both}
 use Rattle.demands.specs.Printed.{record_conditions, safety_conditions}
-use Rattle.demands.specs.Refusals.{record_numbered, run_numbered, safety_numbered}
+use Rattle.demands.proofs.Refusals.{record_numbered, run_numbered, safety_numbered}
 use Rattle.demands.specs.Records.{Sound, sound_record, sound_run, content_read, bytes_pass}
 use Rattle.demands.specs.Demand3.{list_in, LeaksRight, Leaks, Decides, Demand3}
 

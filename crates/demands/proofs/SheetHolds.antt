@@ -16,7 +16,7 @@ use Rattle.laws.specs.Tests.{and_left, and_right, and_both}
 use Rattle.laws.specs.Changed.{has_put_other}
 use Rattle.laws.specs.Passed.{Passed, all_passed, tests_passed, taken}
 use Rattle.codec.specs.Columns.{put_set}
-use Rattle.kept.specs.Keeps.{transfer_lasts}
+use Rattle.kept.proofs.Keeps.{transfer_lasts}
 use Rattle.frame.specs.Untouched.{refused_same}
 use Rattle.demands.specs.Row.{AllHold, raw, Row}
 use Rattle.demands.specs.Sheet.{Sheet}

@@ -21,15 +21,17 @@ use Rattle.matrix.specs.Converting.{in_version, basic_from, convert_refusal, con
 use Rattle.laws.specs.Tests.{way, fails_not}
 use Rattle.laws.specs.Passed.{none_failed, all_passed}
 use Rattle.laws.specs.Basics.{basic_same}
-use Rattle.codec.specs.ShapeRight.{TwoOrFour, widths}
-use Rattle.codec.specs.Written.{length_write}
+use Rattle.codec.specs.ShapeRight.{TwoOrFour}
+use Rattle.codec.proofs.ShapeRight.{widths}
+use Rattle.codec.proofs.Written.{length_write}
 use Rattle.codec.specs.RoundTrip.{within_read, read_write}
-use Rattle.codec.specs.InVersion.{own_version, right_version, none_without_room, within_version}
+use Rattle.codec.specs.InVersion.{own_version, none_without_room}
+use Rattle.codec.proofs.InVersion.{right_version, within_version}
 use Rattle.owners.specs.Read.{record_shaped}
 use Rattle.demands.specs.First.{condition, Among}
 use Rattle.demands.specs.FirstLaws.{numbered_among, none_both}
 use Rattle.demands.specs.Printed.{record_conditions, record_bytes, version1_conditions, version2_conditions}
-use Rattle.demands.specs.Refusals.{record_numbered, version1_numbered, version2_numbered}
+use Rattle.demands.proofs.Refusals.{record_numbered, version1_numbered, version2_numbered}
 use Rattle.demands.specs.Records.{passes, valid_so, Sound, sound_record, content_read, bytes_pass, bytes_octets}
 use Rattle.demands.specs.Conversions.{refusal_to, value_to, record_to, NewRecord, Returned, enough_output, Conversions}
 

@@ -22,11 +22,11 @@ use Rattle.lists.specs.Formed.{length_commands}
 use Rattle.demands.specs.First.{condition, Condition, First, NoneHolds, Among}
 use Rattle.demands.specs.FirstLaws.{numbered_among, none_before, none_after, none_both, among_outside, among_inside}
 use Rattle.demands.specs.Printed.{record_conditions, command_conditions, run_conditions}
-use Rattle.demands.specs.Refusals.{command_numbered, run_numbered}
+use Rattle.demands.proofs.Refusals.{command_numbered, run_numbered}
 use Rattle.demands.specs.InTurn.{Ended, in_turn, refusal_number, first_commands}
-use Rattle.demands.specs.Turns.{run_turns, bytes_turns}
+use Rattle.demands.proofs.Turns.{run_turns, bytes_turns}
 use Rattle.demands.specs.Shortened.{cut_formed, cut_commands}
-use Rattle.demands.specs.Stopped.{Stopped, stopped, command_at}
+use Rattle.demands.proofs.Stopped.{Stopped, stopped, command_at}
 use Rattle.demands.specs.Demand1.{StoppedAfter, TurnedDown, RunRight}
 
 -- the refusals of a record, of a command on it, and of a list

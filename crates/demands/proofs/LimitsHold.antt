@@ -13,7 +13,7 @@ use Rattle.question.specs.declared.Safety.{Safety}
 use Rattle.question.specs.Asked.{safety_refusal, Answers}
 use Rattle.demands.specs.First.{First}
 use Rattle.demands.specs.Printed.{OutOfRange, safety_conditions}
-use Rattle.demands.specs.Refusals.{safety_numbered}
+use Rattle.demands.proofs.Refusals.{safety_numbered}
 use Rattle.demands.specs.Limits.{limits_before, NotAbove, SameCalls, enough, LimitsMoved}
 
 -- what one test lets pass the other does

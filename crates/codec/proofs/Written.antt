@@ -17,7 +17,8 @@ use Rattle.matrix.specs.Bytes.{number_at, bytes_of_number, joined}
 use Rattle.matrix.specs.Shape.{shape_of, columns, count_of, bits_of, size_of, cell_place}
 use Rattle.matrix.specs.Reading.{cell_at, content, cell_of, row_of, header, bytes_of}
 use Rattle.matrix.specs.Shaped.{Shaped, Octets}
-use Rattle.codec.specs.ShapeRight.{ShapeRight, most_bytes, versions, size_most}
+use Rattle.codec.specs.ShapeRight.{ShapeRight, most_bytes, versions}
+use Rattle.codec.proofs.ShapeRight.{size_most}
 use Rattle.codec.specs.Bits.{from_bits_below}
 use Rattle.codec.specs.Numbers.{number_at_agree, number_at_bytes, length_bytes_of_number, octets_bytes_of_number, pow_bytes}
 use Rattle.codec.specs.Blocks.{length_joined, get_or_joined, octets_nil, octets_cons, octets_append, octets_joined}

@@ -27,7 +27,7 @@ use Rattle.demands.specs.FirstLaws.{numbered_among}
 use Rattle.demands.specs.InTurn.{first_commands}
 use Rattle.demands.specs.Printed.{first_held_conditions}
 use Rattle.demands.specs.Records.{Sound, sound_record, sound_run, content_read, bytes_pass}
-use Rattle.demands.specs.Refusals.{first_held_numbered}
+use Rattle.demands.proofs.Refusals.{first_held_numbered}
 use Rattle.demands.specs.Shortened.{cut_formed, cut_commands}
 use Rattle.found.specs.FirstHeld.{refusal_asked, value_asked, HeldAfter, FirstAfter, FirstHeld}
 use Rattle.found.specs.Searched.{HeldAt, Found, Never, searched, all_accepted}

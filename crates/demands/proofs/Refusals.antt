@@ -25,10 +25,11 @@ use Rattle.laws.specs.Passed.{itself}
 use Rattle.laws.specs.Basics.{SetFrom, basic_found, basic_hit, basic_none}
 use Rattle.laws.specs.Range.{Ranged, ranged}
 use Rattle.codec.specs.Columns.{column_of_name_of}
-use Rattle.codec.specs.ShapeRight.{TwoOrFour, widths}
+use Rattle.codec.specs.ShapeRight.{TwoOrFour}
+use Rattle.codec.proofs.ShapeRight.{widths}
 use Rattle.codec.specs.RoundTrip.{within_read}
 use Rattle.codec.specs.InVersion.{basic_room}
-use Rattle.owners.specs.Test.{valid_of_test, test_of_valid}
+use Rattle.owners.proofs.Test.{valid_of_test, test_of_valid}
 use Rattle.owners.specs.Read.{record_tests}
 use Rattle.question.specs.Asked.{trust_fits, list_room, safety_refusal}
 use Rattle.demands.specs.First.{Condition, condition, Numbered}

@@ -19,7 +19,7 @@ use Rattle.owners.specs.Read.{record_shaped}
 use Rattle.demands.specs.First.{condition}
 use Rattle.demands.specs.FirstLaws.{none_before}
 use Rattle.demands.specs.Printed.{record_conditions}
-use Rattle.demands.specs.Refusals.{record_numbered, run_numbered}
+use Rattle.demands.proofs.Refusals.{record_numbered, run_numbered}
 use Rattle.demands.specs.InTurn.{Ended, ended, refusal_number, in_turn}
 use Rattle.demands.specs.Records.{Sound, sound_record, written_answer, written_bytes, sound_next}
 

@@ -24,9 +24,9 @@ use Rattle.laws.specs.Tests.{and_both, or_cases}
 use Rattle.laws.specs.Passed.{itself}
 use Rattle.laws.specs.Changed.{has_put}
 use Rattle.laws.specs.Same.{same_right_refl, is_cell_same}
-use Rattle.demands.specs.SheetHolds.{sheet}
+use Rattle.demands.proofs.SheetHolds.{sheet}
 use Rattle.demands.specs.Printed.{one_of}
-use Rattle.demands.specs.Demand2Holds.{demand_2}
+use Rattle.demands.proofs.Demand2Holds.{demand_2}
 use Rattle.demands.specs.Deletes.{deletes, Deletes}
 
 -- the tests of a delete in turn: i, then s and o, then the right of i, then the bit; before them, whether its fields fit

@@ -1,0 +1,12 @@
+pub mod ConversionsHold
+pub mod DeletesHold
+pub mod Demand1Holds
+pub mod Demand2Holds
+pub mod Demand3Holds
+pub mod LimitsHold
+pub mod OwnersReadHold
+pub mod Refusals
+pub mod RunHolds
+pub mod SheetHolds
+pub mod Stopped
+pub mod Turns

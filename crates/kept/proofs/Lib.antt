@@ -1,0 +1,3 @@
+pub mod Transferred
+pub mod Subjects
+pub mod Keeps

@@ -1,0 +1,5 @@
+pub mod Climb
+pub mod Walk
+pub mod Rooted
+pub mod Test
+pub mod Read
