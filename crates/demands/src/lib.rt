@@ -1,3 +1,3 @@
-// The three demands about the public calls, and the sheet of the thirteen commands: theorems alone, in specs/.
+// The three demands about the public calls, and the sheet of the thirteen commands: theorems alone. What each says is in specs/, its proof in proofs/.
 
 #![tactic(auto)]

@@ -1,3 +1,3 @@
-// Theorems about owners, the owner walk and validity. All of it is in specs/; there is no code.
+// Theorems about owners, the owner walk and validity. All of it is in specs/ and proofs/; there is no code.
 
 #![tactic(auto)]

@@ -1,3 +1,3 @@
-// The safe half of the safety theorem: when no list of commands gives the right. All of it is in specs/; there is no code.
+// The safe half of the safety theorem: when no list of commands gives the right. All of it is in specs/ and proofs/; there is no code.
 
 #![tactic(auto)]

@@ -63,8 +63,8 @@ turned_down b l s o right room {m} e n = rw (refusal, no) (ap (λ (m : ℕ). num
     refusal = unfold first_held_refusal first_failed in rw no refl
 
 -- the lent copy is as it was; or its first bytes are others, as many
-pub lent_kept : (refusal used : ℕ) (copy : List ℕ) → Lent refusal used copy copy
-lent_kept refusal used copy = record { kept = λ n. refl; later = refl; size = refl }
+pub lent_kept : (number used : ℕ) (copy : List ℕ) → Lent number used copy copy
+lent_kept number used copy = record { kept = λ n. refl; later = refl; size = refl }
 
 pub lent_used : (used : ℕ) (x copy : List ℕ) → length x ≡ used → used ≤ length copy → Lent 0 used copy (x ++ drop used copy)
 lent_used used x copy e h =
