@@ -11,8 +11,8 @@ use Rattle.history.specs.Window.{count_place, next_place, window_bytes, entry_by
 use Rattle.history.specs.Calls.{entry}
 use Rattle.window.specs.Changed.{refused_one, lowered, placed, raised, entered}
 use Rattle.window.specs.Late.{hits, leaving, length_more, late_few, late_more}
-use Rattle.window.specs.Bytes.{lowered_byte, raised_byte, raised_same, raised_other}
-use Rattle.window.proofs.Bytes.{length_lowered, lowered_count, length_placed, placed_next, placed_here, placed_other, placed_count, length_entered}
+use Rattle.window.specs.Bytes.{raised_byte, raised_same, raised_other}
+use Rattle.window.proofs.Bytes.{lowered_byte, length_lowered, lowered_count, length_placed, placed_next, placed_here, placed_other, placed_count, length_entered}
 use Rattle.window.specs.Shown.{other_hits}
 
 module _ (w : List ℕ) (size : length w ≡ window_bytes) (zero : (j : ℕ) → j < window_bytes → get_or w j 0 ≡ 0) where
