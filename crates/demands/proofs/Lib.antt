@@ -10,3 +10,4 @@ pub mod RunHolds
 pub mod SheetHolds
 pub mod Stopped
 pub mod Turns
+pub mod Codes

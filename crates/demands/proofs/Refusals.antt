@@ -35,7 +35,7 @@ use Rattle.question.specs.Asked.{trust_fits, list_room, safety_refusal}
 use Rattle.demands.specs.First.{Condition, condition, Numbered}
 use Rattle.demands.specs.FirstLaws.{Against, AllAgainst, numbered, numbered_then}
 use Rattle.demands.specs.Printed.{OutOfRange, record_conditions, fields_right, command_conditions, held_conditions, run_conditions, safety_conditions, first_held_conditions, HighRight, record_bytes, version1_conditions, version2_conditions}
-use Rattle.demands.specs.Codes.{Agrees, agrees}
+use Rattle.demands.proofs.Codes.{Agrees, agrees}
 
 -- a test, and the condition that it fails
 fails_test : (m : ℕ) (t : Bool) → m ≢ 0 → Against (test m t) (condition m (t ≡ false))

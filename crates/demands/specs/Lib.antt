@@ -5,7 +5,6 @@ pub mod Sheet
 pub mod First
 pub mod FirstLaws
 pub mod Printed
-pub mod Codes
 pub mod InTurn
 pub mod Records
 pub mod Shortened
