@@ -32,7 +32,7 @@ AllLive S = (y : Right) (w : ℕ) (x : Name) → has S y w x ≡ true → Lives 
 pub record Controllers (controls : Matrix) : Type 0 where
   pub plain : (w o : ℕ) → controls w (Plain o) ≡ false
   pub root : controls U (Subject U) ≡ true
-  pub root_controller_lem : (w : ℕ) → controls w (Subject U) ≡ true → w ≡ U
+  pub root_controller : (w : ℕ) → controls w (Subject U) ≡ true → w ≡ U
   pub one_controller : (s w v : ℕ) → controls w (Subject s) ≡ true → w ≢ s → controls v (Subject s) ≡ true → v ≢ s → w ≡ v
 
 pub record Tree (owns : Matrix) : Type 0 where
@@ -55,7 +55,7 @@ join S p =
       plain = p.controllers.plain;
       root = p.controllers.root;
       root_owner = p.tree.root_owner;
-      root_controller_lem = p.controllers.root_controller_lem;
+      root_controller = p.controllers.root_controller;
       owned = p.owned;
       one_owner = p.tree.one_owner;
       one_controller = p.controllers.one_controller;
@@ -64,7 +64,7 @@ join S p =
     }
 
 pub controllers_of : (S : State) → Valid S → Controllers S.controls
-controllers_of S v = record { plain = v.plain; root = v.root; root_controller_lem = v.root_controller_lem; one_controller = v.one_controller }
+controllers_of S v = record { plain = v.plain; root = v.root; root_controller = v.root_controller; one_controller = v.one_controller }
 
 pub tree_of : (S : State) → Valid S → Tree S.owns
 tree_of S v = record { root_owner = v.root_owner; one_owner = v.one_owner; no_cycle = v.no_cycle }
@@ -91,7 +91,7 @@ controllers_fewer m m' c fewer u =
     record {
       plain = λ w o. fails (m' w (Plain o)) (λ h. clash (fewer w (Plain o) h) (c.plain w o));
       root = u;
-      root_controller_lem = λ w h. c.root_controller_lem w (fewer w (Subject U) h);
+      root_controller = λ w h. c.root_controller w (fewer w (Subject U) h);
       one_controller = λ s w v h a g b. c.one_controller s w v (fewer w (Subject s) h) a (fewer v (Subject s) g) b;
     }
 
@@ -102,7 +102,7 @@ controllers_put m r o c top alone =
     record {
       plain = c.plain;
       root = put_keeps r (Subject o) m U (Subject U) c.root;
-      root_controller_lem = λ w h. ⊎_elim (λ b. c.root_controller_lem w b) (λ p. p.0 ∙ top (sym (ap column_of p.1)))
+      root_controller = λ w h. ⊎_elim (λ b. c.root_controller w b) (λ p. p.0 ∙ top (sym (ap column_of p.1)))
           (put_found r (Subject o) true m w (Subject U) h);
       one_controller = λ s w v h a g b. four_cases (λ k l. c.one_controller s w v k a l b) (λ k q. absurd (other s w v k a b q))
           (λ p l. absurd (other s v w l b a p)) (λ p q. p.0 ∙ sym q.0)

@@ -16,7 +16,7 @@ pub record Valid (S : State) : Type 0 where
   -- 3: U exists, nobody owns it, and nobody but U controls it
   pub root : exists S U ≡ true
   pub root_owner : (w : ℕ) → S.owns w (Subject U) ≡ false
-  pub root_controller_lem : (w : ℕ) → S.controls w (Subject U) ≡ true → w ≡ U
+  pub root_controller : (w : ℕ) → S.controls w (Subject U) ≡ true → w ≡ U
   -- 4: an existing subject but U has exactly one owner, and at most one subject other than itself controls it
   pub owned : (s : ℕ) → s ≢ U → exists S s ≡ true → (w : ℕ) × (S.owns w (Subject s) ≡ true)
   pub one_owner : (s w v : ℕ) → S.owns w (Subject s) ≡ true → S.owns v (Subject s) ≡ true → w ≡ v

@@ -93,7 +93,7 @@ module _ (f : Shape) (S : State) (W : Within f S) where
         plain = uncontrolled plains;
         root = and_left (exists S U) (all f.n (root_column S)) roots;
         root_owner = unowned;
-        root_controller_lem = alone;
+        root_controller = alone;
         owned = owned;
         one_owner = one_owner;
         one_controller = one_controller;
@@ -172,7 +172,7 @@ module _ (f : Shape) (S : State) (W : Within f S) (h : Valid S) where
     where
       controller : (w : ℕ) → root_controller S w ≡ true
       controller w =
-          ⊎_elim (λ c. or_left (not (S.controls w (Subject U))) (eq-eqb w U (h.root_controller_lem w c))) (λ c. or_right (eqb w U) (fails_not c))
+          ⊎_elim (λ c. or_left (not (S.controls w (Subject U))) (eq-eqb w U (h.root_controller w c))) (λ c. or_right (eqb w U) (fails_not c))
           (way (S.controls w (Subject U)))
 
   test_owners : one_owner_each f S ≡ true

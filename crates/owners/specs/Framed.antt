@@ -26,7 +26,7 @@ pub record Framed (S : State) : Type 0 where
   pub plain : (w o : ℕ) → S.controls w (Plain o) ≡ false
   pub root : exists S U ≡ true
   pub root_owner : (w : ℕ) → S.owns w (Subject U) ≡ false
-  pub root_controller_lem : (w : ℕ) → S.controls w (Subject U) ≡ true → w ≡ U
+  pub root_controller : (w : ℕ) → S.controls w (Subject U) ≡ true → w ≡ U
   pub owned : (s : ℕ) → s ≢ U → exists S s ≡ true → (w : ℕ) × (S.owns w (Subject s) ≡ true)
   pub one_owner : (s w v : ℕ) → S.owns w (Subject s) ≡ true → S.owns v (Subject s) ≡ true → w ≡ v
   pub one_controller : (s w v : ℕ) → S.controls w (Subject s) ≡ true → w ≢ s → S.controls v (Subject s) ≡ true → v ≢ s → w ≡ v
@@ -40,7 +40,7 @@ valid_framed V₁ =
       plain = V₁.plain;
       root = V₁.root;
       root_owner = V₁.root_owner;
-      root_controller_lem = V₁.root_controller_lem;
+      root_controller = V₁.root_controller;
       owned = V₁.owned;
       one_owner = V₁.one_owner;
       one_controller = V₁.one_controller;
@@ -55,7 +55,7 @@ framed_valid F h =
       plain = F.plain;
       root = F.root;
       root_owner = F.root_owner;
-      root_controller_lem = F.root_controller_lem;
+      root_controller = F.root_controller;
       owned = F.owned;
       one_owner = F.one_owner;
       one_controller = F.one_controller;

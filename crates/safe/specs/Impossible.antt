@@ -18,5 +18,5 @@ impossible_unheld {S} v s o x (own_itself e q) =
     rw (e, q) (or-false (S.owns s (Subject s)) ∙ fails (S.owns s (Subject s)) (λ h. v.no_cycle s (owner h)))
 impossible_unheld {S} v s o x (own_root e q) = rw (e, q) (or-false (S.owns s (Subject U)) ∙ v.root_owner s)
 impossible_unheld {S} v s o x (control_root e q d) =
-    rw (e, q) (or-false (S.controls s (Subject U)) ∙ fails (S.controls s (Subject U)) (λ h. d (v.root_controller_lem s h)))
+    rw (e, q) (or-false (S.controls s (Subject U)) ∙ fails (S.controls s (Subject U)) (λ h. d (v.root_controller s h)))
 impossible_unheld {S} v s o x (control_plain a e q) = rw (e, q) (or-false (S.controls s (Plain a)) ∙ v.plain s a)

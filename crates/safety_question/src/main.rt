@@ -34,9 +34,19 @@ fn read_full<R: Read>(input: &mut R, buffer: &mut [u8]) -> io::Result<usize>
     Ok(size)
 }
 
+// A number, with one space before it.
+fn print_next(rt: &impl Print, x: usize) -> io::Result<()> {
+    print!(rt; " {x}")
+}
+
 // A command: code, i, s, o, k.
 fn print_command(rt: &impl Print, c: Fields) -> io::Result<()> {
-    println!(rt; "{} {} {} {} {}", c.code, c.i, c.s, c.o, c.k)
+    print!(rt; "{}", c.code)?;
+    print_next(rt, c.i)?;
+    print_next(rt, c.s)?;
+    print_next(rt, c.o)?;
+    print_next(rt, c.k)?;
+    println!(rt; "")
 }
 
 // The commands of a list, a line for each.

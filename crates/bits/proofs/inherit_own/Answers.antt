@@ -24,9 +24,9 @@ to_below : (c : In-loop-k)
 to_below c =
     byte_below (station_after c.requires.0 c.loop-k.invariant.1) c.requires.1 (within c) c.place-to.ensures
 
-from-below : (c : In-loop-k)
+from_below : (c : In-loop-k)
     → (c.place-from.result + c.loop-k.k < length c.loop-k.b) × (c.place-from.result + c.loop-k.k ≤ most_bytes)
-from-below c =
+from_below c =
     byte_below (station_after c.requires.0 c.loop-k.invariant.1) c.requires.2 (within c) c.place-from.ensures
 
 pub place-to-requires : goal.place-to-requires
@@ -48,10 +48,10 @@ pub bounds-b-to : goal.bounds-b-to
 bounds-b-to c = omega (arith, (to_below (goal.at.bounds-b-to c).In-loop-k).0)
 
 pub overflow_add-from : goal.overflow_add-from
-overflow_add-from c = omega (arith, (from-below (goal.at.overflow_add-from c).In-loop-k).1)
+overflow_add-from c = omega (arith, (from_below (goal.at.overflow_add-from c).In-loop-k).1)
 
 pub bounds-b-from : goal.bounds-b-from
-bounds-b-from c = omega (arith, (from-below (goal.at.bounds-b-from c).In-loop-k).0)
+bounds-b-from c = omega (arith, (from_below (goal.at.bounds-b-from c).In-loop-k).0)
 
 pub own_joined-requires : goal.own_joined-requires
 own_joined-requires c = two_or_four c.args.f (right_shape c.requires.0)

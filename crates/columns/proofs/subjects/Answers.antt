@@ -11,8 +11,8 @@ use Rattle.columns.proofs.subjects.Goals as goal
 use Rattle.columns.proofs.subjects.Goals.{Else-not-all_present}
 
 -- all exist
-present-all : (c : Else-not-all_present) → all c.args.m.rows (present c.args.q c.args.b.now c.args.m) ≡ true
-present-all c = sym c.all_present.ensures ∙ c.if-not-all_present.false
+present_all : (c : Else-not-all_present) → all c.args.m.rows (present c.args.q c.args.b.now c.args.m) ≡ true
+present_all c = sym c.all_present.ensures ∙ c.if-not-all_present.false
 
 pub counts_fit-requires : goal.counts_fit-requires
 counts_fit-requires c = (inl refl, c.requires.0.laid.some, c.requires.0.subjects, c.requires.1.sums, c.requires.1.parity)
@@ -23,9 +23,9 @@ counts_fit-requires-else-q-eq1 c = (inr refl, c.requires.0.laid.some, c.requires
 pub returns-then-q-eq1 : goal.returns-then-q-eq1
 returns-then-q-eq1 c =
     c.counts_fit.ensures ∙ ap (λ (q : ℕ). all c.args.m.rows (count_test q c.args.tally.now c.args.odd.now)) (sym c.if-q-eq1.true)
-    ∙ counts_test c.args.q c.args.b.now c.args.m _ c.args.tally.now c.args.odd.now (present-all (goal.at.returns-then-q-eq1 c).Else-not-all_present)
+    ∙ counts_test c.args.q c.args.b.now c.args.m _ c.args.tally.now c.args.odd.now (present_all (goal.at.returns-then-q-eq1 c).Else-not-all_present)
 
 pub returns-else-q-eq1 : goal.returns-else-q-eq1
 returns-else-q-eq1 c =
     c.counts_fit-else-q-eq1.ensures ∙ ap (λ (q : ℕ). all c.args.m.rows (count_test q c.args.tally.now c.args.odd.now)) (sym (not_one c.requires.0.cells c.if-q-eq1.false))
-    ∙ counts_test c.args.q c.args.b.now c.args.m _ c.args.tally.now c.args.odd.now (present-all (goal.at.returns-else-q-eq1 c).Else-not-all_present)
+    ∙ counts_test c.args.q c.args.b.now c.args.m _ c.args.tally.now c.args.odd.now (present_all (goal.at.returns-else-q-eq1 c).Else-not-all_present)

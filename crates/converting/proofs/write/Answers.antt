@@ -40,9 +40,9 @@ loop-k-init c =
 less : (c : In-loop-k) → c.loop-k.k < cells_of c.args.f
 less c = subst (λ (m : ℕ). c.loop-k.k < m) (ap (λ (m : ℕ). c.args.f.n * m) c.columns_of.ensures) c.loop-k-test.true
 
-from-inside : (c : In-loop-k) →
+from_inside : (c : In-loop-k) →
     (c.loop-k.from + c.args.f.width ≤ length c.args.b.now) × (c.loop-k.from + c.args.f.width ≤ most_bytes)
-from-inside c =
+from_inside c =
     cell_inside c.requires.0.wanted.station c.loop-k.k (less c) c.loop-k.invariant.1
 
 to_inside : (c : In-loop-k) →
@@ -54,14 +54,14 @@ to_inside c =
 
 pub word-requires : goal.word-requires
 word-requires c =
-    (two_or_four c.args.f (right_shape c.requires.0.wanted.station), (from-inside (goal.at.word-requires c).In-loop-k).0)
+    (two_or_four c.args.f (right_shape c.requires.0.wanted.station), (from_inside (goal.at.word-requires c).In-loop-k).0)
 
 pub put_word-requires : goal.put_word-requires
 put_word-requires c =
     (two_or_four c.args.g (wanted_right c.requires.0.wanted), (to_inside (goal.at.put_word-requires c).In-loop-k).0)
 
 pub overflow_add-from : goal.overflow_add-from
-overflow_add-from c = omega (arith, (from-inside (goal.at.overflow_add-from c).In-loop-k).1)
+overflow_add-from c = omega (arith, (from_inside (goal.at.overflow_add-from c).In-loop-k).1)
 
 pub overflow_add-to : goal.overflow_add-to
 overflow_add-to c = omega (arith, (to_inside (goal.at.overflow_add-to c).In-loop-k).1)

@@ -17,14 +17,14 @@ step_is c =
 step_fits : (c : After-cells_in) → let f = c.args.f in c.cells_in.result ≤ f.n + f.p
 step_fits c = cells_fewer c.requires.1 _ _ (omega (arith, (step_is c).0, c.requires.4, c.requires.3))
 
-step-enough : (c : After-cells_in) → c.args.f.p ≤ c.cells_in.result
-step-enough c = cells_fewer c.requires.1 _ _ (omega (arith, (step_is c).0, c.requires.5))
+step_enough : (c : After-cells_in) → c.args.f.p ≤ c.cells_in.result
+step_enough c = cells_fewer c.requires.1 _ _ (omega (arith, (step_is c).0, c.requires.5))
 
 pub overflow_sub-a : goal.overflow_sub-a
 overflow_sub-a c = step_fits c
 
 pub overflow_sub-n : goal.overflow_sub-n
-overflow_sub-n c = omega (arith, step-enough (goal.at.overflow_sub-n c).After-cells_in)
+overflow_sub-n c = omega (arith, step_enough (goal.at.overflow_sub-n c).After-cells_in)
 
 pub part_wrong-requires : goal.part_wrong-requires
 part_wrong-requires c =
@@ -48,4 +48,4 @@ pub returns : goal.returns
 returns c =
     let f = c.args.f in
     ap (λ (v : ℕ). eqb v 0) c.part_wrong.ensures
-    ∙ tested_once _ _ f.n f.p (f.n + f.p - c.cells_in.result) _ _ (omega (arith, step-enough (goal.at.returns c).After-cells_in, step_fits (goal.at.returns c).After-cells_in)) (omega (arith, step_fits (goal.at.returns c).After-cells_in, c.cells_in.ensures))
+    ∙ tested_once _ _ f.n f.p (f.n + f.p - c.cells_in.result) _ _ (omega (arith, step_enough (goal.at.returns c).After-cells_in, step_fits (goal.at.returns c).After-cells_in)) (omega (arith, step_fits (goal.at.returns c).After-cells_in, c.cells_in.ensures))

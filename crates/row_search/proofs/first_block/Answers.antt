@@ -18,8 +18,8 @@ use Rattle.row_search.proofs.first_block.Goals as goal
 use Rattle.row_search.proofs.first_block.Goals.{After-one_of_four, At-loop-q}
 
 -- `low` is the place of the lowest byte of row 4 q's cell
-low-row : (c : At-loop-q) → c.loop-q.low ≡ low_place c.args.f (4 * c.loop-q.q) c.args.c
-low-row c =
+low_row : (c : At-loop-q) → c.loop-q.low ≡ low_place c.args.f (4 * c.loop-q.q) c.args.c
+low_row c =
     let a = c.args in
     low_reached a.f (4 * c.loop-q.q) a.c c.low_place-low.ensures c.row_bytes-stride.ensures c.loop-q.invariant.1
 
@@ -44,11 +44,11 @@ pub one_of_four-requires : goal.one_of_four-requires
 one_of_four-requires c =
     let t : c.loop-q.q < c.args.f.n / 4 = c.loop-q-test.true in
     let last = (row_within c.requires.0 (omega arith) c.requires.1 (low_apart c.args.f (4 * c.loop-q.q) 3 c.args.c)).0 in
-    (omega (arith, low-row (goal.at.one_of_four-requires c).At-loop-q, c.row_bytes-stride.ensures, last), c.requires.2)
+    (omega (arith, low_row (goal.at.one_of_four-requires c).At-loop-q, c.row_bytes-stride.ensures, last), c.requires.2)
 
 pub returns-then-one_of_four : goal.returns-then-one_of_four
 returns-then-one_of_four c =
-    sym (least_hit _ _ _ c.loop-q-test.true c.loop-q.invariant.2 (tested (goal.at.returns-then-one_of_four c).After-one_of_four (low-row (goal.at.returns-then-one_of_four c).At-loop-q) ∙ c.if-one_of_four.true))
+    sym (least_hit _ _ _ c.loop-q-test.true c.loop-q.invariant.2 (tested (goal.at.returns-then-one_of_four c).After-one_of_four (low_row (goal.at.returns-then-one_of_four c).At-loop-q) ∙ c.if-one_of_four.true))
 
 pub overflow_mul-low : goal.overflow_mul-low
 overflow_mul-low c =
@@ -57,12 +57,12 @@ overflow_mul-low c =
 pub overflow_add-low : goal.overflow_add-low
 overflow_add-low c =
     let t : c.loop-q.q < c.args.f.n / 4 = c.loop-q-test.true in
-    let first = (row_within c.requires.0 (omega arith) c.requires.1 (low-row (goal.at.overflow_add-low c).At-loop-q)).1 in
+    let first = (row_within c.requires.0 (omega arith) c.requires.1 (low_row (goal.at.overflow_add-low c).At-loop-q)).1 in
     omega (arith, first, row_small c.args.f (right_shape c.requires.0), c.row_bytes-stride.ensures)
 
 pub loop-q-preserved : goal.loop-q-preserved
 loop-q-preserved c =
-    (search rules, omega (arith, c.loop-q.invariant.1), rw add-one (any_miss _ _ c.loop-q.invariant.2 (tested (goal.at.loop-q-preserved c).After-one_of_four (low-row (goal.at.loop-q-preserved c).At-loop-q) ∙ c.if-one_of_four.false)))
+    (search rules, omega (arith, c.loop-q.invariant.1), rw add-one (any_miss _ _ c.loop-q.invariant.2 (tested (goal.at.loop-q-preserved c).After-one_of_four (low_row (goal.at.loop-q-preserved c).At-loop-q) ∙ c.if-one_of_four.false)))
 
 pub returns : goal.returns
 returns c =

@@ -13,8 +13,8 @@ use Rattle.row_search.proofs.some_row.Goals as goal
 use Rattle.row_search.proofs.some_row.Goals.{At-loop-r}
 
 -- `low` is the place of the lowest byte of row r's cell
-low-row : (c : At-loop-r) → c.loop-r.low ≡ low_place c.args.f c.loop-r.r c.args.c
-low-row c =
+low_row : (c : At-loop-r) → c.loop-r.low ≡ low_place c.args.f c.loop-r.r c.args.c
+low_row c =
     let a = c.args in
     low_reached a.f c.loop-r.r a.c c.low_place-low.ensures c.row_bytes-stride.ensures c.loop-r.invariant.1
 
@@ -31,7 +31,7 @@ loop-r-init c = (search rules, omega (arith, zero-mul c.row_bytes-stride.result)
 pub bounds-b-low : goal.bounds-b-low
 bounds-b-low c =
     let q = c.requires in
-    (row_within q.0 c.loop-r-test.true q.1 (low-row (goal.at.bounds-b-low c).At-loop-r)).0
+    (row_within q.0 c.loop-r-test.true q.1 (low_row (goal.at.bounds-b-low c).At-loop-r)).0
 
 pub overflow_cast-b : goal.overflow_cast-b
 overflow_cast-b c = record { fits = omega (arith, c.shared_slice_known-in-loop-r-1.given c.loop-r.low) }
@@ -39,11 +39,11 @@ overflow_cast-b c = record { fits = omega (arith, c.shared_slice_known-in-loop-r
 pub overflow_add-low : goal.overflow_add-low
 overflow_add-low c =
     let q = c.requires in
-    omega (arith, (row_within q.0 c.loop-r-test.true q.1 (low-row (goal.at.overflow_add-low c).At-loop-r)).1, c.row_bytes-stride.ensures)
+    omega (arith, (row_within q.0 c.loop-r-test.true q.1 (low_row (goal.at.overflow_add-low c).At-loop-r)).1, c.row_bytes-stride.ensures)
 
 pub loop-r-preserved : goal.loop-r-preserved
 loop-r-preserved c =
-    (search rules, omega (arith, c.loop-r.invariant.1), row_joined c.args.c c.args.skip c.loop-r.r c.loop-r.seen c.requires.0 c.requires.2 (low-row (goal.at.loop-r-preserved c).At-loop-r) c.unless_skipped-seen.ensures c.loop-r.invariant.2)
+    (search rules, omega (arith, c.loop-r.invariant.1), row_joined c.args.c c.args.skip c.loop-r.r c.loop-r.seen c.requires.0 c.requires.2 (low_row (goal.at.loop-r-preserved c).At-loop-r) c.unless_skipped-seen.ensures c.loop-r.invariant.2)
 
 pub bit_of-requires : goal.bit_of-requires
 bit_of-requires c = omega (arith, c.requires.2)

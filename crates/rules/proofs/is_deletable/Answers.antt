@@ -14,14 +14,14 @@ use Rattle.rules.specs.Needs.{ActIn}
 use Rattle.rules.proofs.is_deletable.Goals as goal
 
 -- an act that is no delete asks for no bit
-not-asked : (S : State) (d : Command) (a : Act) → ((y : Right) → a ≡ Delete y → ⊥) → true ≡ deletable S d a
-not-asked S d (Transfer y) h = refl
-not-asked S d (Grant y) h = refl
-not-asked S d (Delete y) h = absurd (h y refl)
-not-asked S d CreateObject h = refl
-not-asked S d DestroyObject h = refl
-not-asked S d CreateSubject h = refl
-not-asked S d DestroySubject h = refl
+not_asked : (S : State) (d : Command) (a : Act) → ((y : Right) → a ≡ Delete y → ⊥) → true ≡ deletable S d a
+not_asked S d (Transfer y) h = refl
+not_asked S d (Grant y) h = refl
+not_asked S d (Delete y) h = absurd (h y refl)
+not_asked S d CreateObject h = refl
+not_asked S d DestroyObject h = refl
+not_asked S d CreateSubject h = refl
+not_asked S d DestroySubject h = refl
 
 pub has_bit-requires : goal.has_bit-requires
 has_bit-requires c =
@@ -34,4 +34,4 @@ returns-in-Delete c =
     c.has_bit.ensures ∙ sym (ap (λ (a : Act). deletable (state_of z.b.now) z.c a) c.in-Delete.is)
 
 pub returns-in_default : goal.returns-in_default
-returns-in_default c = let z = c.args in not-asked (state_of z.b.now) z.c z.c.act c.in_default.not-Delete
+returns-in_default c = let z = c.args in not_asked (state_of z.b.now) z.c z.c.act c.in_default.not-Delete

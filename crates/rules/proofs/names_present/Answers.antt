@@ -13,15 +13,15 @@ use Rattle.matrix.specs.Tests.{present}
 use Rattle.rules.proofs.names_present.Goals as goal
 
 -- an act that is none of the four that create or destroy needs both names
-both-needed : (S : State) (d : Command) (a : Act) → (a ≡ CreateObject → ⊥) → (a ≡ DestroyObject → ⊥) → (a ≡ CreateSubject → ⊥)
+both_needed : (S : State) (d : Command) (a : Act) → (a ≡ CreateObject → ⊥) → (a ≡ DestroyObject → ⊥) → (a ≡ CreateSubject → ⊥)
     → (a ≡ DestroySubject → ⊥) → (exists S d.s && exists_name S d.o) ≡ present S d a
-both-needed S d (Transfer y) co ob cs ds = refl
-both-needed S d (Grant y) co ob cs ds = refl
-both-needed S d (Delete y) co ob cs ds = refl
-both-needed S d CreateObject co ob cs ds = absurd (co refl)
-both-needed S d DestroyObject co ob cs ds = absurd (ob refl)
-both-needed S d CreateSubject co ob cs ds = absurd (cs refl)
-both-needed S d DestroySubject co ob cs ds = absurd (ds refl)
+both_needed S d (Transfer y) co ob cs ds = refl
+both_needed S d (Grant y) co ob cs ds = refl
+both_needed S d (Delete y) co ob cs ds = refl
+both_needed S d CreateObject co ob cs ds = absurd (co refl)
+both_needed S d DestroyObject co ob cs ds = absurd (ob refl)
+both_needed S d CreateSubject co ob cs ds = absurd (cs refl)
+both_needed S d DestroySubject co ob cs ds = absurd (ds refl)
 
 pub returns-in-DestroyObject : goal.returns-in-DestroyObject
 returns-in-DestroyObject c = c.exists_by.ensures ∙ sym (ap (λ (a : Act). present (state_of c.args.b.now) c.args.c a) c.in-DestroyObject.is)
@@ -33,4 +33,4 @@ pub returns-in_default : goal.returns-in_default
 returns-in_default c =
     let d = c.in_default in
     c.both_exist.ensures
-    ∙ both-needed (state_of c.args.b.now) c.args.c c.args.c.act d.not-CreateObject d.not-DestroyObject d.not-CreateSubject d.not-DestroySubject
+    ∙ both_needed (state_of c.args.b.now) c.args.c c.args.c.act d.not-CreateObject d.not-DestroyObject d.not-CreateSubject d.not-DestroySubject

@@ -9,18 +9,18 @@ use Rattle.safety.proofs.decide.Goals as goal
 use Rattle.safety.proofs.decide.Goals.{Else-name_exists, Then-i-n, Then-name_exists}
 
 -- which way it is where somebody has the star, and where nobody has: over an existing name, and over an absent one
-star-way : (c : Then-i-n) → way_of (state_of c.args.b.now) (trusted_by c.args.trust) c.args.s c.args.x c.args.y ≡ by_star c.star_holder-i.result
-star-way c =
+star_way : (c : Then-i-n) → way_of (state_of c.args.b.now) (trusted_by c.args.trust) c.args.s c.args.x c.args.y ≡ by_star c.star_holder-i.result
+star_way c =
     way_star _ _ _ _ _ c.requires.2 c.is_possible.ensures c.if-not-is_possible.false (top_is _ _ c.requires.0.bit.station) c.star_holder-i.ensures c.if-i-n.true
 
-over-way : (c : Then-name_exists)
+over_way : (c : Then-name_exists)
     → let a = c.args in way_of (state_of c.args.b.now) (trusted_by c.args.trust) c.args.s c.args.x c.args.y ≡ way_over (state_of a.b.now) (trusted_by a.trust) a.x
-over-way c =
+over_way c =
     way_over_lem _ _ _ _ _ c.requires.2 c.is_possible.ensures c.if-not-is_possible.false (top_is _ _ c.requires.0.bit.station) c.star_holder-i.ensures c.if-i-n.false c.name_exists.ensures c.if-name_exists.true
 
-made-way : (c : Else-name_exists)
+made_way : (c : Else-name_exists)
     → let a = c.args in way_of (state_of c.args.b.now) (trusted_by c.args.trust) c.args.s c.args.x c.args.y ≡ way_made (state_of a.b.now) (trusted_by a.trust)
-made-way c =
+made_way c =
     way_made_lem _ _ _ _ _ c.requires.2 c.is_possible.ensures c.if-not-is_possible.false (top_is _ _ c.requires.0.bit.station) c.star_holder-i.ensures c.if-i-n.false c.name_exists.ensures c.if-name_exists.false
 
 pub returns-then-not-is_possible : goal.returns-then-not-is_possible
@@ -28,19 +28,19 @@ returns-then-not-is_possible c =
     told_at (way_impossible _ _ _ _ _ c.requires.2 c.is_possible.ensures c.if-not-is_possible.true) (told_none _ _ _ _ _)
 
 pub by_star-requires : goal.by_star-requires
-by_star-requires c = (asks_at (star-way (goal.at.by_star-requires c).Then-i-n) c.requires.0, c.if-i-n.true)
+by_star-requires c = (asks_at (star_way (goal.at.by_star-requires c).Then-i-n) c.requires.0, c.if-i-n.true)
 
 pub returns-then-i-n : goal.returns-then-i-n
-returns-then-i-n c = told_at (star-way (goal.at.returns-then-i-n c).Then-i-n) c.by_star.ensures
+returns-then-i-n c = told_at (star_way (goal.at.returns-then-i-n c).Then-i-n) c.by_star.ensures
 
 pub over-requires : goal.over-requires
-over-requires c = let p = c.requires in (asks_at (over-way (goal.at.over-requires c).Then-name_exists) p.0, p.1)
+over-requires c = let p = c.requires in (asks_at (over_way (goal.at.over-requires c).Then-name_exists) p.0, p.1)
 
 pub returns-then-name_exists : goal.returns-then-name_exists
-returns-then-name_exists c = told_at (over-way (goal.at.returns-then-name_exists c).Then-name_exists) c.over.ensures
+returns-then-name_exists c = told_at (over_way (goal.at.returns-then-name_exists c).Then-name_exists) c.over.ensures
 
 pub made-requires : goal.made-requires
-made-requires c = asks_at (made-way (goal.at.made-requires c).Else-name_exists) c.requires.0
+made-requires c = asks_at (made_way (goal.at.made-requires c).Else-name_exists) c.requires.0
 
 pub returns : goal.returns
-returns c = told_at (made-way (goal.at.returns c).Else-name_exists) c.made.ensures
+returns c = told_at (made_way (goal.at.returns c).Else-name_exists) c.made.ensures

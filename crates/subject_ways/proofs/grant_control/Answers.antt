@@ -23,6 +23,9 @@ has_bit-requires c =
 pub returns-then-not-has_bit : goal.returns-then-not-has_bit
 returns-then-not-has_bit c = left_alone
 
+pub controlled-requires : goal.controlled-requires
+controlled-requires c = (c.requires.0.station, omega (arith, c.if-f-c.false))
+
 pub returns-then-controlled : goal.returns-then-controlled
 returns-then-controlled c = left_alone
 

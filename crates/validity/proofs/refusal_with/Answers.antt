@@ -13,17 +13,17 @@ octets : (c : After-shape-f) → Octets c.args.b.now
 octets c = record { octet = λ j. (c.type_inv.b j).fits }
 
 -- the tests that are passed at each place
-version-here : (c : Else-not-known_version) → known_version (shape_of c.args.b.now).version ≡ true
-version-here c = version_read _ _ c.shape-f.ensures _ _ c.known_version.ensures c.if-not-known_version.false
+version_here : (c : Else-not-known_version) → known_version (shape_of c.args.b.now).version ≡ true
+version_here c = version_read _ _ c.shape-f.ensures _ _ c.known_version.ensures c.if-not-known_version.false
 
-range-here : (c : Else-not-in_range) → in_range limits (shape_of c.args.b.now) ≡ true
-range-here c = range_read _ _ c.shape-f.ensures _ _ c.in_range.ensures c.if-not-in_range.false
+range_here : (c : Else-not-in_range) → in_range limits (shape_of c.args.b.now) ≡ true
+range_here c = range_read _ _ c.shape-f.ensures _ _ c.in_range.ensures c.if-not-in_range.false
 
-headed-here : (c : Else-not-in_range) → Headed c.args.b.now c.shape-f.result
-headed-here c = headed _ _ c.shape-f.ensures c.if-b-lt-HEADER_BYTES.false (version_read _ _ c.shape-f.ensures _ _ c.known_version.ensures c.if-not-known_version.false) (range-here c)
+headed_here : (c : Else-not-in_range) → Headed c.args.b.now c.shape-f.result
+headed_here c = headed _ _ c.shape-f.ensures c.if-b-lt-HEADER_BYTES.false (version_read _ _ c.shape-f.ensures _ _ c.known_version.ensures c.if-not-known_version.false) (range_here c)
 
-sized-here : (c : Else-not-right_size) → sized c.args.b.now ≡ true
-sized-here c = sym c.right_size.ensures ∙ c.if-not-right_size.false
+sized_here : (c : Else-not-right_size) → sized c.args.b.now ≡ true
+sized_here c = sym c.right_size.ensures ∙ c.if-not-right_size.false
 
 pub returns-then-b-lt-HEADER_BYTES : goal.returns-then-b-lt-HEADER_BYTES
 returns-then-b-lt-HEADER_BYTES c = record { refusal = refused_1 _ c.if-b-lt-HEADER_BYTES.true; table = unread _ c.requires }
@@ -39,30 +39,30 @@ pub returns-then-not-in_range : goal.returns-then-not-in_range
 returns-then-not-in_range c =
     let out = range_read _ _ c.shape-f.ensures _ _ c.in_range.ensures c.if-not-in_range.true in
     record {
-      refusal = refused_3 _ c.if-b-lt-HEADER_BYTES.false (version-here (goal.at.returns-then-not-in_range c).Else-not-known_version) out;
+      refusal = refused_3 _ c.if-b-lt-HEADER_BYTES.false (version_here (goal.at.returns-then-not-in_range c).Else-not-known_version) out;
       table = unread _ c.requires;
     }
 
 pub right_size-requires : goal.right_size-requires
-right_size-requires c = headed-here (goal.at.right_size-requires c).Else-not-in_range
+right_size-requires c = headed_here (goal.at.right_size-requires c).Else-not-in_range
 
 pub returns-then-not-right_size : goal.returns-then-not-right_size
 returns-then-not-right_size c =
     let out = sym c.right_size.ensures ∙ c.if-not-right_size.true in
     record {
-      refusal = refused_4 _ (headed-here (goal.at.returns-then-not-right_size c).Else-not-in_range).long (version-here (goal.at.returns-then-not-right_size c).Else-not-known_version) (range-here (goal.at.returns-then-not-right_size c).Else-not-in_range) out;
+      refusal = refused_4 _ (headed_here (goal.at.returns-then-not-right_size c).Else-not-in_range).long (version_here (goal.at.returns-then-not-right_size c).Else-not-known_version) (range_here (goal.at.returns-then-not-right_size c).Else-not-in_range) out;
       table = unread _ c.requires;
     }
 
 pub valid-requires : goal.valid-requires
 valid-requires c =
-    (station_read _ _ (octets (goal.at.valid-requires c).After-shape-f) (headed-here (goal.at.valid-requires c).Else-not-in_range) (sized-here (goal.at.valid-requires c).Else-not-right_size), unread _ c.requires)
+    (station_read _ _ (octets (goal.at.valid-requires c).After-shape-f) (headed_here (goal.at.valid-requires c).Else-not-in_range) (sized_here (goal.at.valid-requires c).Else-not-right_size), unread _ c.requires)
 
 pub returns-then-valid : goal.returns-then-valid
 returns-then-valid c =
     let v = c.valid.ensures in
     record {
-      refusal = refused_none _ (headed-here (goal.at.returns-then-valid c).Else-not-in_range).long (version-here (goal.at.returns-then-valid c).Else-not-known_version) (range-here (goal.at.returns-then-valid c).Else-not-in_range) (sized-here (goal.at.returns-then-valid c).Else-not-right_size) (sym v.verdict ∙ c.if-valid.true);
+      refusal = refused_none _ (headed_here (goal.at.returns-then-valid c).Else-not-in_range).long (version_here (goal.at.returns-then-valid c).Else-not-known_version) (range_here (goal.at.returns-then-valid c).Else-not-in_range) (sized_here (goal.at.returns-then-valid c).Else-not-right_size) (sym v.verdict ∙ c.if-valid.true);
       table = v.table;
     }
 
@@ -70,6 +70,6 @@ pub returns-else-valid : goal.returns-else-valid
 returns-else-valid c =
     let v = c.valid.ensures in
     record {
-      refusal = refused_5 _ (headed-here (goal.at.returns-else-valid c).Else-not-in_range).long (version-here (goal.at.returns-else-valid c).Else-not-known_version) (range-here (goal.at.returns-else-valid c).Else-not-in_range) (sized-here (goal.at.returns-else-valid c).Else-not-right_size) (sym v.verdict ∙ c.if-valid.false);
+      refusal = refused_5 _ (headed_here (goal.at.returns-else-valid c).Else-not-in_range).long (version_here (goal.at.returns-else-valid c).Else-not-known_version) (range_here (goal.at.returns-else-valid c).Else-not-in_range) (sized_here (goal.at.returns-else-valid c).Else-not-right_size) (sym v.verdict ∙ c.if-valid.false);
       table = v.table;
     }

@@ -84,19 +84,19 @@ plains-requires c =
     ((celled (goal.at.plains-requires c).After-lanes_of).laid, cells (goal.at.plains-requires c).Start, omega (arith, h.high, h.plain), c.lanes_of.ensures)
 
 -- where the tests of the subjects, and of the plain columns, pass
-subjects-pass : (c : Else-not-subjects) →
+subjects_pass : (c : Else-not-subjects) →
     all c.args.f.n (subject_test (c.args.f.width / 2) c.args.b.now (laned c.args.f c.lanes_of.result) (seen_at c.args.b.now (laned c.args.f c.lanes_of.result)) c.count.new.tally c.count.new.odd) ≡ true
-subjects-pass c = sym c.subjects.ensures ∙ c.if-not-subjects.false
+subjects_pass c = sym c.subjects.ensures ∙ c.if-not-subjects.false
 
-plains-pass : (c : Else-not-plains) →
+plains_pass : (c : Else-not-plains) →
     let f = c.args.f in
     all f.p (λ i. plain_test (f.width / 2) (seen_at c.args.b.now (laned c.args.f c.lanes_of.result)) (f.n + i)) ≡ true
-plains-pass c = sym c.plains.ensures ∙ c.if-not-plains.false
+plains_pass c = sym c.plains.ensures ∙ c.if-not-plains.false
 
 pub returns-then-not-plains : goal.returns-then-not-plains
 returns-then-not-plains c =
     let r =
-    plain_wrong _ _ _ _ _ _ _ (scanned (goal.at.returns-then-not-plains c).After-count) c.args.owners.now c.requires.1 (subjects-pass (goal.at.returns-then-not-plains c).Else-not-subjects) (sym c.plains.ensures ∙ c.if-not-plains.true) in
+    plain_wrong _ _ _ _ _ _ _ (scanned (goal.at.returns-then-not-plains c).After-count) c.args.owners.now c.requires.1 (subjects_pass (goal.at.returns-then-not-plains c).Else-not-subjects) (sym c.plains.ensures ∙ c.if-not-plains.true) in
     record { verdict = r.0; table = r.1 }
 
 pub owners-requires : goal.owners-requires
@@ -109,12 +109,12 @@ rooted-requires c =
     let z = c.requires.1 in (
       (right (goal.at.rooted-requires c).Start).low,
       (right (goal.at.rooted-requires c).Start).high,
-      table_size _ _ _ _ _ _ _ h _ z _ (subjects-pass (goal.at.rooted-requires c).Else-not-subjects) (plains-pass (goal.at.rooted-requires c).Else-not-plains) c.owners.ensures,
-      table_inside _ _ _ _ _ _ _ h _ z _ (subjects-pass (goal.at.rooted-requires c).Else-not-subjects) (plains-pass (goal.at.rooted-requires c).Else-not-plains) c.owners.ensures,
+      table_size _ _ _ _ _ _ _ h _ z _ (subjects_pass (goal.at.rooted-requires c).Else-not-subjects) (plains_pass (goal.at.rooted-requires c).Else-not-plains) c.owners.ensures,
+      table_inside _ _ _ _ _ _ _ h _ z _ (subjects_pass (goal.at.rooted-requires c).Else-not-subjects) (plains_pass (goal.at.rooted-requires c).Else-not-plains) c.owners.ensures,
     )
 
 pub returns : goal.returns
 returns c =
     let r =
-    owners_left _ _ _ _ _ _ _ (scanned (goal.at.returns c).After-count) c.args.owners.now c.requires.1 _ (subjects-pass (goal.at.returns c).Else-not-subjects) (plains-pass (goal.at.returns c).Else-not-plains) c.owners.ensures _ c.rooted.ensures in
+    owners_left _ _ _ _ _ _ _ (scanned (goal.at.returns c).After-count) c.args.owners.now c.requires.1 _ (subjects_pass (goal.at.returns c).Else-not-subjects) (plains_pass (goal.at.returns c).Else-not-plains) c.owners.ensures _ c.rooted.ensures in
     record { verdict = r.0; table = r.1 }

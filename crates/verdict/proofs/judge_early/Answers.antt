@@ -13,8 +13,8 @@ use Rattle.verdict.proofs.judge_early.Goals.{After-kind_fits, Else-not-kind_fits
 initiator : (c : Else-not-subject_exists) → exists (state_of c.args.b.now) c.args.c.i ≡ true
 initiator c = sym c.subject_exists.ensures ∙ c.if-not-subject_exists.false
 
-kind-told : (c : After-kind_fits) → kind_fits (kind_of c.args.c.act) c.args.c.o ≡ c.kind_fits.result
-kind-told c = ap (λ (k : Kind). kind_fits k c.args.c.o) (sym c.requires.1) ∙ sym c.kind_fits.ensures
+kind_told : (c : After-kind_fits) → kind_fits (kind_of c.args.c.act) c.args.c.o ≡ c.kind_fits.result
+kind_told c = ap (λ (k : Kind). kind_fits k c.args.c.o) (sym c.requires.1) ∙ sym c.kind_fits.ensures
 
 kind : (c : Else-not-kind_fits) → kind_fits (kind_of c.args.c.act) c.args.c.o ≡ true
 kind c = (ap (λ (k : Kind). kind_fits k c.args.c.o) (sym c.requires.1) ∙ sym c.kind_fits.ensures) ∙ c.if-not-kind_fits.false
@@ -26,7 +26,7 @@ pub returns-then-not-subject_exists : goal.returns-then-not-subject_exists
 returns-then-not-subject_exists c = early_8 _ _ (sym c.subject_exists.ensures ∙ c.if-not-subject_exists.true)
 
 pub returns-then-not-kind_fits : goal.returns-then-not-kind_fits
-returns-then-not-kind_fits c = early_9 _ _ (initiator (goal.at.returns-then-not-kind_fits c).Else-not-subject_exists) (kind-told (goal.at.returns-then-not-kind_fits c).After-kind_fits ∙ c.if-not-kind_fits.true)
+returns-then-not-kind_fits c = early_9 _ _ (initiator (goal.at.returns-then-not-kind_fits c).Else-not-subject_exists) (kind_told (goal.at.returns-then-not-kind_fits c).After-kind_fits ∙ c.if-not-kind_fits.true)
 
 pub returns-then-not-names_present : goal.returns-then-not-names_present
 returns-then-not-names_present c = early_10 _ _ (initiator (goal.at.returns-then-not-names_present c).Else-not-subject_exists) (kind (goal.at.returns-then-not-names_present c).Else-not-kind_fits) (sym c.names_present.ensures ∙ c.if-not-names_present.true)

@@ -12,11 +12,11 @@ pub returns-then-not-is_permitted : goal.returns-then-not-is_permitted
 returns-then-not-is_permitted c = denied _ _ (sym c.is_permitted.ensures ∙ c.if-not-is_permitted.true)
 
 -- where the initiator has the right needed
-permitted-there : (c : Else-not-is_permitted) → permitted (state_of c.args.b.now) c.args.c c.args.c.act ≡ true
-permitted-there c = sym c.is_permitted.ensures ∙ c.if-not-is_permitted.false
+permitted_there : (c : Else-not-is_permitted) → permitted (state_of c.args.b.now) c.args.c c.args.c.act ≡ true
+permitted_there c = sym c.is_permitted.ensures ∙ c.if-not-is_permitted.false
 
 pub returns-then-not-is_deletable : goal.returns-then-not-is_deletable
-returns-then-not-is_deletable c = unset _ _ (permitted-there (goal.at.returns-then-not-is_deletable c).Else-not-is_permitted) (sym c.is_deletable.ensures ∙ c.if-not-is_deletable.true)
+returns-then-not-is_deletable c = unset _ _ (permitted_there (goal.at.returns-then-not-is_deletable c).Else-not-is_permitted) (sym c.is_deletable.ensures ∙ c.if-not-is_deletable.true)
 
 -- .. and a bit to be deleted is set
 entitled : (c : Else-not-is_deletable) → Entitled c.args.b.now c.args.f c.args.c
