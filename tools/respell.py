@@ -49,16 +49,20 @@ def foreign(text, own):
     return found
 
 
-def turned(text, names, comments):
-    """The text with each of the names turned; in comments only what stands in backticks, unless `comments`."""
+def turned(text, names):
+    """The text with each of the names turned; a name with dashes in a comment only where it stands in backticks, since else it is prose."""
+
     def word(m):
         return names.get(m.group(0), m.group(0))
+
+    def plain(m):
+        return word(m) if re.match("[a-z]+[A-Z]", m.group(0)) else m.group(0)
+
     out = []
     for line in text.split("\n"):
-        lead = line.lstrip()
-        if lead.startswith(("-- ", "// ", "# ")) and not comments:
+        if line.lstrip().startswith(("-- ", "// ", "# ")):
             line = re.sub(r"`[^`]*`", lambda m: WORD.sub(word, m.group(0)), line)
-            line = WORD.sub(lambda m: names.get(m.group(0), m.group(0)) if re.match("[a-z]+[A-Z]", m.group(0)) else m.group(0), line)
+            line = WORD.sub(plain, line)
         else:
             line = WORD.sub(word, line)
         out.append(line)
@@ -96,9 +100,8 @@ def main():
         text = read(p)
         names = {w: new for w, new in every.items() if w not in foreign(text, own)}
         if p not in specs:
-            # only what the file takes from this repository's definitions, or reads as a field after a dot
             names = outside(text, names, own, p)
-        new = turned(text, names, False)
+        new = turned(text, names)
         if new != text:
             with open(p, "w", encoding="utf-8") as f:
                 f.write(new)
@@ -106,8 +109,9 @@ def main():
 
 
 def outside(text, names, own, path):
+    """Those of the names that a file outside specs/ can mean: an edit any, another what it imports or reads as a field."""
     if path.endswith(".edit"):
-        return {w: new for w, new in names.items()}
+        return names
     taken = set()
     for line in text.split("\n"):
         m = USE.match(line.rstrip(";"))
