@@ -3,8 +3,8 @@ use Rattle.std.specs.Prelude.{ℕ, ◌+◌, ◌-◌, ◌≤◌, ◌<◌, ◌≡�
 use Rattle.std.proofs.Common.{arith}
 use Rattle.matrix.specs.Bytes.{number_at}
 use Rattle.matrix.specs.Shape.{limits}
-use Rattle.question.specs.declared.Safety.{Safety}
-use Rattle.question.specs.declared.Safety.TheVariants.{Refused}
+use Rattle.question.specs.Safety.{Safety}
+use Rattle.question.specs.Safety.{Refused}
 use Rattle.question.specs.Asked.{Answers}
 
 -- the most bytes of the input, and the bytes of the question at its end

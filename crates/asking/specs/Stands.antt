@@ -4,8 +4,8 @@ use Rattle.std.proofs.Common.{arith, sym, ◌∙◌, inl, inr, ⊎_elim, length-
 use Rattle.std.proofs.lemmas.Bool.{eqb-false}
 use Rattle.matrix.specs.Shape.{limits}
 use Rattle.matrix.specs.CommandList.{well_formed, commands_in}
-use Rattle.question.specs.declared.Safety.{Safety}
-use Rattle.question.specs.declared.Safety.TheVariants.{Safe, Leaks, Refused}
+use Rattle.question.specs.Safety.{Safety}
+use Rattle.question.specs.Safety.{Safe, Leaks, Refused}
 use Rattle.question.specs.Asked.{Written, Decided, Answers, safety_refusal, list_room}
 use Rattle.laws.specs.Tests.{way}
 use Rattle.lists.specs.Formed.{formed, length_commands}

@@ -8,8 +8,8 @@ use Rattle.matrix.specs.Shape.{limits, shape_of}
 use Rattle.matrix.specs.Shaped.{Octets}
 use Rattle.matrix.specs.CommandList.{commands_of}
 use Rattle.laws.specs.Tests.{way}
-use Rattle.question.specs.declared.Safety.{Safety}
-use Rattle.question.specs.declared.Safety.TheVariants.{Safe, Leaks, Refused}
+use Rattle.question.specs.Safety.{Safety}
+use Rattle.question.specs.Safety.{Safe, Leaks, Refused}
 use Rattle.question.specs.Asked.{list_room, safety_refusal, Decided, Answers}
 use Rattle.question.specs.Numbers.{safety_numbers}
 use Rattle.bunvespo.specs.Numbers.{AnswersNumbers}

@@ -10,7 +10,7 @@ use Rattle.matrix.specs.declared.Form.{Form}
 use Rattle.matrix.specs.declared.Form.TheVariants.{Plain, Starred}
 use Rattle.matrix.specs.declared.Right.TheVariants.{Basic}
 use Rattle.matrix.specs.declared.Fields.{Fields}
-use Rattle.matrix.specs.declared.Answer.TheVariants.{Accepted}
+use Rattle.matrix.specs.Answers.{Accepted}
 use Rattle.matrix.specs.Names.{name_of}
 use Rattle.matrix.specs.State.{State, exists, exists_name, put}
 use Rattle.matrix.specs.Commands.{Raw}

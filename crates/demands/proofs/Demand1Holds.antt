@@ -10,8 +10,8 @@ use borrow.Author.Tests.{eqb-true, eqb-false, eq-eqb}
 use Rattle.matrix.specs.declared.Name.{Name}
 use Rattle.matrix.specs.declared.Right.{Right}
 use Rattle.matrix.specs.declared.Fields.{Fields}
-use Rattle.matrix.specs.declared.Answer.{Answer}
-use Rattle.matrix.specs.declared.Holding.{Holding}
+use Rattle.matrix.specs.Answers.{Answer}
+use Rattle.matrix.specs.Answers.{Holding}
 use Rattle.matrix.specs.declared.Numbers.{Numbers}
 use Rattle.matrix.specs.Names.{name_of}
 use Rattle.matrix.specs.Numbers.{numbers, held_numbers, command_numbers}
@@ -25,7 +25,7 @@ use Rattle.matrix.specs.Calls.{valid_answer, question_fits, held_refusal, holds_
 use Rattle.laws.specs.Tests.{way, clash, fails, or_cases}
 use Rattle.laws.specs.Numbers.{answer_number, held_numbers_lem, command_numbers_lem}
 use Rattle.owners.proofs.Read.{valid_record}
-use Rattle.question.specs.declared.Safety.{Safety}
+use Rattle.question.specs.Safety.{Safety}
 use Rattle.question.specs.Numbers.{safety_numbers}
 use Rattle.question.specs.Asked.{safety_refusal, Decided, Answers}
 use Rattle.demands.specs.First.{condition, NoneHolds, Numbered}

@@ -3,7 +3,7 @@ use Rattle.std.specs.Prelude.{ℕ, ◌+◌, ◌≤◌, ◌<◌, ◌≡◌, ◌�
 use Rattle.std.proofs.Math.Path.{refl, ap, subst}
 use Rattle.std.proofs.Common.{◌∙◌, inl, inr}
 use mathlib.Core.List.{List, [], ◌∷◌}
-use Rattle.matrix.specs.declared.Holding.{Holding}
+use Rattle.matrix.specs.Answers.{Holding}
 use Rattle.matrix.specs.Names.{name_of}
 use Rattle.matrix.specs.Rights.{right_of}
 use Rattle.matrix.specs.State.{held}
@@ -14,7 +14,7 @@ use Rattle.matrix.specs.Record.{record_refusal}
 use Rattle.matrix.specs.CommandList.{well_formed}
 use Rattle.matrix.specs.Calls.{question_fits, held_refusal, held_answer, run_refusal, ran_on, run_answer, run_bytes}
 use Rattle.laws.specs.Tests.{clash, holds, and_left}
-use Rattle.question.specs.declared.Safety.{Safety}
+use Rattle.question.specs.Safety.{Safety}
 use Rattle.question.specs.Asked.{trust_fits, list_room, SafeRecord, Written, Decided, Answers}
 use Rattle.steps.specs.Runs.{leaks_unsafe}
 use Rattle.demands.specs.First.{condition, Condition, NoneHolds}

@@ -9,7 +9,7 @@ use Rattle.matrix.specs.Converting.{convert_refusal, convert_result, convert_out
 use Rattle.matrix.specs.FirstHeld.{first_held_refusal, first_held_result}
 use Rattle.laws.specs.Tests.{way, same_test}
 use Rattle.laws.specs.Range.{ranged, in_range_lem}
-use Rattle.question.specs.declared.Safety.{Safety}
+use Rattle.question.specs.Safety.{Safety}
 use Rattle.question.specs.Asked.{safety_refusal, Answers}
 use Rattle.demands.specs.First.{First}
 use Rattle.demands.specs.Printed.{OutOfRange, safety_conditions}

@@ -9,14 +9,14 @@ use Rattle.matrix.specs.declared.Name.{Name}
 use Rattle.matrix.specs.declared.Form.{Form}
 use Rattle.matrix.specs.declared.Form.TheVariants.{Plain, Starred}
 use Rattle.matrix.specs.declared.Right.TheVariants.{Basic}
-use Rattle.matrix.specs.declared.Holding.{Holding}
+use Rattle.matrix.specs.Answers.{Holding}
 use Rattle.matrix.specs.Names.{name_of}
 use Rattle.matrix.specs.State.{State, held}
 use Rattle.matrix.specs.Shape.{limits, shape_of, columns, bits_of}
 use Rattle.matrix.specs.Reading.{state_of}
 use Rattle.matrix.specs.Calls.{question_fits, held_refusal, holds_on, held_answer, run_from}
 use Rattle.laws.specs.Tests.{clash, holds, and_left, and_both}
-use Rattle.question.specs.declared.Safety.{Safety}
+use Rattle.question.specs.Safety.{Safety}
 use Rattle.question.specs.Asked.{LeaksRecord, Answers}
 use Rattle.steps.specs.Runs.{leaks_unsafe}
 use Rattle.demands.specs.First.{condition, NoneHolds}

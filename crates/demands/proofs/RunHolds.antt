@@ -8,7 +8,7 @@ use Rattle.std.proofs.Math.Bool.{false}
 use Rattle.std.proofs.Math.Dec.{eqb}
 use borrow.Author.Tests.{ne_eqb}
 use Rattle.matrix.specs.declared.Fields.{Fields}
-use Rattle.matrix.specs.declared.Outcome.{Outcome}
+use Rattle.matrix.specs.Answers.{Outcome}
 use Rattle.matrix.specs.Numbers.{run_numbers}
 use Rattle.matrix.specs.State.{State}
 use Rattle.matrix.specs.declared.Shape.{Shape}

@@ -2,7 +2,7 @@
 use Rattle.std.specs.Prelude.{ℕ, ◌+◌, ◌≡◌, refl, Bool, true, false, cond, List, [], ◌∷◌, eqb}
 use Rattle.std.proofs.Common.{sym, ◌∙◌, ap, ⊎_elim}
 use Rattle.matrix.specs.declared.Fields.{Fields}
-use Rattle.matrix.specs.declared.Answer.{Answer}
+use Rattle.matrix.specs.Answers.{Answer}
 use Rattle.matrix.specs.Numbers.{command_numbers}
 use Rattle.matrix.specs.State.{State}
 use Rattle.matrix.specs.declared.Shape.{Shape}

@@ -6,7 +6,7 @@ use Rattle.matrix.specs.declared.Name.TheVariants.{Subject}
 use Rattle.matrix.specs.declared.Form.{Form}
 use Rattle.matrix.specs.declared.Form.TheVariants.{Plain, Starred}
 use Rattle.matrix.specs.declared.Fields.{Fields}
-use Rattle.matrix.specs.declared.Answer.TheVariants.{Accepted}
+use Rattle.matrix.specs.Answers.{Accepted}
 use Rattle.matrix.specs.State.{State, exists, exists_name}
 use Rattle.matrix.specs.Commands.{Raw}
 use Rattle.matrix.specs.Step.{refusal, next}

@@ -3,8 +3,8 @@
 -- record of a question is lent to be read alone, so that there is nothing to say of its bytes.
 use Rattle.std.specs.Prelude.{ℕ, ◌≡◌, ◌≢◌, ◌↔◌, ◌⊎◌, true, false, List, [], ◌∷◌, length}
 use Rattle.matrix.specs.declared.Fields.{Fields}
-use Rattle.matrix.specs.declared.Answer.{Answer}
-use Rattle.matrix.specs.declared.Holding.{Holding}
+use Rattle.matrix.specs.Answers.{Answer}
+use Rattle.matrix.specs.Answers.{Holding}
 use Rattle.matrix.specs.Names.{name_of}
 use Rattle.matrix.specs.Numbers.{held_numbers, command_numbers, run_numbers}
 use Rattle.matrix.specs.State.{exists, exists_name}
@@ -13,7 +13,7 @@ use Rattle.matrix.specs.Shaped.{Octets}
 use Rattle.matrix.specs.Reading.{state_of}
 use Rattle.matrix.specs.CommandList.{command_place, fields_at, commands_of}
 use Rattle.matrix.specs.Calls.{valid_answer, held_answer, command_answer, command_bytes, run_answer, run_bytes}
-use Rattle.question.specs.declared.Safety.{Safety}
+use Rattle.question.specs.Safety.{Safety}
 use Rattle.question.specs.Numbers.{safety_numbers}
 use Rattle.question.specs.Asked.{Answers}
 use Rattle.demands.specs.First.{First, NoneHolds, Numbered, Among}

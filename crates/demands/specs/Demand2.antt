@@ -4,7 +4,7 @@ use Rattle.std.specs.Prelude.{ℕ, ◌-◌, ◌≤◌, ◌<◌, ◌≡◌, ◌�
 use Rattle.matrix.specs.declared.Name.TheVariants.{Subject}
 use Rattle.matrix.specs.declared.Right.{Right}
 use Rattle.matrix.specs.declared.Fields.{Fields}
-use Rattle.matrix.specs.declared.Answer.TheVariants.{Accepted}
+use Rattle.matrix.specs.Answers.{Accepted}
 use Rattle.matrix.specs.Names.{name_of}
 use Rattle.matrix.specs.Numbers.{command_numbers}
 use Rattle.matrix.specs.Owners.{walk, links_of}

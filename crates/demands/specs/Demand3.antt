@@ -1,10 +1,10 @@
 -- Demand 3: "safe" exactly where no list of commands by untrusted subjects ever gets there; else "leaks", with a list that does (Manual 8).
 use Rattle.std.specs.Prelude.{ℕ, ◌+◌, ◌≤◌, ◌≡◌, ◌≢◌, ◌↔◌, List, length, take, drop}
-use Rattle.matrix.specs.declared.Holding.{Holding}
+use Rattle.matrix.specs.Answers.{Holding}
 use Rattle.matrix.specs.Shape.{limits, shape_of}
 use Rattle.matrix.specs.CommandList.{commands_of}
 use Rattle.matrix.specs.Calls.{held_answer, run_answer, run_bytes}
-use Rattle.question.specs.declared.Safety.{Safety}
+use Rattle.question.specs.Safety.{Safety}
 use Rattle.question.specs.Trust.{trusted_by}
 use Rattle.question.specs.Leaks.{Untrusted}
 use Rattle.question.specs.Asked.{list_room, SafeRecord, Answers}

@@ -1,7 +1,7 @@
 -- The command call on each command of a list in turn, up to the first that is refused; and a list cut after some of its commands.
 use Rattle.std.specs.Prelude.{ℕ, ◌+◌, ◌*◌, cond, List, [], ◌∷◌, eqb, take}
 use Rattle.matrix.specs.declared.Fields.{Fields}
-use Rattle.matrix.specs.declared.Outcome.{Outcome}
+use Rattle.matrix.specs.Answers.{Outcome}
 use Rattle.matrix.specs.Numbers.{command_numbers}
 use Rattle.matrix.specs.Bytes.{set_number}
 use Rattle.matrix.specs.Shape.{limits}

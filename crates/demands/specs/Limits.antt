@@ -6,7 +6,7 @@ use Rattle.matrix.specs.Shape.{Limits, limits, shape_of}
 use Rattle.matrix.specs.Calls.{valid_answer, held_answer, held_result, command_answer, command_result, command_bytes, run_answer, run_result, run_bytes}
 use Rattle.matrix.specs.Converting.{convert_result, convert_output}
 use Rattle.matrix.specs.FirstHeld.{first_held_result}
-use Rattle.question.specs.declared.Safety.{Safety}
+use Rattle.question.specs.Safety.{Safety}
 use Rattle.question.specs.Asked.{safety_refusal, Answers}
 
 abbrev pub limits_before : Limits

@@ -4,11 +4,11 @@ use Rattle.std.specs.Prelude.{ℕ, ◌<◌, ◌≡◌, ◌||◌, List, [], lengt
 use Rattle.matrix.specs.declared.Name.{Name}
 use Rattle.matrix.specs.declared.Form.TheVariants.{Plain, Starred}
 use Rattle.matrix.specs.declared.Right.TheVariants.{Own, Control, Basic}
-use Rattle.matrix.specs.declared.Holding.{Holding}
+use Rattle.matrix.specs.Answers.{Holding}
 use Rattle.matrix.specs.State.{State, held}
 use Rattle.matrix.specs.Shape.{limits, shape_of, bits_of}
 use Rattle.matrix.specs.Calls.{held_answer}
-use Rattle.question.specs.declared.Safety.{Safety}
+use Rattle.question.specs.Safety.{Safety}
 use Rattle.question.specs.Asked.{LeaksRecord, Answers}
 use Rattle.demands.specs.First.{NoneHolds}
 use Rattle.demands.specs.Printed.{safety_conditions}

@@ -5,7 +5,7 @@ use Rattle.std.proofs.Math.Path.{ap}
 use Rattle.std.proofs.Math.Bool.{cond}
 use Rattle.std.proofs.Math.Dec.{eqb}
 use Rattle.matrix.specs.declared.Fields.{Fields}
-use Rattle.matrix.specs.declared.Answer.{Answer}
+use Rattle.matrix.specs.Answers.{Answer}
 use Rattle.matrix.specs.Step.{answer}
 use Rattle.matrix.specs.Valid.{Valid}
 use Rattle.matrix.specs.Shape.{limits, shape_of, width_of}

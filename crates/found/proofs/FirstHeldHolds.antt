@@ -6,8 +6,8 @@ use Rattle.std.proofs.Math.Path.{refl}
 use Rattle.std.proofs.Math.Bool.{cond}
 use borrow.Author.Tests.{eqb-true, eqb-false, ne_eqb, ltb-true, ltb-false}
 use Rattle.matrix.specs.declared.Fields.{Fields}
-use Rattle.matrix.specs.declared.Holding.TheVariants.{Yes, No}
-use Rattle.matrix.specs.declared.Outcome.{Outcome}
+use Rattle.matrix.specs.Answers.{Yes, No}
+use Rattle.matrix.specs.Answers.{Outcome}
 use Rattle.matrix.specs.declared.Name.{Name}
 use Rattle.matrix.specs.declared.Shape.{Shape}
 use Rattle.matrix.specs.Names.{name_of}

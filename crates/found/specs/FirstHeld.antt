@@ -1,7 +1,7 @@
 -- After which command of a list a right is first held (Manual 6.3, 7.3), told by the list run and the held question. The record and the list are
 -- lent to be read alone, so that there is nothing to say of their bytes; of the lent copy the contract says it (`Lent`).
 use Rattle.std.specs.Prelude.{ℕ, ◌+◌, ◌≤◌, ◌<◌, ◌≡◌, ◌≢◌, ◌↔◌, List, [], ◌∷◌}
-use Rattle.matrix.specs.declared.Holding.{Holding}
+use Rattle.matrix.specs.Answers.{Holding}
 use Rattle.matrix.specs.Shape.{limits}
 use Rattle.matrix.specs.CommandList.{commands_in}
 use Rattle.matrix.specs.Calls.{held_answer, run_answer, run_bytes}

@@ -1,8 +1,8 @@
 -- The rows of Manual 11.2 about validity, conversions, held questions and commands, as theorems about the definitions.
 use Rattle.std.specs.Prelude.{◌≡◌, refl, true, false, [], set, replicate}
 use Rattle.matrix.specs.declared.Name.TheVariants.{Plain}
-use Rattle.matrix.specs.declared.Answer.TheVariants.{Accepted, Refused}
-use Rattle.matrix.specs.declared.Holding.{Holding}
+use Rattle.matrix.specs.Answers.{Accepted, Refused}
+use Rattle.matrix.specs.Answers.{Holding}
 use Rattle.matrix.specs.Numbers.{numbers}
 use Rattle.matrix.specs.Bounded.{any, all, count, least}
 use Rattle.matrix.specs.State.{exists_name}

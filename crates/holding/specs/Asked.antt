@@ -3,8 +3,8 @@ use Rattle.std.specs.Prelude.{ℕ, ◌<◌, ◌≡◌, Bool, ◌&&◌, List, eqb
 use Rattle.std.proofs.Math.Path.{refl, sym}
 use Rattle.std.proofs.Common.{◌∙◌, ap, ltb-true, eq-eqb, ne_eqb}
 use Rattle.std.proofs.Math.Bool.{true, false, cond}
-use Rattle.matrix.specs.declared.Holding.{Holding}
-use Rattle.matrix.specs.declared.Holding.TheVariants.{Yes, No, Refused}
+use Rattle.matrix.specs.Answers.{Holding}
+use Rattle.matrix.specs.Answers.{Yes, No, Refused}
 use Rattle.matrix.specs.declared.Shape.{Shape}
 use Rattle.matrix.specs.Tests.{first_failed}
 use Rattle.matrix.specs.Shape.{limits, shape_of, bits_of, columns}

@@ -1,7 +1,7 @@
 -- What a held question on a record of the right form comes to.
 use Rattle.std.specs.Prelude.{ℕ, cond, List}
-use Rattle.matrix.specs.declared.Holding.{Holding}
-use Rattle.matrix.specs.declared.Holding.TheVariants.{Yes, No, Refused}
+use Rattle.matrix.specs.Answers.{Holding}
+use Rattle.matrix.specs.Answers.{Yes, No, Refused}
 use Rattle.matrix.specs.Shape.{shape_of}
 use Rattle.matrix.specs.Calls.{question_fits, holds_on}
 

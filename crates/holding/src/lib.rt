@@ -4,6 +4,7 @@
 
 ghost use Rattle.std.specs.Prelude.{◌≡◌, ◌<◌};
 ghost use Rattle.matrix.specs.Shape.{bits_of};
+ghost use Rattle.matrix.specs.Refusals.{holding_of};
 ghost use Rattle.matrix.specs.Calls.{question_fits, holds_on};
 ghost use Rattle.codec.specs.Bits.{word_bits};
 ghost use Rattle.codec.specs.ShapeRight.{ShapeRight};
@@ -11,7 +12,7 @@ ghost use Rattle.cells.specs.Station.{Cell, Station};
 ghost use Rattle.holding.specs.Held.{held_on};
 ghost use Rattle.holding.specs.Mask.{mask_of};
 
-use matrix::{Holding, Shape};
+use matrix::{Refusal, Shape};
 
 // The mask of a right's code: the bits by which that right is held (Manual 1.3). A basic right is held by the bit of its starred form too, of
 // which the code is odd, and by that of own, which is bit 0. The kind of the right makes no branch here: it is a digit, 1 or 0.
@@ -36,25 +37,16 @@ pub fn question_fits(f: Shape, s: usize, o: usize, right: usize) -> bool
     requires { ShapeRight f }
     ensures { result ≡ question_fits f s o right }
 {
-    if f.n <= s {
-        return false;
-    }
-    if cells::columns_of(f) <= o {
-        return false;
-    }
-    right < cells::bits_of(f)
+    s < f.n && o < cells::columns_of(f) && right < cells::bits_of(f)
 }
 
 // Whether s holds a right over the name of column o, numbers as given: refusal 7, or yes or no.
-pub fn held_on(b: &[u8], f: Shape, s: usize, o: usize, right: usize) -> Holding
+pub fn held_on(b: &[u8], f: Shape, s: usize, o: usize, right: usize) -> Result<bool, Refusal>
     requires { Station b.now f }
-    ensures { result ≡ held_on b.now s o right }
+    ensures { holding_of result ≡ held_on b.now s o right }
 {
     if !question_fits(f, s, o, right) {
-        return Holding::Refused(7);
+        return Err(Refusal::Bounds);
     }
-    if is_held(b, f, s, o, right) {
-        return Holding::Yes;
-    }
-    Holding::No
+    Ok(is_held(b, f, s, o, right))
 }

@@ -11,3 +11,4 @@ pub mod Numbers
 pub mod Range
 pub mod BitOps
 pub mod Copied
+pub mod Refusals

@@ -1,11 +1,11 @@
 -- The answer of every public call, and the bytes after it, under limits of n and p (Manual 7, 8.6).
 use Rattle.std.specs.Prelude.{ℕ, ◌+◌, Bool, cond, ◌&&◌, List, [], ◌∷◌, eqb, ltb}
 use Rattle.matrix.specs.declared.Fields.{Fields}
-use Rattle.matrix.specs.declared.Answer.{Answer}
-use Rattle.matrix.specs.declared.Answer.TheVariants.{Refused}
-use Rattle.matrix.specs.declared.Holding.{Holding}
-use Rattle.matrix.specs.declared.Holding.TheVariants.{Yes, No}
-use Rattle.matrix.specs.declared.Outcome.{Outcome}
+use Rattle.matrix.specs.Answers.{Answer}
+use Rattle.matrix.specs.Answers.{Refused}
+use Rattle.matrix.specs.Answers.{Holding}
+use Rattle.matrix.specs.Answers.{Yes, No}
+use Rattle.matrix.specs.Answers.{Outcome}
 use Rattle.matrix.specs.declared.Numbers.{Numbers}
 use Rattle.matrix.specs.declared.Shape.{Shape}
 use Rattle.matrix.specs.Names.{name_of}
@@ -39,7 +39,7 @@ unfoldable pub held_answer : Limits → List ℕ → ℕ → ℕ → ℕ → Hol
 held_answer most b s o right =
     cond (eqb (held_refusal most b s o right) 0)
     (cond (holds_on b s o right) Yes No)
-    (Rattle.matrix.specs.declared.Holding.TheVariants.Refused (held_refusal most b s o right))
+    (Holding.Refused (held_refusal most b s o right))
 
 -- the same in numbers
 unfoldable pub held_result : Limits → List ℕ → ℕ → ℕ → ℕ → Numbers

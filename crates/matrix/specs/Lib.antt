@@ -2,7 +2,9 @@
 -- its section 12 has the notation and says which rule is where.
 pub mod Bounded
 pub mod Names
+pub mod Answers
 pub mod Numbers
+pub mod Refusals
 pub mod Rights
 pub mod State
 pub mod Owners

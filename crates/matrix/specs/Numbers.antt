@@ -1,9 +1,9 @@
 -- The answers in numbers: a refusal, 0 where the call is answered, and a value. Each case of an answer has its two numbers here, and the
 -- calls for other languages answer by them (Manual 10). That of the safety question is in the crate question.
 use Rattle.std.specs.Prelude.{ℕ, Bool, cond}
-use Rattle.matrix.specs.declared.Answer.{Answer}
-use Rattle.matrix.specs.declared.Holding.{Holding}
-use Rattle.matrix.specs.declared.Outcome.{Outcome}
+use Rattle.matrix.specs.Answers.{Answer}
+use Rattle.matrix.specs.Answers.{Holding}
+use Rattle.matrix.specs.Answers.{Outcome}
 use Rattle.matrix.specs.declared.Numbers.{Numbers}
 
 abbrev pub truth : Bool → ℕ

@@ -4,8 +4,8 @@ use Rattle.matrix.specs.declared.Right.TheVariants.{Own, Control, Basic}
 use Rattle.matrix.specs.declared.Act.{Act}
 use Rattle.matrix.specs.declared.Act.TheVariants.{Transfer, Grant, Delete, CreateObject, DestroyObject, CreateSubject, DestroySubject}
 use Rattle.matrix.specs.declared.Command.{Command}
-use Rattle.matrix.specs.declared.Answer.{Answer}
-use Rattle.matrix.specs.declared.Answer.TheVariants.{Accepted, Refused}
+use Rattle.matrix.specs.Answers.{Answer}
+use Rattle.matrix.specs.Answers.{Accepted, Refused}
 use Rattle.matrix.specs.Names.{is_subject, column_of}
 use Rattle.matrix.specs.State.{State}
 use Rattle.matrix.specs.Owners.{walk, links_of}

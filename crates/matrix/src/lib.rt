@@ -2,6 +2,9 @@
 
 #![tactic(auto)]
 
+ghost use Rattle.std.specs.Prelude.{◌≡◌};
+ghost use Rattle.matrix.specs.Refusals.{refusal_number, alone, numbers_of};
+
 // The most subject names and plain names that a record has, and so the most columns.
 pub const MOST_SUBJECTS: usize = 40;
 
@@ -111,26 +114,51 @@ pub enum Walked {
     Lost,
 }
 
-// The answer to a command: accepted with the links of the walk, or refused with the number and the links.
-#[derive(Clone, Copy)]
-pub enum Answer {
-    Accepted(usize),
-    Refused(usize, usize),
+// Why a call is turned down, under the number that callers in C get (Manual 7.1).
+#[derive(Clone, Copy, Debug, PartialEq, Eq)]
+pub enum Refusal {
+    RecordShort = 1,
+    Version = 2,
+    Counts = 3,
+    RecordLength = 4,
+    NotValid = 5,
+    Code = 6,
+    Bounds = 7,
+    InitiatorAbsent = 8,
+    WrongKind = 9,
+    NameAbsent = 10,
+    NameExists = 11,
+    RightLacking = 12,
+    WalkMeets = 13,
+    OtherController = 14,
+    BufferShort = 15,
+    ListForm = 16,
+    WindowNumber = 17,
+    HighRight = 18,
+    NotSet = 19,
 }
 
-// The answer to whether a right is held.
-#[derive(Clone, Copy)]
-pub enum Holding {
-    Yes,
-    No,
-    Refused(usize),
+impl Refusal {
+    pub fn number(self) -> u64
+        ensures { result ≡ refusal_number self }
+    {
+        self as u64
+    }
 }
 
-// The answer of a list run: the number of commands accepted, and the refusal that ended it, 0 if none.
+// A refusal with a number that is answered beside it: of a command the links of its walk, of a list the commands that were accepted before.
 #[derive(Clone, Copy)]
-pub struct Outcome {
-    pub accepted: usize,
-    pub refusal: usize,
+pub struct Refused {
+    pub refusal: Refusal,
+    pub value: usize,
+}
+
+impl From<Refusal> for Refused {
+    ghost from_gives = { λ r e. e ≡ alone r };
+
+    fn from(refusal: Refusal) -> Refused {
+        Refused { refusal, value: 0 }
+    }
 }
 
 // An answer in numbers: the refusal, 0 where the call is answered, and the value.
@@ -139,4 +167,18 @@ pub struct Outcome {
 pub struct Numbers {
     pub refusal: u64,
     pub value: u64,
+}
+
+impl From<Result<u64, Refused>> for Numbers {
+    ghost from_gives = { λ r n. n ≡ numbers_of r };
+
+    fn from(answer: Result<u64, Refused>) -> Numbers {
+        match answer {
+            Ok(value) => Numbers { refusal: 0, value },
+            Err(e) => Numbers {
+                refusal: e.refusal.number(),
+                value: e.value as u64,
+            },
+        }
+    }
 }

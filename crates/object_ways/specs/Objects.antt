@@ -7,7 +7,7 @@ use Rattle.matrix.specs.declared.Right.TheVariants.{Own}
 use Rattle.matrix.specs.declared.Act.TheVariants.{Transfer, Grant, CreateObject, DestroyObject}
 use Rattle.matrix.specs.declared.Kind.TheVariants.{PlainName}
 use Rattle.matrix.specs.declared.Fields.{Fields}
-use Rattle.matrix.specs.declared.Answer.TheVariants.{Accepted}
+use Rattle.matrix.specs.Answers.{Accepted}
 use Rattle.matrix.specs.declared.Shape.{Shape}
 use Rattle.matrix.specs.Names.{is_subject, name_of}
 use Rattle.matrix.specs.State.{State, exists, exists_name, put, clear}

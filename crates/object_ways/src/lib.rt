@@ -4,13 +4,14 @@
 
 ghost use Rattle.std.specs.Prelude.{◌≡◌, cond};
 ghost use Rattle.matrix.specs.Valid.{Valid};
+ghost use Rattle.matrix.specs.Answers.{Answer};
 ghost use Rattle.matrix.specs.Reading.{state_of};
 ghost use Rattle.cells.specs.Station.{Station};
 ghost use Rattle.short_ways.specs.Answered.{Answered};
 ghost use Rattle.short_ways.specs.Allowed.{Where};
 ghost use Rattle.short_ways.specs.WithoutBasic.{WithoutBasic};
 
-use matrix::{Answer, Fields, Kind, Right, Shape};
+use matrix::{Fields, Kind, Right, Shape};
 
 // The short way of code 10: an absent plain object gets an owner.
 fn create_object(b: &mut [u8], f: Shape, c: Fields) -> bool

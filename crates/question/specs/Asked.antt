@@ -10,7 +10,7 @@ use Rattle.matrix.specs.Reading.{state_of}
 use Rattle.matrix.specs.Record.{record_refusal}
 use Rattle.matrix.specs.CommandList.{list_head, record_bytes, well_formed, commands_of}
 use Rattle.matrix.specs.Calls.{question_fits}
-use Rattle.question.specs.declared.Safety.{Safety}
+use Rattle.question.specs.Safety.{Safety}
 use Rattle.question.specs.Numbers.{safety_numbers}
 use Rattle.question.specs.Trust.{trusted_by}
 use Rattle.question.specs.Safe.{Safe}

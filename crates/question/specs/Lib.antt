@@ -2,5 +2,6 @@
 pub mod Trust
 pub mod Safe
 pub mod Leaks
+pub mod Safety
 pub mod Numbers
 pub mod Asked

@@ -1,11 +1,3 @@
-// The answer to a safety question. The definitions are in specs/.
+// The safety question. The definitions are in specs/; the crate has no code.
 
 #![tactic(auto)]
-
-// Safe, or leaks by so many commands, or refused by a number.
-#[derive(Clone, Copy)]
-pub enum Safety {
-    Safe,
-    Leaks(usize),
-    Refused(usize),
-}

@@ -1,7 +1,7 @@
 -- What a list run on a record of the right form comes to, and how far it has got.
 use Rattle.std.specs.Prelude.{ℕ, ◌-◌, ◌≡◌, List, length}
 use Rattle.matrix.specs.declared.Fields.{Fields}
-use Rattle.matrix.specs.declared.Outcome.{Outcome}
+use Rattle.matrix.specs.Answers.{Outcome}
 use Rattle.matrix.specs.declared.Shape.{Shape}
 use Rattle.matrix.specs.State.{State}
 use Rattle.matrix.specs.Shape.{shape_of}

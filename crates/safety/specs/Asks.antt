@@ -6,8 +6,8 @@ use Rattle.matrix.specs.declared.Shape.{Shape}
 use Rattle.matrix.specs.Shape.{most_subjects}
 use Rattle.matrix.specs.Reading.{state_of}
 use Rattle.states.specs.Needs.{BitIn}
-use Rattle.question.specs.declared.Safety.{Safety}
-use Rattle.question.specs.declared.Safety.TheVariants.{Leaks}
+use Rattle.question.specs.Safety.{Safety}
+use Rattle.question.specs.Safety.{Leaks}
 use Rattle.question.specs.Asked.{list_room}
 use Rattle.ways.specs.Ways.{Way, list_of}
 use Rattle.writing.specs.Put.{put_head}

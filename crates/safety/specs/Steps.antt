@@ -12,8 +12,8 @@ use Rattle.matrix.specs.declared.Shape.{Shape}
 use Rattle.matrix.specs.Bounded.{least}
 use Rattle.matrix.specs.State.{State, held, exists_name}
 use Rattle.matrix.specs.Reading.{state_of}
-use Rattle.question.specs.declared.Safety.{Safety}
-use Rattle.question.specs.declared.Safety.TheVariants.{Leaks}
+use Rattle.question.specs.Safety.{Safety}
+use Rattle.question.specs.Safety.{Leaks}
 use Rattle.safe.specs.Possible.{possible}
 use Rattle.ways.specs.Ways.{Way, held_now, by_star, by_creation, from_above, no_way, star_holder, untrusted_in, way_over, way_made, way_of}
 use Rattle.writing.specs.Put.{put_all, put_head, put_list}

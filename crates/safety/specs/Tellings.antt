@@ -15,8 +15,8 @@ use Rattle.codec.specs.ShapeRight.{ShapeRight}
 use Rattle.codec.proofs.ShapeRight.{width_some}
 use Rattle.cells.specs.Station.{right_shape}
 use Rattle.states.specs.Needs.{RightIn}
-use Rattle.question.specs.declared.Safety.{Safety}
-use Rattle.question.specs.declared.Safety.TheVariants.{Leaks}
+use Rattle.question.specs.Safety.{Safety}
+use Rattle.question.specs.Safety.{Leaks}
 use Rattle.question.specs.Asked.{list_room}
 use Rattle.route.specs.Parts.{creates, creates_name, held_by_own, finish, destroys_all, among, basic_number}
 use Rattle.finish.specs.Finish.{again_needed}

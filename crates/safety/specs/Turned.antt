@@ -7,8 +7,8 @@ use Rattle.matrix.specs.Tests.{first_failed}
 use Rattle.matrix.specs.Shape.{limits, shape_of}
 use Rattle.matrix.specs.Record.{record_refusal}
 use Rattle.matrix.specs.Calls.{question_fits}
-use Rattle.question.specs.declared.Safety.{Safety}
-use Rattle.question.specs.declared.Safety.TheVariants.{Refused}
+use Rattle.question.specs.Safety.{Safety}
+use Rattle.question.specs.Safety.{Refused}
 use Rattle.question.specs.Numbers.{safety_numbers}
 use Rattle.question.specs.Asked.{trust_fits, list_room, safety_refusal, Decided, Answers}
 

@@ -18,8 +18,8 @@ use Rattle.owners.proofs.Read.{valid_record}
 use Rattle.cells.specs.Station.{Cell, Station, right_shape}
 use Rattle.states.specs.Needs.{RightIn, BitIn}
 use Rattle.holding.specs.Asked.{cell_asked}
-use Rattle.question.specs.declared.Safety.{Safety}
-use Rattle.question.specs.declared.Safety.TheVariants.{Refused}
+use Rattle.question.specs.Safety.{Safety}
+use Rattle.question.specs.Safety.{Refused}
 use Rattle.question.specs.Trust.{trusted_by}
 use Rattle.question.specs.Asked.{trust_fits, list_room, Answers}
 use Rattle.route.specs.Parts.{basic_number}

@@ -2,7 +2,7 @@
 use Rattle.std.specs.Prelude.{ℕ, ◌≡◌, cond, List, eqb}
 use Rattle.matrix.specs.declared.Fields.{Fields}
 use Rattle.matrix.specs.declared.Command.{Command}
-use Rattle.matrix.specs.declared.Answer.{Answer}
+use Rattle.matrix.specs.Answers.{Answer}
 use Rattle.matrix.specs.Changes.{change}
 use Rattle.matrix.specs.Step.{answer, refusal_of, links_with}
 use Rattle.matrix.specs.Shape.{shape_of}

@@ -6,8 +6,8 @@ use Rattle.std.proofs.Math.Bool.{cond}
 use Rattle.matrix.specs.declared.Kind.{Kind}
 use Rattle.matrix.specs.declared.Fields.{Fields}
 use Rattle.matrix.specs.declared.Command.{Command}
-use Rattle.matrix.specs.declared.Answer.{Answer}
-use Rattle.matrix.specs.declared.Answer.TheVariants.{Refused}
+use Rattle.matrix.specs.Answers.{Answer}
+use Rattle.matrix.specs.Answers.{Refused}
 use Rattle.matrix.specs.declared.Shape.{Shape}
 use Rattle.matrix.specs.Names.{name_of, column_of}
 use Rattle.matrix.specs.State.{State}

@@ -1,5 +1,5 @@
 -- A decoded command: it is what the definition decodes, on names and rights of the record.
-use Rattle.std.specs.Prelude.{ℕ, ◌<◌, ◌≡◌, Bool, true, false, cond, ◌&&◌, ltb}
+use Rattle.std.specs.Prelude.{ℕ, ◌<◌, ◌≡◌, Bool, true, false, cond, ◌&&◌, ltb, Result, Ok, Err}
 use Rattle.std.proofs.Common.{arith, sym, ◌∙◌, ap, subst, ltb-true}
 use Rattle.std.proofs.Math.Path.{refl}
 use Rattle.matrix.specs.declared.Name.{Name}
@@ -7,15 +7,16 @@ use Rattle.matrix.specs.declared.Kind.{Kind}
 use Rattle.matrix.specs.declared.Fields.{Fields}
 use Rattle.matrix.specs.declared.Act.{Act}
 use Rattle.matrix.specs.declared.Command.{Command}
+use Rattle.matrix.specs.declared.Refusal.{Refusal}
 use Rattle.matrix.specs.declared.Shape.{Shape}
 use Rattle.matrix.specs.Names.{name_of, named}
+use Rattle.matrix.specs.Refusals.{refusal_number}
 use Rattle.matrix.specs.Commands.{kind_of, known, rule_of, fields_fit}
 use Rattle.matrix.specs.Shape.{columns, basics_of}
 use Rattle.matrix.specs.Calls.{names_fit}
 use Rattle.laws.specs.Tests.{and_left, and_right}
 use Rattle.codec.specs.Columns.{named_name_of}
 use Rattle.decoding.specs.declared.Decoded.{Decoded}
-use Rattle.decoding.specs.declared.Decoded.TheVariants.{Ready, Refused}
 use Rattle.decoding.specs.Decoded.{decoded_of}
 use Rattle.short_ways.specs.Rows.{row_kind}
 
@@ -65,26 +66,31 @@ pub record RefusedBy (f : Shape) (c : Fields) (m : ℕ) : Type 0 where
   pub unfit : (known c.code && fits_all f c) ≡ false
 
 module _ (f : Shape) (c : Fields) where
-  is_ready : (t u : Bool) {d : Command} {kind : Kind} → known c.code ≡ t → fits_all f c ≡ u → Ready d kind ≡ cond t (cond u (Ready (command_of f.n c) (rule_of c.code c.k).kind) (Refused 7)) (Refused 6) → DecodedTo f c d kind
-  is_ready true true {d} {kind} e i h =
-      let q : d ≡ command_of f.n c = cc in
+  -- the command of the fields with its row's kind
+  abbrev row_decoded : Decoded
+  row_decoded = record { command = command_of f.n c; kind = (rule_of c.code c.k).kind }
+
+  is_ready : (t u : Bool) {x : Decoded} → known c.code ≡ t → fits_all f c ≡ u → Ok x ≡ cond t (cond u (Ok row_decoded) (Err Refusal.Bounds)) (Err Refusal.Code) → DecodedTo f c x.command x.kind
+  is_ready true true {x} e i h =
+      let q : x ≡ row_decoded = cc in
+      let d : x.command ≡ command_of f.n c = ap (λ (x : Decoded). x.command) q in
       record {
         fits = record { code = e; names = and_left (names_fit f c) _ i; fields = and_right (names_fit f c) _ i };
-        command = q;
-        kind_needed = (let g : kind ≡ (rule_of c.code c.k).kind = cc in g ∙ row_kind c.code c.k) ∙ ap (λ (d : Command). kind_of d.act) (sym q);
+        command = d;
+        kind_needed = ap (λ (x : Decoded). x.kind) q ∙ row_kind c.code c.k ∙ ap (λ (d : Command). kind_of d.act) (sym d);
       }
-  is_ready true false e i h = let z : ◌≡◌ {A = ℕ} 0 1 = cc in absurd (omega arith)
-  is_ready false u e i h = let z : ◌≡◌ {A = ℕ} 0 1 = cc in absurd (omega arith)
+  is_ready true false e i h = cc
+  is_ready false u e i h = cc
 
-  pub decoded_to : {r : Decoded} {d : Command} {kind : Kind} → r ≡ decoded_of f c → r ≡ Ready d kind → DecodedTo f c d kind
+  pub decoded_to : {r : Result Decoded Refusal} {x : Decoded} → r ≡ decoded_of f c → r ≡ Ok x → DecodedTo f c x.command x.kind
   unfolding decoded_of
   decoded_to e i = is_ready (known c.code) (fits_all f c) refl refl (sym i ∙ e)
 
-  is_refused : (t u : Bool) {m : ℕ} → known c.code ≡ t → fits_all f c ≡ u → Refused m ≡ cond t (cond u (Ready (command_of f.n c) (rule_of c.code c.k).kind) (Refused 7)) (Refused 6) → RefusedBy f c m
-  is_refused true true e i h = let z : ◌≡◌ {A = ℕ} 0 1 = cc in absurd (omega arith)
-  is_refused true false {m} e i h = let q : m ≡ 7 = cc in record { number = rw e q; unfit = rw (e, i) refl }
-  is_refused false u {m} e i h = let q : m ≡ 6 = cc in record { number = rw e q; unfit = rw e refl }
+  is_refused : (t u : Bool) {r : Refusal} → known c.code ≡ t → fits_all f c ≡ u → Err r ≡ cond t (cond u (Ok row_decoded) (Err Refusal.Bounds)) (Err Refusal.Code) → RefusedBy f c (refusal_number r)
+  is_refused true true e i h = cc
+  is_refused true false {r} e i h = let q : r ≡ Refusal.Bounds = cc in record { number = rw e (ap refusal_number q); unfit = rw (e, i) refl }
+  is_refused false u {r} e i h = let q : r ≡ Refusal.Code = cc in record { number = rw e (ap refusal_number q); unfit = rw e refl }
 
-  pub refused_by : {r : Decoded} {m : ℕ} → r ≡ decoded_of f c → r ≡ Refused m → RefusedBy f c m
+  pub refused_by : {r : Result Decoded Refusal} {x : Refusal} → r ≡ decoded_of f c → r ≡ Err x → RefusedBy f c (refusal_number x)
   unfolding decoded_of
   refused_by e i = is_refused (known c.code) (fits_all f c) refl refl (sym i ∙ e)

@@ -6,6 +6,7 @@
 ghost use Rattle.std.specs.Prelude.{◌≡◌, true, ◌<◌};
 ghost use Rattle.matrix.specs.Valid.{Valid};
 ghost use Rattle.matrix.specs.Shape.{basics_of};
+ghost use Rattle.matrix.specs.Answers.{Answer};
 ghost use Rattle.matrix.specs.Reading.{state_of};
 ghost use Rattle.matrix.specs.Calls.{names_fit};
 ghost use Rattle.cells.specs.Station.{Station};
@@ -14,7 +15,7 @@ ghost use Rattle.decoding.specs.Decoded.{form_from};
 ghost use Rattle.short_ways.specs.Answered.{Answered};
 ghost use Rattle.short_ways.specs.Allowed.{Where, subject_fits, Allowed};
 
-use matrix::{Answer, Fields, Form, Name, Right, Shape};
+use matrix::{Fields, Form, Name, Right, Shape};
 
 // What is asked of s: it exists where it is given the right y over o (on), and it has its bit where the right is taken from it.
 fn subject_fits(b: &[u8], f: Shape, y: Right, s: usize, o: Name, on: bool) -> bool

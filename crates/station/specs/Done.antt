@@ -5,9 +5,9 @@ use Rattle.std.proofs.Common.{◌∙◌, ap, ⊎_elim, ne_eqb}
 use Rattle.std.proofs.Math.Bool.{true, cond}
 use Rattle.std.proofs.Math.Dec.{eqb}
 use Rattle.matrix.specs.declared.Fields.{Fields}
-use Rattle.matrix.specs.declared.Answer.{Answer}
-use Rattle.matrix.specs.declared.Answer.TheVariants.{Refused}
-use Rattle.matrix.specs.declared.Outcome.{Outcome}
+use Rattle.matrix.specs.Answers.{Answer}
+use Rattle.matrix.specs.Answers.{Refused}
+use Rattle.matrix.specs.Answers.{Outcome}
 use Rattle.matrix.specs.declared.Shape.{Shape}
 use Rattle.matrix.specs.Numbers.{numbers}
 use Rattle.matrix.specs.State.{State}
@@ -69,8 +69,8 @@ module _ (b : List ℕ) {m : ℕ} (number : m ≡ record_refusal limits b) (turn
   unfolding command_bytes
   command_kept c = rw not_zero refl
 
-  pub held_turned_down : (s o right : ℕ) → Rattle.matrix.specs.declared.Holding.TheVariants.Refused m ≡ held_answer limits b s o right
-  held_turned_down s o right = ap (λ (m : ℕ). Rattle.matrix.specs.declared.Holding.TheVariants.Refused m) number ∙ held_refused b s o right (λ e. turned (number ∙ e))
+  pub held_turned_down : (s o right : ℕ) → Rattle.matrix.specs.Answers.Refused m ≡ held_answer limits b s o right
+  held_turned_down s o right = ap (λ (m : ℕ). Rattle.matrix.specs.Answers.Refused m) number ∙ held_refused b s o right (λ e. turned (number ∙ e))
 
   convert_refusal_lem : (v room : ℕ) → convert_refusal limits v b room ≡ record_refusal limits b
   unfolding convert_refusal first_failed

@@ -4,6 +4,7 @@
 
 ghost use Rattle.std.specs.Prelude.{◌≡◌, true};
 ghost use Rattle.matrix.specs.Valid.{Valid};
+ghost use Rattle.matrix.specs.Answers.{Answer};
 ghost use Rattle.matrix.specs.Reading.{state_of};
 ghost use Rattle.matrix.specs.Calls.{names_fit};
 ghost use Rattle.cells.specs.Station.{Station};
@@ -12,7 +13,7 @@ ghost use Rattle.short_ways.specs.Ready.{doing};
 ghost use Rattle.short_ways.specs.Allowed.{Where};
 ghost use Rattle.short_ways.specs.WithoutBasic.{WithoutBasic};
 
-use matrix::{Act, Answer, Command, Fields, Name, Right, Shape};
+use matrix::{Act, Command, Fields, Name, Right, Shape};
 
 // The command of the fields that does `act`.
 fn command_of(f: Shape, c: Fields, act: Act) -> Command

@@ -13,8 +13,8 @@ use Rattle.matrix.specs.Record.{record_refusal}
 use Rattle.codec.specs.RoundTrip.{within_read}
 use Rattle.owners.specs.Read.{record_shaped}
 use Rattle.owners.proofs.Read.{valid_record}
-use Rattle.question.specs.declared.Safety.{Safety}
-use Rattle.question.specs.declared.Safety.TheVariants.{Leaks}
+use Rattle.question.specs.Safety.{Safety}
+use Rattle.question.specs.Safety.{Leaks}
 use Rattle.question.specs.Trust.{trusted_by}
 use Rattle.question.specs.Leaks.{LeaksBy}
 use Rattle.question.specs.Asked.{list_room, LeaksRecord, Written, Decided}

@@ -4,8 +4,8 @@ use Rattle.matrix.specs.declared.Name.{Name}
 use Rattle.matrix.specs.declared.Right.{Right}
 use Rattle.matrix.specs.declared.Fields.{Fields}
 use Rattle.matrix.specs.State.{State}
-use Rattle.question.specs.declared.Safety.{Safety}
-use Rattle.question.specs.declared.Safety.TheVariants.{Leaks}
+use Rattle.question.specs.Safety.{Safety}
+use Rattle.question.specs.Safety.{Leaks}
 use Rattle.ways.specs.Ways.{Way, held_now, by_star, by_creation, from_above, no_way, list_of}
 use Rattle.writing.specs.Put.{put_list}
 

@@ -7,3 +7,4 @@ pub mod Passed
 pub mod Header
 pub mod Whole
 pub mod Few
+pub mod Opens

@@ -3,16 +3,17 @@
 #![tactic(auto)]
 
 ghost use Rattle.std.specs.Prelude.{◌≡◌, true, length, replicate};
-ghost use Rattle.matrix.specs.Shape.{limits, most_subjects, shape_of};
+ghost use Rattle.matrix.specs.Shape.{most_subjects, shape_of};
 ghost use Rattle.matrix.specs.Reading.{state_of};
-ghost use Rattle.matrix.specs.Record.{valid_matrix, record_refusal};
+ghost use Rattle.matrix.specs.Record.{valid_matrix};
 ghost use Rattle.cells.specs.Station.{Station};
 ghost use Rattle.codec.specs.ShapeRight.{ShapeRight};
 ghost use Rattle.validity.specs.Few.{FewColumns};
+ghost use Rattle.validity.specs.Opens.{Opens};
 
 use columns::COUNTED;
 use lanes::{Matrix, UPPER};
-use matrix::{HEADER_BYTES, MOST_SUBJECTS, Shape};
+use matrix::{HEADER_BYTES, MOST_SUBJECTS, Refusal, Shape};
 use tallies::AT_ONCE;
 
 // The matrix of a record of this shape is valid, by the tests of its subjects, its plain columns and its table of owners, one after another. Its
@@ -122,33 +123,37 @@ fn valid(b: &[u8], f: Shape, owners: &mut [u8; MOST_SUBJECTS]) -> bool
     tested(b, f, owners)
 }
 
-// The refusal, 1 to 5, of a record, or 0 if it is valid. The table `owners`, of zeros at first, is left with a guess of who owns each
+// Opens a record: its shape, or the refusal, 1 to 5, that turns it down. The table `owners`, of zeros at first, is left with a guess of who owns each
 // subject, for callers that follow owners: they test each guess, so nothing is promised of it.
-pub fn refusal_with(b: &[u8], owners: &mut [u8; MOST_SUBJECTS]) -> usize
+pub fn open_with(b: &[u8], owners: &mut [u8; MOST_SUBJECTS]) -> Result<Shape, Refusal>
     requires { owners.old ≡ replicate most_subjects 0 }
-    ensures refusal { result ≡ record_refusal limits b.now }
+    ensures opened { Opens b.now result }
     ensures table { length owners.new ≡ most_subjects }
 {
     if b.len() < HEADER_BYTES {
-        return 1;
+        return Err(Refusal::RecordShort);
     }
     let f = opening::shape(b);
     if !header::known_version(f.version) {
-        return 2;
+        return Err(Refusal::Version);
     }
     if !header::in_range(f) {
-        return 3;
+        return Err(Refusal::Counts);
     }
     if !header::right_size(b, f) {
-        return 4;
+        return Err(Refusal::RecordLength);
     }
-    if valid(b, f, owners) { 0 } else { 5 }
+    if valid(b, f, owners) {
+        Ok(f)
+    } else {
+        Err(Refusal::NotValid)
+    }
 }
 
-// The refusal, 1 to 5, of a record, or 0 if it is valid.
-pub fn refusal(b: &[u8]) -> usize
-    ensures { result ≡ record_refusal limits b.now }
+// The same, where nobody follows owners.
+pub fn open(b: &[u8]) -> Result<Shape, Refusal>
+    ensures { Opens b.now result }
 {
     let mut owners = [0u8; MOST_SUBJECTS];
-    refusal_with(b, &mut owners)
+    open_with(b, &mut owners)
 }

@@ -27,7 +27,7 @@ use Rattle.frame.specs.Stays.{names_in}
 use Rattle.frame.specs.StationBytes.{A, B}
 use Rattle.frame.specs.Stations.{Stations, stations}
 use Rattle.question.specs.Trust.{trusted_by}
-use Rattle.question.specs.declared.Safety.{Safety}
+use Rattle.question.specs.Safety.{Safety}
 use Rattle.question.specs.Leaks.{Untrusted}
 use Rattle.question.specs.Asked.{trust_fits, list_room, safety_refusal, SafeRecord, LeaksRecord, Decided, Answers}
 use Rattle.route.specs.Parts.{fields, basic_number, destroys_all, until_owner, among}

@@ -3,8 +3,9 @@ use native.Mathlib.Nat.{lt_of_lt_of_le}
 use mathlib.Core.Path.{refl, sym, ◌∙◌, subst}
 use mathlib.Core.List.{List}
 use Prim.Native.Nat.{ℕ}
-use Rattle.matrix.specs.declared.Answer.TheVariants.{Accepted}
+use Rattle.matrix.specs.Answers.{Accepted}
 use Rattle.matrix.specs.declared.Fields.{Fields}
+use Rattle.matrix.specs.Refusals.{answer_of}
 use Rattle.matrix.specs.Reading.{state_of}
 use Rattle.matrix.specs.Valid.{Valid}
 use Rattle.cells.specs.Station.{Station, right_shape}
@@ -46,7 +47,7 @@ returns-then-not-over_subject c =
     let d = c.command_on in
     let e = c.over_subject.ensures.stays c.if-not-over_subject.true ∙ c.over_object.ensures.stays c.if-over_object.false ∙ c.by_right.ensures.stays c.if-by_right.false in
     record {
-      answer = subst (λ (b : List ℕ). Answered b d.new.b c.args.c d.result) e (subst (λ (x : Fields). Answered c.over_subject.new.b d.new.b x d.result) c.anew.ensures d.ensures.answer);
+      answer = subst (λ (b : List ℕ). Answered b d.new.b c.args.c (answer_of d.result)) e (subst (λ (x : Fields). Answered c.over_subject.new.b d.new.b x (answer_of d.result)) c.anew.ensures d.ensures.answer);
       table = d.ensures.table;
     }
 
@@ -54,13 +55,10 @@ pub follow_fields-requires : goal.follow_fields-requires
 follow_fields-requires c =
     let few = (right_shape c.requires.station).high in
     let names = (c.over_subject.ensures.holds c.if-not-over_subject.false).1 in
-    (c.requires.size, lt_of_lt_of_le (row_s c.args.f c.args.c names) few, lt_of_lt_of_le (row_i c.args.f c.args.c names) few)
+    (lt_of_lt_of_le (row_s c.args.f c.args.c names) few, lt_of_lt_of_le (row_i c.args.f c.args.c names) few)
 
-pub returns : goal.returns
-returns c =
+pub returns-clause-answer : goal.returns-clause-answer
+returns-clause-answer c =
     let d = c.over_subject in
     let e = c.over_object.ensures.stays c.if-over_object.false ∙ c.by_right.ensures.stays c.if-by_right.false in
-    record {
-      answer = subst (λ (b : List ℕ). Answered b d.new.b c.args.c (Accepted 0)) e (d.ensures.holds c.if-not-over_subject.false).0;
-      table = c.follow_fields.ensures;
-    }
+    subst (λ (b : List ℕ). Answered b d.new.b c.args.c (Accepted 0)) e (d.ensures.holds c.if-not-over_subject.false).0

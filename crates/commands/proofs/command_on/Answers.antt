@@ -1,11 +1,12 @@
 -- `commands::command_on` meets its contract.
+use Rattle.std.proofs.lemmas.Result.{err_from_is_err_and}
 use Rattle.cells.specs.Station.{right_shape}
 use Rattle.states.specs.Needs.{Guessed, guessed_at}
 use Rattle.opening.specs.Opened.{station_long}
-use Rattle.short_ways.specs.Ready.{decoded_to, refused_by}
+use Rattle.short_ways.specs.Ready.{DecodedTo, decoded_to, refused_by}
 use Rattle.short_ways.specs.Outcomes.{answered_refused, answered_decoded, command_in}
 use Rattle.commands.proofs.command_on.Goals as goal
-use Rattle.commands.proofs.command_on.Goals.{After-shape-f}
+use Rattle.commands.proofs.command_on.Goals.{After-shape-f, In_ok-decoded}
 
 pub shape-f-requires : goal.shape-f-requires
 shape-f-requires c = station_long c.requires.station
@@ -14,22 +15,25 @@ shape-f-requires c = station_long c.requires.station
 opened : (c : After-shape-f) → Guessed c.args.b.now c.shape-f.result c.args.owners.now
 opened c = guessed_at c.requires c.shape-f.ensures
 
-pub decode-decoded-requires : goal.decode-decoded-requires
-decode-decoded-requires c = right_shape (opened c).station
+pub decode-requires : goal.decode-requires
+decode-requires c = right_shape (opened c).station
+
+pub returns-in_err-decoded-clause-answer : goal.returns-in_err-decoded-clause-answer
+returns-in_err-decoded-clause-answer c =
+    let p = err_from_is_err_and c.from_residual.result c.from_residual.ensures.1 in
+    let g = opened (goal.at.returns-in_err-decoded-clause-answer c).After-shape-f in
+    rw (p.1, p.2) (answered_refused _ _ g.station _ (refused_by _ _ c.decode.ensures c.in_err-decoded.was))
+
+decoded : (c : In_ok-decoded) → DecodedTo c.shape-f.result c.args.c c.in_ok-decoded.decoded.command c.in_ok-decoded.decoded.kind
+decoded c = decoded_to _ _ c.decode.ensures c.in_ok-decoded.was
 
 pub carry_out-requires : goal.carry_out-requires
 carry_out-requires c =
     let g = opened (goal.at.carry_out-requires c).After-shape-f in
-    let w = decoded_to _ _ c.decode-decoded.ensures c.in-Ready.is in
+    let w = decoded (goal.at.carry_out-requires c).In_ok-decoded in
     (command_in _ _ g.station _ w, w.kind_needed, g)
 
-pub returns-in-Ready : goal.returns-in-Ready
-returns-in-Ready c =
-    let g = opened (goal.at.returns-in-Ready c).After-shape-f in
-    let w = decoded_to _ _ c.decode-decoded.ensures c.in-Ready.is in
-    record { answer = answered_decoded _ _ g.station _ w c.carry_out.ensures.answer; table = c.carry_out.ensures.table }
-
-pub returns-in-Refused : goal.returns-in-Refused
-returns-in-Refused c =
-    let g = opened (goal.at.returns-in-Refused c).After-shape-f in
-    record { answer = answered_refused _ _ g.station _ (refused_by _ _ c.decode-decoded.ensures c.in-Refused.is); table = g.size }
+pub returns-clause-answer : goal.returns-clause-answer
+returns-clause-answer c =
+    let g = opened (goal.at.returns-clause-answer c).After-shape-f in
+    answered_decoded _ _ g.station _ (decoded (goal.at.returns-clause-answer c).In_ok-decoded) c.carry_out.ensures.answer

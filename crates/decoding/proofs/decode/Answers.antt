@@ -7,14 +7,14 @@ use Rattle.decoding.proofs.decode.Goals as goal
 use Rattle.decoding.proofs.decode.Goals.{After-basics_of}
 
 pub returns-in_default : goal.returns-in_default
-returns-in_default c = refused_6 _ _ c.rule_of-ruled.ensures c.in_default.is
+returns-in_default c = refused_6 _ _ c.rule_of.ensures c.in_default.is
 
 pub returns-then-not-names_fit : goal.returns-then-not-names_fit
-returns-then-not-names_fit c = names_7 _ _ (found _ c.rule_of-ruled.ensures c.in-Known.is) (sym c.names_fit.ensures ∙ c.if-not-names_fit.true)
+returns-then-not-names_fit c = names_7 _ _ (found _ c.rule_of.ensures c.in-Some.is) (sym c.names_fit.ensures ∙ c.if-not-names_fit.true)
 
 -- the row that was found, and the names that fit
-row : (c : After-basics_of) → RowFound c.args.c c.in-Known.r
-row c = found _ c.rule_of-ruled.ensures c.in-Known.is
+row : (c : After-basics_of) → RowFound c.args.c c.in-Some.r
+row c = found _ c.rule_of.ensures c.in-Some.is
 
 names : (c : After-basics_of) → names_fit c.args.f c.args.c ≡ true
 names c = sym c.names_fit.ensures ∙ c.if-not-names_fit.false

@@ -10,10 +10,10 @@ controlled-requires c =
     (q.station, named_subject (record { station = q.station; column = q.object }) c.in-Subject.is)
 
 pub returns-then-controlled : goal.returns-then-controlled
-returns-then-controlled c = control_judged c.requires.0 c.requires.1 c.in-Subject.is _ c.controlled.ensures c.if-controlled.true
+returns-then-controlled c = rw c.into.ensures (control_judged c.requires.0 c.requires.1 c.in-Subject.is _ c.controlled.ensures c.if-controlled.true)
 
-pub returns-else-controlled : goal.returns-else-controlled
-returns-else-controlled c = control_judged c.requires.0 c.requires.1 c.in-Subject.is _ c.controlled.ensures c.if-controlled.false
+pub returns : goal.returns
+returns c = control_judged c.requires.0 c.requires.1 c.in-Subject.is _ c.controlled.ensures c.if-controlled.false
 
-pub returns-in-Plain : goal.returns-in-Plain
-returns-in-Plain c = absurd (not_plain c.requires.0 c.requires.1 refl c.in-Plain.is)
+pub returns-in_default : goal.returns-in_default
+returns-in_default c = absurd (not_plain c.requires.0 c.requires.1 refl c.in_default.is)

@@ -1,22 +1,24 @@
 -- `verdict::judge_late` meets its contract.
-use mathlib.Core.Path.{◌≡◌, refl, sym, ◌∙◌}
+use mathlib.Core.Path.{◌≡◌, refl, sym, ◌∙◌, ap}
 use mathlib.Core.Bool.{true}
+use Rattle.matrix.specs.declared.Right.{Right}
+use Rattle.matrix.specs.declared.Act.TheVariants.{Transfer, Grant}
 use Rattle.matrix.specs.Tests.{permitted}
 use Rattle.matrix.specs.Reading.{state_of}
 use Rattle.verdict.specs.Judged.{Entitled}
-use Rattle.verdict.specs.Late.{denied, unset, pass_judged}
+use Rattle.verdict.specs.Late.{denied, unset, other_judged}
 use Rattle.verdict.proofs.judge_late.Goals as goal
 use Rattle.verdict.proofs.judge_late.Goals.{Else-not-is_deletable, Else-not-is_permitted}
 
 pub returns-then-not-is_permitted : goal.returns-then-not-is_permitted
-returns-then-not-is_permitted c = denied _ _ (sym c.is_permitted.ensures ∙ c.if-not-is_permitted.true)
+returns-then-not-is_permitted c = rw c.into.ensures (denied _ c.args.c (sym c.is_permitted.ensures ∙ c.if-not-is_permitted.true))
 
 -- where the initiator has the right needed
 permitted_there : (c : Else-not-is_permitted) → permitted (state_of c.args.b.now) c.args.c c.args.c.act ≡ true
 permitted_there c = sym c.is_permitted.ensures ∙ c.if-not-is_permitted.false
 
 pub returns-then-not-is_deletable : goal.returns-then-not-is_deletable
-returns-then-not-is_deletable c = unset _ _ (permitted_there (goal.at.returns-then-not-is_deletable c).Else-not-is_permitted) (sym c.is_deletable.ensures ∙ c.if-not-is_deletable.true)
+returns-then-not-is_deletable c = rw c.into-then-not-is_deletable.ensures (unset _ c.args.c (permitted_there (goal.at.returns-then-not-is_deletable c).Else-not-is_permitted) (sym c.is_deletable.ensures ∙ c.if-not-is_deletable.true))
 
 -- .. and a bit to be deleted is set
 entitled : (c : Else-not-is_deletable) → Entitled c.args.b.now c.args.f c.args.c
@@ -28,23 +30,17 @@ entitled c =
       set = sym c.is_deletable.ensures ∙ c.if-not-is_deletable.false;
     }
 
-pub transferred-requires : goal.transferred-requires
-transferred-requires c = (entitled (goal.at.transferred-requires c).Else-not-is_deletable, c.in-Transfer.is, c.requires.2)
+pub own_transferred-requires : goal.own_transferred-requires
+own_transferred-requires c = (entitled (goal.at.own_transferred-requires c).Else-not-is_deletable, c.in-Transfer.is ∙ ap (λ (y : Right). Transfer y) c.in-Own.is, c.requires.2)
 
-pub granted-requires : goal.granted-requires
-granted-requires c = (entitled (goal.at.granted-requires c).Else-not-is_deletable, c.in-Grant.is)
+pub control_granted-requires : goal.control_granted-requires
+control_granted-requires c = (entitled (goal.at.control_granted-requires c).Else-not-is_deletable, c.in-Grant.is ∙ ap (λ (y : Right). Grant y) c.in-Control.is)
 
-pub returns-in-Delete : goal.returns-in-Delete
-returns-in-Delete c = pass_judged (entitled (goal.at.returns-in-Delete c).Else-not-is_deletable) _ c.in-Delete.is refl refl refl
+pub returns-in_default : goal.returns-in_default
+returns-in_default c = other_judged (entitled (goal.at.returns-in_default c).Else-not-is_deletable) _ refl (c.in_default.not-Transfer _) (c.in_default.not-Grant _)
 
-pub returns-in-CreateObject : goal.returns-in-CreateObject
-returns-in-CreateObject c = pass_judged (entitled (goal.at.returns-in-CreateObject c).Else-not-is_deletable) _ c.in-CreateObject.is refl refl refl
+pub returns-in_default-y : goal.returns-in_default-y
+returns-in_default-y c = other_judged (entitled (goal.at.returns-in_default-y c).Else-not-is_deletable) _ c.in-Transfer.is (λ e. c.in_default-y.not-Own (cc)) (λ e. cc)
 
-pub returns-in-DestroyObject : goal.returns-in-DestroyObject
-returns-in-DestroyObject c = pass_judged (entitled (goal.at.returns-in-DestroyObject c).Else-not-is_deletable) _ c.in-DestroyObject.is refl refl refl
-
-pub returns-in-CreateSubject : goal.returns-in-CreateSubject
-returns-in-CreateSubject c = pass_judged (entitled (goal.at.returns-in-CreateSubject c).Else-not-is_deletable) _ c.in-CreateSubject.is refl refl refl
-
-pub returns-in-DestroySubject : goal.returns-in-DestroySubject
-returns-in-DestroySubject c = pass_judged (entitled (goal.at.returns-in-DestroySubject c).Else-not-is_deletable) _ c.in-DestroySubject.is refl refl refl
+pub returns-in_default-y-2 : goal.returns-in_default-y-2
+returns-in_default-y-2 c = other_judged (entitled (goal.at.returns-in_default-y-2 c).Else-not-is_deletable) _ c.in-Grant.is (λ e. cc) (λ e. c.in_default-y-2.not-Control (cc))
