@@ -1,5 +1,5 @@
 -- `holding::held_on` meets its contract.
-use mathlib.Core.Bool.{true, false}
+use mathlib.Core.Path.{refl}
 use Rattle.cells.specs.Station.{right_shape}
 use Rattle.holding.specs.Asked.{held_unfit, held_fit, cell_asked}
 use Rattle.holding.proofs.held_on.Goals as goal
@@ -15,8 +15,5 @@ is_held-requires c =
     let a = c.args in
     cell_asked _ _ a.s a.o a.right c.requires c.question_fits.ensures c.if-not-question_fits.false
 
-pub returns-then-is_held : goal.returns-then-is_held
-returns-then-is_held c = held_fit _ _ _ _ _ c.requires true c.question_fits.ensures c.if-not-question_fits.false c.is_held.ensures c.if-is_held.true
-
 pub returns : goal.returns
-returns c = held_fit _ _ _ _ _ c.requires false c.question_fits.ensures c.if-not-question_fits.false c.is_held.ensures c.if-is_held.false
+returns c = held_fit _ _ _ _ _ c.requires _ c.question_fits.ensures c.if-not-question_fits.false c.is_held.ensures refl
