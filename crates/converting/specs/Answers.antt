@@ -1,5 +1,5 @@
 -- The answer of a conversion of a record that passed 1 to 5: by which test it is refused, or what is written.
-use Rattle.std.specs.Prelude.{ℕ, ◌≡◌, Bool, true, false, cond, not, List, ◌++◌, leb, ltb, length}
+use Rattle.std.specs.Prelude.{ℕ, ◌≤◌, ◌<◌, ◌≡◌, Bool, true, false, cond, not, List, ◌++◌, leb, ltb, length}
 use Rattle.std.proofs.Common.{arith, sym, ◌∙◌, ap, ap₂, ⊎_elim}
 use Rattle.std.proofs.Math.Path.{refl, subst}
 use Rattle.std.proofs.Math.ListN.{drop}
@@ -15,14 +15,8 @@ use Rattle.matrix.specs.Converting.{in_version, basic_from, convert_refusal, con
 use Rattle.laws.specs.Tests.{way}
 
 -- the refusal after 1 to 5, where a basic right is set above those of the version, or the output is short
-abbrev pub later : Bool → Bool → ℕ
+abbrev later : Bool → Bool → ℕ
 later above short = cond above 18 (cond short 15 0)
-
--- where there is none, none is set and the output is long enough
-pub later_none : (above short : Bool) → later above short ≡ 0 → (above ≡ false) × (short ≡ false)
-later_none true short h = let z : ◌≡◌ {A = ℕ} 18 0 = h in absurd (omega arith)
-later_none false true h = let z : ◌≡◌ {A = ℕ} 15 0 = h in absurd (omega arith)
-later_none false false h = (refl, refl)
 
 -- as the definition tests
 tested : (above : Bool) (size room : ℕ) → cond (not above) (cond (leb size room) 0 15) 18 ≡ later above (ltb room size)
@@ -53,11 +47,11 @@ module _ (v : ℕ) (b out : List ℕ) {f g : Shape} {r : ℕ} (s : f ≡ shape_o
       tests : convert_refusal limits v b (length out) ≡ cond (not (basic_from (basics_of h) (shape_of b) (state_of b))) (cond (leb (size_of h) (length out)) 0 15) 18
       tests = unfold convert_refusal first_failed in rw passed refl
 
-  pub refused : (r ≡ 0 → ⊥) → Converts v b out out (numbers r 0)
+  refused : (r ≡ 0 → ⊥) → Converts v b out out (numbers r 0)
   unfolding convert_result convert_output
   refused n = let z = ne_eqb r 0 n in record { result = rw (refusal, z) refl; output = rw (refusal, z) refl }
 
-  pub answered : r ≡ 0 → Converts v b out (bytes_of (content g (state_of b)) ++ drop (size_of g) out) (numbers 0 (size_of g))
+  answered : r ≡ 0 → Converts v b out (bytes_of (content g (state_of b)) ++ drop (size_of g) out) (numbers 0 (size_of g))
   unfolding converted
   answered n = subst (λ (h : Shape). Converts v b out (bytes_of (content h (state_of b)) ++ drop (size_of h) out) (numbers 0 (size_of h))) wanted whole
     where
@@ -66,3 +60,14 @@ module _ (v : ℕ) (b out : List ℕ) {f g : Shape} {r : ℕ} (s : f ≡ shape_o
 
       whole : Converts v b out (converted v b ++ drop (size_of (in_version v (shape_of b))) out) (numbers 0 (size_of (in_version v (shape_of b))))
       whole = record { result = unfold convert_result in rw zero refl; output = unfold convert_output in rw zero refl }
+
+-- The three answers: refused by 18, by 15, or written.
+module _ (v : ℕ) (b out : List ℕ) {f g : Shape} (s : f ≡ shape_of b) (w : g ≡ in_version v f) (passed : record_refusal limits b ≡ 0) where
+  pub high : basic_from (basics_of g) f (state_of b) ≡ true → Converts v b out out (numbers 18 0)
+  high h = refused v b out {r = 18} s w passed (rw h refl) (λ z. absurd (omega arith))
+
+  pub short : basic_from (basics_of g) f (state_of b) ≡ false → length out < size_of g → Converts v b out out (numbers 15 0)
+  short h l = refused v b out {r = 15} s w passed (rw (h, lt-ltb (length out) (size_of g) l) refl) (λ z. absurd (omega arith))
+
+  pub written : basic_from (basics_of g) f (state_of b) ≡ false → size_of g ≤ length out → Converts v b out (bytes_of (content g (state_of b)) ++ drop (size_of g) out) (numbers 0 (size_of g))
+  written h l = answered v b out {r = 0} s w passed (rw (h, le-ltb (length out) (size_of g) l) refl) refl

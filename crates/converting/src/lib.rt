@@ -6,13 +6,13 @@ ghost use Rattle.std.specs.Prelude.{◌≡◌, true, length};
 ghost use Rattle.matrix.specs.Shape.{limits, known_version, size_of};
 ghost use Rattle.matrix.specs.Reading.{content, state_of, bytes_of};
 ghost use Rattle.matrix.specs.Record.{record_refusal};
+ghost use Rattle.matrix.specs.Refusals.{numbers_by};
 ghost use Rattle.matrix.specs.Converting.{convert_result, convert_output};
 ghost use Rattle.codec.specs.ShapeRight.{ShapeRight};
 ghost use Rattle.cells.specs.Station.{Station};
 ghost use Rattle.converting.specs.Needs.{Fits};
-ghost use Rattle.converting.specs.Answers.{later};
 
-use matrix::{Numbers, Shape};
+use matrix::{Refusal, Shape};
 
 // The bytes before those that L counts: the version and L itself.
 const COUNTED_FROM: usize = 5;
@@ -68,34 +68,20 @@ fn fill(b: &[u8], f: Shape, out: &mut [u8], g: Shape)
     write(b, f, out, g);
 }
 
-// Which of 18 and 15 a conversion is refused by, 18 first; 0 where by neither.
-fn refusal_of(above: bool, short: bool) -> u64
-    ensures { result ≡ later above short }
-{
-    if above {
-        18
-    } else if short {
-        15
-    } else {
-        0
-    }
-}
-
-// A record that passed 1 to 5, in another version at the start of `out`. What is after it there stays.
-pub fn convert(b: &[u8], f: Shape, version: usize, out: &mut [u8]) -> Numbers
+// A record that passed 1 to 5, in another version at the start of `out`, and the bytes of the new record. What is after it there stays.
+pub fn convert(b: &[u8], f: Shape, version: usize, out: &mut [u8]) -> Result<usize, Refusal>
     requires { Station b.now f × (record_refusal limits b.now ≡ 0) × (known_version version ≡ true) }
-    ensures result { result ≡ convert_result limits version b.now out.old }
+    ensures result { numbers_by (λ size. size) result ≡ convert_result limits version b.now out.old }
     ensures output { out.new ≡ convert_output limits version b.now out.old }
 {
     let g = opening::shape_in(version, f.n, f.p);
     let size = size_of(g);
-    let refusal = refusal_of(cell_words::too_wide(b, f, g), out.len() < size);
-    if refusal != 0 {
-        return Numbers { refusal, value: 0 };
+    if cell_words::too_wide(b, f, g) {
+        return Err(Refusal::HighRight);
+    }
+    if out.len() < size {
+        return Err(Refusal::BufferShort);
     }
     fill(b, f, &mut out[..size], g);
-    Numbers {
-        refusal: 0,
-        value: size as u64,
-    }
+    Ok(size)
 }

@@ -53,3 +53,8 @@ outcome_of (Err e) = record { accepted = e.value; refusal = refusal_number e.ref
 abbrev pub numbers_of : Result ℕ Refused → Numbers
 numbers_of (Ok value) = numbers 0 value
 numbers_of (Err e) = numbers (refusal_number e.refusal) e.value
+
+-- the same where nothing stands beside a refusal, and an answer has its value from `value`
+abbrev pub numbers_by : {A : Type 0} → (A → ℕ) → Result A Refusal → Numbers
+numbers_by value (Ok x) = numbers 0 (value x)
+numbers_by value (Err r) = numbers (refusal_number r) 0
