@@ -1,83 +1,110 @@
 -- The form of a list of commands, test by test.
-use Rattle.std.specs.Prelude.{ℕ, ◌+◌, ◌*◌, ◌/◌, ◌%◌, ◌^◌, ◌≤◌, ◌<◌, ◌≡◌, Bool, true, false, ◌&&◌, List, eqb, leb, length, get_or}
-use Rattle.std.proofs.Common.{add-zero, zero-add, add-one, arith, sym}
-use Rattle.std.proofs.Math.Path.{refl}
+use Rattle.std.specs.Prelude.{ℕ, zero, suc, ◌+◌, ◌-◌, ◌*◌, ◌/◌, ◌%◌, ◌≤◌, ◌<◌, ◌≡◌, refl, Bool, true, false, ◌&&◌, List, ◌++◌, eqb, leb, length, get_or, drop}
+use Rattle.std.proofs.Common.{add-zero, zero-add, arith, sym, ◌∙◌, ap, ⊎_elim, get_or-drop, length-drop, length-append, eqb-true, leb-true}
+use Rattle.std.proofs.Math.ListN.{get_or-append}
+use Rattle.std.proofs.lemmas.List.{get_or-append-add}
 use borrow.Author.Tests.{eq-eqb, ne_eqb, le-leb, lt-leb}
 use Rattle.matrix.specs.declared.Fields.{Fields}
 use Rattle.matrix.specs.Bounded.{all}
 use Rattle.matrix.specs.Bytes.{number_at}
 use Rattle.matrix.specs.CommandList.{list_head, record_bytes, most_list_bytes, length_byte, command_place, well_formed, fields_at}
-use Rattle.matrix.specs.Shaped.{Octets}
-use Rattle.laws.specs.Bounded.{all_fails}
+use Rattle.laws.specs.Tests.{way, same_test, and_left}
+use Rattle.laws.specs.Bounded.{all_each, each_all, all_fails, all_same}
 
 -- four bytes make a number
 pub four_bytes : (l : List ℕ) (at : ℕ) → number_at l at 4 ≡ ((get_or l at 0 * 256 + get_or l (at + 1) 0) * 256 + get_or l (at + 2) 0) * 256 + get_or l (at + 3) 0
 unfolding number_at
 four_bytes l at = rw add-zero (simp zero-add)
 
--- the length bytes of the first m commands are right
+-- the command numbered j of these bytes begins with the right length byte, and each of them does
 abbrev pub length_right : List ℕ → ℕ → Bool
-length_right l j = eqb (get_or l (command_place j) 0) length_byte
+length_right commands j = eqb (get_or commands (record_bytes * j) 0) length_byte
 
-unfoldable pub lengths_right : List ℕ → ℕ → Bool
-lengths_right l m = all m (length_right l)
+unfoldable pub lengths_right : List ℕ → Bool
+lengths_right commands = all (length commands / record_bytes) (length_right commands)
 
--- what is tested of a list whose head is there and right, L being `count`
-unfoldable pub count_right : List ℕ → ℕ → Bool
-count_right l count = eqb (list_head + count) (length l) && leb count most_list_bytes && eqb (count % record_bytes) 0 && lengths_right l (count / record_bytes)
+-- what is tested of the bytes after a right head that says `count`
+unfoldable pub commands_right : List ℕ → ℕ → Bool
+commands_right commands count = eqb (length commands) count && leb count most_list_bytes && eqb (count % record_bytes) 0 && lengths_right commands
+
+-- ---- the form, by the head and the bytes after it
+abbrev pub head_right : List ℕ → Bool
+head_right l = leb list_head (length l) && eqb (get_or l 0 0) 1
 
 module _ (l : List ℕ) where
-  pub too_short : length l < list_head → false ≡ well_formed l
+  pub head_long : {t : Bool} → list_head ≤ length l → t ≡ eqb (get_or l 0 0) 1 → t ≡ head_right l
+  head_long h e = rw (le-leb list_head (length l) h) e
+
+  pub head_short : {t : Bool} → length l < list_head → t ≡ leb list_head (length l) → t ≡ head_right l
+  head_short h e = rw (lt-leb list_head (length l) h) (e ∙ lt-leb list_head (length l) h)
+
+  pub wrong_head : {t : Bool} → t ≡ head_right l → t ≡ false → t ≡ well_formed l
   unfolding well_formed
-  too_short h = rw (lt-leb list_head (length l) h) refl
+  wrong_head e f = rw (sym e ∙ f) f
 
-  pub other_version : list_head ≤ length l → (get_or l 0 0 ≡ 1 → ⊥) → false ≡ well_formed l
-  unfolding well_formed
-  other_version h e = rw (le-leb list_head (length l) h, ne_eqb (get_or l 0 0) 1 e) refl
+  same_count : list_head ≤ length l → eqb (length (drop list_head l)) (number_at l 1 4) ≡ eqb (list_head + number_at l 1 4) (length l)
+  same_count h =
+      let d : length (drop list_head l) ≡ length l - list_head = length-drop list_head l in
+      same_test (eqb (length (drop list_head l)) (number_at l 1 4)) (eqb (list_head + number_at l 1 4) (length l))
+      (λ e. let q = eqb-true (length (drop list_head l)) (number_at l 1 4) e in eq-eqb (list_head + number_at l 1 4) (length l) (omega arith))
+      (λ e. let q = eqb-true (list_head + number_at l 1 4) (length l) e in eq-eqb (length (drop list_head l)) (number_at l 1 4) (omega arith))
 
-  pub by_count : {t : Bool} {count : ℕ} → list_head ≤ length l → get_or l 0 0 ≡ 1 → count ≡ number_at l 1 4 → t ≡ count_right l count → t ≡ well_formed l
-  unfolding well_formed count_right lengths_right
-  by_count h e f g = rw (le-leb list_head (length l) h, eq-eqb (get_or l 0 0) 1 e, ← f) g
+  same_lengths : list_head + number_at l 1 4 ≡ length l → lengths_right (drop list_head l) ≡ all (number_at l 1 4 / record_bytes) (λ j. eqb (get_or l (command_place j) 0) length_byte)
+  unfolding lengths_right
+  same_lengths h =
+      let d : length (drop list_head l) ≡ length l - list_head = length-drop list_head l in
+      let q : length (drop list_head l) / record_bytes ≡ number_at l 1 4 / record_bytes = omega arith in
+      ap (λ (m : ℕ). all m (length_right (drop list_head l))) q
+      ∙ all_same (number_at l 1 4 / record_bytes) (length_right (drop list_head l)) (λ j. eqb (get_or l (command_place j) 0) length_byte)
+      (λ j b. ap (λ (x : ℕ). eqb x length_byte) (get_or-drop list_head l (record_bytes * j) 0))
 
-  module _ (count : ℕ) where
-    pub wrong_length : (list_head + count ≡ length l → ⊥) → false ≡ count_right l count
-    unfolding count_right
-    wrong_length h = rw (ne_eqb (list_head + count) (length l) h) refl
+  pub right_head : {t : Bool} → head_right l ≡ true → t ≡ commands_right (drop list_head l) (number_at l 1 4) → t ≡ well_formed l
+  unfolding well_formed commands_right
+  right_head h e =
+      e ∙ ⊎_elim (λ (c : eqb (list_head + number_at l 1 4) (length l) ≡ true).
+      let f = same_lengths (eqb-true (list_head + number_at l 1 4) (length l) c) in rw (same_count long, h, c, f) refl)
+      (λ (c : eqb (list_head + number_at l 1 4) (length l) ≡ false). rw (same_count long, h, c) refl)
+      (way (eqb (list_head + number_at l 1 4) (length l)))
+    where
+      long : list_head ≤ length l
+      long = leb-true list_head (length l) (and_left (leb list_head (length l)) (eqb (get_or l 0 0) 1) h)
 
-    pub too_long : list_head + count ≡ length l → most_list_bytes < count → false ≡ count_right l count
-    unfolding count_right
-    too_long h e = rw (eq-eqb (list_head + count) (length l) h, lt-leb count most_list_bytes e) refl
-
-    pub no_multiple : list_head + count ≡ length l → count ≤ most_list_bytes → (count % record_bytes ≡ 0 → ⊥) → false ≡ count_right l count
-    unfolding count_right
-    no_multiple h e f = rw (eq-eqb (list_head + count) (length l) h, le-leb count most_list_bytes e, ne_eqb (count % record_bytes) 0 f) refl
-
-    pub by_lengths : {t : Bool} → list_head + count ≡ length l → count ≤ most_list_bytes → count % record_bytes ≡ 0 → t ≡ lengths_right l (count / record_bytes) → t ≡ count_right l count
-    unfolding count_right
-    by_lengths h e f g = rw (eq-eqb (list_head + count) (length l) h, le-leb count most_list_bytes e, eq-eqb (count % record_bytes) 0 f) g
-
--- the loop over the length bytes
-pub lengths_none : (l : List ℕ) → lengths_right l 0 ≡ true
-unfolding lengths_right all
-lengths_none l = refl
-
-pub lengths_more : (l : List ℕ) (j : ℕ) → lengths_right l j ≡ true → get_or l (command_place j) 0 ≡ length_byte → lengths_right l (j + 1) ≡ true
-unfolding lengths_right all
-lengths_more l j h e = rw (add-one, h, eq-eqb (get_or l (command_place j) 0) length_byte e) refl
-
-pub lengths_wrong : (l : List ℕ) (m j : ℕ) → j < m → (get_or l (command_place j) 0 ≡ length_byte → ⊥) → false ≡ lengths_right l m
+-- ---- the commands, one after another
+pub lengths_none : (commands : List ℕ) → length commands < record_bytes → lengths_right commands ≡ true
 unfolding lengths_right
-lengths_wrong l m j h e = sym (all_fails m (length_right l) j h (ne_eqb (get_or l (command_place j) 0) length_byte e))
+lengths_none commands h = each_all (length commands / record_bytes) (length_right commands) (λ j b. absurd (omega arith))
 
--- a number and a command from the bytes read
-pub number_of : (l : List ℕ) (at : ℕ) {a b c d : ℕ} → a ≡ get_or l at 0 → b ≡ get_or l (at + 1) 0 → c ≡ get_or l (at + 2) 0 → d ≡ get_or l (at + 3) 0 → ((a * 256 + b) * 256 + c) * 256 + d ≡ number_at l at 4
-number_of l at e f g h = rw (e, f, g, h) (sym (four_bytes l at))
+module _ (command others : List ℕ) (whole : length command ≡ record_bytes) where
+  number : length (command ++ others) / record_bytes ≡ suc (length others / record_bytes)
+  number = let e : length (command ++ others) ≡ length command + length others = length-append command others in omega arith
 
+  first : get_or (command ++ others) (record_bytes * 0) 0 ≡ get_or command 0 0
+  first = get_or-append command others 0 0 (omega arith)
+
+  later : (j : ℕ) → get_or (command ++ others) (record_bytes * suc j) 0 ≡ get_or others (record_bytes * j) 0
+  later j =
+      let e : record_bytes * suc j ≡ length command + record_bytes * j = omega arith in
+      ap (λ (i : ℕ). get_or (command ++ others) i 0) e ∙ get_or-append-add command others (record_bytes * j) 0
+
+  pub lengths_more : get_or command 0 0 ≡ length_byte → lengths_right (command ++ others) ≡ lengths_right others
+  unfolding lengths_right
+  lengths_more right =
+      same_test (all (length (command ++ others) / record_bytes) (length_right (command ++ others))) (all (length others / record_bytes) (length_right others))
+      (λ h. each_all (length others / record_bytes) (length_right others) (λ j b.
+      ap (λ (x : ℕ). eqb x length_byte) (sym (later j)) ∙ all_each (length (command ++ others) / record_bytes) (length_right (command ++ others)) h (suc j) (omega (arith, number))))
+      (λ h. each_all (length (command ++ others) / record_bytes) (length_right (command ++ others)) (each h))
+    where
+      each : all (length others / record_bytes) (length_right others) ≡ true → (j : ℕ) → j < length (command ++ others) / record_bytes → length_right (command ++ others) j ≡ true
+      each h zero b = eq-eqb (get_or (command ++ others) (record_bytes * 0) 0) length_byte (first ∙ right)
+      each h (suc j) b =
+          ap (λ (x : ℕ). eqb x length_byte) (later j) ∙ all_each (length others / record_bytes) (length_right others) h j (omega (arith, number))
+
+  pub lengths_wrong : (get_or command 0 0 ≡ length_byte → ⊥) → false ≡ lengths_right (command ++ others)
+  unfolding lengths_right
+  lengths_wrong wrong =
+      sym (all_fails (length (command ++ others) / record_bytes) (length_right (command ++ others)) 0 (omega (arith, number))
+      (ne_eqb (get_or (command ++ others) (record_bytes * 0) 0) length_byte (λ e. wrong (sym first ∙ e))))
+
+-- ---- a command from the bytes read
 pub fields_of : (l : List ℕ) (at : ℕ) {code i s o k : ℕ} → code ≡ get_or l (at + 1) 0 → i ≡ get_or l (at + 2) 0 → s ≡ get_or l (at + 3) 0 → o ≡ get_or l (at + 4) 0 → k ≡ get_or l (at + 5) 0 → ◌≡◌ {A = Fields} (record { code = code; i = i; s = s; o = o; k = k }) (fields_at l at)
 fields_of l at e f g h q = λ x. record { code = e x; i = f x; s = g x; o = h x; k = q x }
-
--- a number of four bytes is small
-pub four_below : (l : List ℕ) (at : ℕ) → Octets l → number_at l at 4 < 256 ^ 4
-four_below l at h =
-    let e : number_at l at 4 ≡ ((get_or l at 0 * 256 + get_or l (at + 1) 0) * 256 + get_or l (at + 2) 0) * 256 + get_or l (at + 3) 0 = four_bytes l at in
-    omega (arith, h.octet at, h.octet (at + 1), h.octet (at + 2), h.octet (at + 3))

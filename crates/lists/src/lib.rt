@@ -1,81 +1,107 @@
-// A list of commands: its form, and the numbers in it.
+// A list of commands: its form, and the commands in it, one after another.
 
 #![tactic(auto)]
 
-ghost use Rattle.std.specs.Prelude.{◌≡◌, ◌+◌, ◌^◌, ◌≤◌, ◌<◌, length};
+ghost use Rattle.std.specs.Prelude.{◌≡◌, true, false, ◌+◌, ◌≤◌, length, MatchOption};
 ghost use Rattle.matrix.specs.Bytes.{number_at};
-ghost use Rattle.matrix.specs.CommandList.{list_head, command_place, well_formed};
-ghost use Rattle.lists.specs.Forms.{lengths_right, count_right};
+ghost use Rattle.matrix.specs.CommandList.{well_formed, commands_of};
+ghost use Rattle.lists.specs.Forms.{lengths_right, commands_right};
+ghost use Rattle.lists.specs.Left.{commands_left};
 
-use matrix::{LENGTH_BYTE, LIST_HEAD, MOST_LIST_BYTES, RECORD_BYTES};
-
-// A byte as a number.
-pub fn wide(x: u8) -> usize
-    ensures { (result ≡ x) × (result < 256) }
-{
-    x as usize
-}
+use matrix::{Fields, LENGTH_BYTE, LIST_HEAD, MOST_LIST_BYTES, RECORD_BYTES};
 
 // The number in the four bytes from `at` on.
 pub fn number(l: &[u8], at: usize) -> usize
     requires { at + 4 ≤ length l.now }
     ensures { result ≡ number_at l.now at 4 }
 {
-    let a = wide(l[at]);
-    let b = wide(l[at + 1]);
-    let c = wide(l[at + 2]);
-    let d = wide(l[at + 3]);
-    ((a * 256 + b) * 256 + c) * 256 + d
+    u32::from_be_bytes([l[at], l[at + 1], l[at + 2], l[at + 3]]) as usize
 }
 
-// The number of bytes after the head, as the list says it.
-fn count(l: &[u8]) -> usize
-    requires { list_head ≤ length l.now }
-    ensures { result ≡ number_at l.now 1 4 }
+// Whether each command that follows the head begins with the right length byte.
+fn lengths_right(commands: &[u8]) -> bool
+    ensures { result ≡ lengths_right commands.now }
 {
-    number(l, 1)
-}
-
-// Whether the length byte of each of the first m commands is right.
-fn lengths_right(l: &[u8], m: usize) -> bool
-    requires { command_place m ≤ length l.now }
-    ensures { result ≡ lengths_right l.now m }
-{
-    for j in 0..m {
-        if l[LIST_HEAD + RECORD_BYTES * j] != LENGTH_BYTE {
+    for command in commands.chunks_exact(RECORD_BYTES) {
+        if command[0] != LENGTH_BYTE {
             return false;
         }
     }
     true
 }
 
-// Whether the list has the length that its head says, within bounds, in whole commands of the right form.
-fn count_right(l: &[u8], count: usize) -> bool
-    requires { count < 256 ^ 4 }
-    ensures { result ≡ count_right l.now count }
+// Whether the bytes after a list's head are as many as it says, within bounds, and whole commands of the right form.
+#[tactic(auto, unfolding(crate::specs::Forms::commands_right))]
+fn commands_right(commands: &[u8], count: usize) -> bool
+    ensures { result ≡ commands_right commands.now count }
 {
-    if LIST_HEAD + count != l.len() {
-        return false;
-    }
-    if MOST_LIST_BYTES < count {
-        return false;
-    }
-    if count % RECORD_BYTES != 0 {
-        return false;
-    }
-    lengths_right(l, count / RECORD_BYTES)
+    commands.len() == count
+        && count <= MOST_LIST_BYTES
+        && count % RECORD_BYTES == 0
+        && lengths_right(commands)
 }
 
 // Whether the list is of the right form.
-pub fn well_formed(l: &[u8]) -> bool
+fn well_formed(l: &[u8]) -> bool
     ensures { result ≡ well_formed l.now }
 {
-    if l.len() < LIST_HEAD {
-        return false;
+    LIST_HEAD <= l.len() && l[0] == 1 && commands_right(&l[LIST_HEAD..], number(l, 1))
+}
+
+// A list of the right form, lent.
+#[derive(Clone, Copy)]
+pub struct List<'a> {
+    bytes: &'a [u8],
+    ghost formed: { well_formed bytes.now ≡ true },
+}
+
+impl<'a> List<'a> {
+    // The list in these bytes, or none where they are not of the right form.
+    pub fn read(bytes: &'a [u8]) -> Option<List<'a>>
+        ensures { MatchOption result (well_formed bytes.now ≡ false) (λ l. (well_formed bytes.now ≡ true) × (l.bytes.now ≡ bytes.now)) }
+    {
+        if well_formed(bytes) {
+            Some(List { bytes })
+        } else {
+            None
+        }
     }
-    if l[0] != 1 {
-        return false;
+
+    // Its commands in turn.
+    pub fn commands(self) -> Commands<'a>
+        ensures { commands_left result.unread.now ≡ commands_of self.entry.bytes.now }
+    {
+        Commands {
+            unread: &self.bytes[LIST_HEAD..],
+        }
     }
-    let n = count(l);
-    count_right(l, n)
+}
+
+// The commands of a list that are not read yet, in their bytes.
+#[derive(Drop)]
+pub struct Commands<'a> {
+    unread: &'a [u8],
+}
+
+impl<'a> Iterator for Commands<'a> {
+    ghost use Rattle.std.specs.Iterator.{YieldsFirst, item_count};
+
+    type Item = Fields;
+
+    ghost next_gives = { YieldsFirst (λ s. commands_left s.unread.now) };
+
+    ghost remaining = { item_count (λ s. commands_left s.unread.now) };
+
+    fn next(&mut self) -> Option<Fields> {
+        let (command, others) = self.unread.split_first_chunk::<RECORD_BYTES>()?;
+        self.unread = others;
+        let [_, code, i, s, o, k] = *command;
+        Some(Fields {
+            code: usize::from(code),
+            i: usize::from(i),
+            s: usize::from(s),
+            o: usize::from(o),
+            k: usize::from(k),
+        })
+    }
 }

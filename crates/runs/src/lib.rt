@@ -2,14 +2,13 @@
 
 #![tactic(auto)]
 
-ghost use Rattle.std.specs.Prelude.{◌≡◌, true};
+ghost use Rattle.std.specs.Prelude.{◌≡◌};
 ghost use Rattle.matrix.specs.Numbers.{command_numbers};
-ghost use Rattle.matrix.specs.CommandList.{well_formed};
 ghost use Rattle.states.specs.Needs.{Guessed};
 ghost use Rattle.runs.specs.Reached.{RunOn};
 
+use lists::List;
 use matrix::{Answer, MOST_SUBJECTS, Outcome, Shape};
-use reader::Read;
 
 // The number of an answer: 0 for accepted, else the refusal's.
 fn number_of(a: Answer) -> usize
@@ -23,16 +22,12 @@ fn number_of(a: Answer) -> usize
 
 // The commands of the list in turn, up to the first that is refused. The guesses of who owns each subject follow the commands; where one
 // is wrong all the same, that owner is searched.
-pub fn run_on(b: &mut [u8], f: Shape, owners: &mut [u8; MOST_SUBJECTS], l: &[u8]) -> Outcome
-    requires { Guessed b.old f owners.old × (well_formed l.now ≡ true) }
-    ensures { RunOn b.old b.new l.now result }
+pub fn run_on(b: &mut [u8], f: Shape, owners: &mut [u8; MOST_SUBJECTS], list: List) -> Outcome
+    requires { Guessed b.old f owners.old }
+    ensures { RunOn b.old b.new list.entry.bytes.now result }
 {
     let mut accepted = 0;
-    let mut at = 0;
-    loop {
-        let Read::Command(c, after) = reader::read_one(l, at) else {
-            break;
-        };
+    for c in list.commands() {
         let answer = commands::command_in_list(b, f, owners, c);
         let Answer::Accepted(_) = answer else {
             return Outcome {
@@ -41,7 +36,6 @@ pub fn run_on(b: &mut [u8], f: Shape, owners: &mut [u8; MOST_SUBJECTS], l: &[u8]
             };
         };
         accepted += 1;
-        at = after;
     }
     Outcome {
         accepted,

@@ -11,6 +11,7 @@ ghost use Rattle.matrix.specs.FirstHeld.{first_held_result, Lent};
 ghost use Rattle.question.specs.Asked.{Answers};
 ghost use Rattle.station.specs.Given.{fields_of};
 
+use lists::List;
 use matrix::{Answer, Fields, Holding, MOST_SUBJECTS, Numbers, Outcome};
 use question::Safety;
 
@@ -69,14 +70,14 @@ pub fn run(b: &mut [u8], l: &[u8]) -> Outcome
             refusal: turned,
         };
     }
-    if !lists::well_formed(l) {
+    let Some(list) = List::read(l) else {
         return Outcome {
             accepted: 0,
             refusal: 16,
         };
-    }
+    };
     let f = opening::valid_shape(b);
-    runs::run_on(b, f, &mut owners, l)
+    runs::run_on(b, f, &mut owners, list)
 }
 
 // After which command of a list a right is first held, if the commands are tried in turn on a copy of the record: refusal 0 and the number of

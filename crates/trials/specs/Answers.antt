@@ -16,12 +16,24 @@ use Rattle.laws.specs.Tests.{way}
 abbrev pub later : Bool → Bool → Bool → ℕ
 later unfit short unformed = cond unfit 7 (cond short 15 (cond unformed 16 0))
 
--- where there is none, none of the three is so
-pub later_none : (unfit short unformed : Bool) → later unfit short unformed ≡ 0 → (unfit ≡ false) × (short ≡ false) × (unformed ≡ false)
-later_none true short unformed h = let z : ◌≡◌ {A = ℕ} 7 0 = h in absurd (omega arith)
-later_none false true unformed h = let z : ◌≡◌ {A = ℕ} 15 0 = h in absurd (omega arith)
-later_none false false true h = let z : ◌≡◌ {A = ℕ} 16 0 = h in absurd (omega arith)
-later_none false false false h = (refl, refl, refl)
+-- the first two of these tests, before the list is read
+abbrev pub earlier : Bool → Bool → ℕ
+earlier unfit short = cond unfit 7 (cond short 15 0)
+
+-- a refusal by one of them stands whatever the list is
+pub earlier_stands : (unfit short unformed : Bool) {r : ℕ} → r ≡ earlier unfit short → (r ≡ 0 → ⊥) → r ≡ later unfit short unformed
+earlier_stands true short unformed e n = e
+earlier_stands false true unformed e n = e
+earlier_stands false false unformed e n = absurd (n e)
+
+-- where there is none, neither is so, and the list decides
+pub earlier_none : (unfit short : Bool) {r : ℕ} → r ≡ earlier unfit short → r ≡ 0 → (unfit ≡ false) × (short ≡ false)
+earlier_none true short e n = let z : ◌≡◌ {A = ℕ} 7 0 = sym e ∙ n in absurd (omega arith)
+earlier_none false true e n = let z : ◌≡◌ {A = ℕ} 15 0 = sym e ∙ n in absurd (omega arith)
+earlier_none false false e n = (refl, refl)
+
+pub list_decides : (unfit short unformed : Bool) {r : ℕ} → unfit ≡ false → short ≡ false → r ≡ cond unformed 16 0 → r ≡ later unfit short unformed
+list_decides unfit short unformed u d e = rw (u, d) e
 
 -- as the definition tests
 tested : (fits formed : Bool) (size room : ℕ) → cond fits (cond (leb size room) (cond formed 0 16) 15) 7 ≡ later (not fits) (ltb room size) (not formed)

@@ -4,13 +4,11 @@ use Rattle.std.proofs.Common.{add-zero, sym, ◌∙◌, get_or-take, length-take
 use native.Mathlib.Omega.{arith}
 use Rattle.std.proofs.Math.Path.{ap}
 use Rattle.std.proofs.Math.ListN.{length, get_or}
-use borrow.Author.Tests.{eq-eqb}
 use Rattle.matrix.specs.declared.Fields.{Fields}
 use Rattle.matrix.specs.Bytes.{number_at}
 use Rattle.matrix.specs.CommandList.{list_head, record_bytes, length_byte, command_place, well_formed, commands_from, commands_of}
-use Rattle.laws.specs.Bounded.{each_all}
 use Rattle.codec.specs.Numbers.{number_at_agree}
-use Rattle.lists.specs.Forms.{length_right, lengths_right, by_count, by_lengths}
+use Rattle.lists.specs.Formed.{is_formed}
 use Rattle.question.specs.Asked.{list_room}
 use Rattle.writing.specs.Put.{most_commands, put_command, put_all, put_list}
 use Rattle.writing.specs.Stores.{drop_agree}
@@ -62,20 +60,15 @@ module _ (out : List ℕ) (cs : List Fields) (few : length cs ≤ most_commands)
       number_at_agree (written out cs) (put_list out cs) 1 1 4 (λ j h. written_at (1 + j) (omega arith))
       ∙ put_head_number (put_all out 0 cs) (length cs) (let e : length (put_all out 0 cs) ≡ length out = length_put_all out 0 cs in omega arith) few
 
-  lengths : lengths_right (written out cs) (length cs) ≡ true
-  unfolding lengths_right
-  lengths = each_all (length cs) (length_right (written out cs)) (λ j h. eq-eqb (get_or (written out cs) (command_place j) 0) length_byte (right j h))
+  pub list_formed : well_formed (take (list_room (length cs)) (put_list out cs)) ≡ true
+  list_formed = is_formed (written out cs) (record { long = omega (arith, long); size = omega (arith, number, long); bounded = omega (arith, number); whole = omega (arith, number) }) version right
     where
-      right : (j : ℕ) → j < length cs → get_or (written out cs) (command_place j) 0 ≡ length_byte
+      right : (j : ℕ) → j < number_at (written out cs) 1 4 / record_bytes → get_or (written out cs) (command_place j) 0 ≡ length_byte
       right j h =
+          let b : j < length cs = omega (arith, number) in
           let e : command_place j ≡ command_place (0 + j) = omega arith in
           written_command (command_place j) (omega arith) (omega arith) ∙ ap (λ (i : ℕ). get_or (put_all out 0 cs) i 0) e
-          ∙ put_all_lengths out 0 cs j (omega arith) h
-
-  pub list_formed : well_formed (take (list_room (length cs)) (put_list out cs)) ≡ true
-  list_formed =
-      sym (by_count (written out cs) {count = record_bytes * length cs} (omega (arith, long)) version (sym number)
-      (by_lengths (written out cs) (record_bytes * length cs) (sym long) (omega arith) (omega arith) (sym (rw (commands_number (length cs)) lengths))))
+          ∙ put_all_lengths out 0 cs j (omega arith) b
 
   pub list_commands : commands_of (take (list_room (length cs)) (put_list out cs)) ≡ cs
   list_commands =

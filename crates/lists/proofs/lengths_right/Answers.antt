@@ -1,31 +1,22 @@
--- `lists::lengths_right` meets its contract.
-use borrow.Author.Rules.{rules}
-use Prim.Native.Nat.{ℕ}
-use native.Mathlib.Omega.{arith}
-use mathlib.Core.Path.{◌≡◌, sym, subst}
-use mathlib.Core.Bool.{true}
+-- `lists::lengths_right` meets its contract: a turn of its loop drops a command.
+use Rattle.std.proofs.Common.{sym, ◌∙◌, ap, arith}
 use Rattle.lists.specs.Forms.{lengths_right, lengths_none, lengths_more, lengths_wrong}
 use Rattle.lists.proofs.lengths_right.Goals as goal
 
-pub loop-j-init : goal.loop-j-init
-loop-j-init c = (search rules, lengths_none _)
+pub returns-then-command-ne-LENGTH_BYTE : goal.returns-then-command-ne-LENGTH_BYTE
+returns-then-command-ne-LENGTH_BYTE c =
+    let s = c.in-Some.ensures.steps.1 in
+    let i = c.loop-command.invariant in
+    lengths_wrong _ _ (s.1 ∙ i.0) c.if-command-ne-LENGTH_BYTE.true ∙ sym (i.1 ∙ ap lengths_right s.0)
 
-pub overflow_mul-j : goal.overflow_mul-j
-overflow_mul-j c = omega (arith, c.well_formed)
-
-pub overflow_add-j : goal.overflow_add-j
-overflow_add-j c = omega (arith, c.well_formed)
-
-pub bounds-l-j : goal.bounds-l-j
-bounds-l-j c = omega arith
-
-pub returns-then-l-j-ne-LENGTH_BYTE : goal.returns-then-l-j-ne-LENGTH_BYTE
-returns-then-l-j-ne-LENGTH_BYTE c = lengths_wrong _ _ _ c.loop-j-test.true c.if-l-j-ne-LENGTH_BYTE.true
-
-pub loop-j-preserved : goal.loop-j-preserved
-loop-j-preserved c = (search rules, lengths_more _ _ c.loop-j.invariant.1 c.if-l-j-ne-LENGTH_BYTE.false)
+pub loop-command-preserved : goal.loop-command-preserved
+loop-command-preserved c =
+    let s = c.in-Some.ensures.steps in
+    let i = c.loop-command.invariant in
+    (s.0 ∙ i.0, i.1 ∙ ap lengths_right s.1.0 ∙ lengths_more _ _ (s.1.1 ∙ i.0) c.if-command-ne-LENGTH_BYTE.false)
 
 pub returns : goal.returns
 returns c =
-    let q : c.loop-j.j ≡ c.args.m = omega arith in
-    sym (subst (λ (m : ℕ). lengths_right c.args.l.now m ≡ true) q c.loop-j.invariant.1)
+    let s = c.in-None.ensures.steps.1 in
+    let i = c.loop-command.invariant in
+    sym (i.1 ∙ lengths_none _ (let h = s.0 in omega (arith, i.0)))

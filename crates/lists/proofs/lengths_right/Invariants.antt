@@ -1,12 +1,8 @@
--- The loop's invariant: the length bytes passed are right.
-use Prim.Native.Nat.{◌-◌, ◌≤◌}
+-- The loop's invariant: the commands that are left decide.
 use mathlib.Core.Path.{◌≡◌}
-use mathlib.Core.Bool.{true}
+use Rattle.std.specs.Slice.Iter.{chunks_exact_rest, chunks_exact_size}
 use Rattle.lists.specs.Forms.{lengths_right}
 use Rattle.lists.proofs.lengths_right.Given as goal
 
-abbrev pub invariant-loop-j : goal.invariant-loop-j
-invariant-loop-j l = (l.j ≤ l.m) × (lengths_right l.l l.j ≡ true)
-
-abbrev pub decreases-loop-j : goal.decreases-loop-j
-decreases-loop-j l = l.m - l.j
+abbrev pub invariant-loop-command : goal.invariant-loop-command
+invariant-loop-command l = (chunks_exact_size l.command-iterator ≡ 6) × (lengths_right l.commands ≡ lengths_right (chunks_exact_rest l.command-iterator))

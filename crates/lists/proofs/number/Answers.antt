@@ -1,7 +1,7 @@
 -- `lists::number` meets its contract.
-use Rattle.lists.specs.Forms.{number_of}
+use Rattle.std.proofs.Common.{arith}
+use Rattle.lists.specs.Forms.{four_bytes}
 use Rattle.lists.proofs.number.Goals as goal
 
 pub returns : goal.returns
-returns c =
-    number_of c.args.l.now c.args.at c.wide-a.ensures.0 c.wide-b.ensures.0 c.wide-c.ensures.0 c.wide-d.ensures.0
+returns c = omega (arith, four_bytes c.args.l.now c.args.at, c.from_be_bytes.ensures)

@@ -1,18 +1,27 @@
 -- `lists::well_formed` meets its contract.
-use Prim.Native.Nat.{ℕ, ◌^◌, ◌<◌}
-use mathlib.Core.Path.{sym, subst}
-use Rattle.lists.specs.Forms.{too_short, other_version, by_count, four_below}
+use Rattle.std.proofs.Common.{◌≡◌, ◌-◌, take, drop, length, arith, sym, ◌∙◌, ap₂, length-drop}
+use Rattle.std.proofs.lemmas.List.{take_all}
+use Rattle.matrix.specs.CommandList.{list_head}
+use Rattle.lists.specs.Forms.{head_right, head_long, head_short, right_head, wrong_head, commands_right}
 use Rattle.lists.proofs.well_formed.Goals as goal
+use Rattle.lists.proofs.well_formed.Goals.{then-l-ge-LIST_HEAD, else-l-ge-LIST_HEAD}
 
-pub returns-then-l-lt-LIST_HEAD : goal.returns-then-l-lt-LIST_HEAD
-returns-then-l-lt-LIST_HEAD c = too_short _ c.if-l-lt-LIST_HEAD.true
+pub returns-then-l-eq1 : goal.returns-then-l-eq1
+returns-then-l-eq1 c =
+    let l = c.args.l.now in
+    let e : c.if-l-ge-LIST_HEAD.value ≡ head_right l = elim c.if-l-ge-LIST_HEAD.branch [
+      | then-l-ge-LIST_HEAD w ↦ head_long l w.if-l-ge-LIST_HEAD.true w.value-is
+      | else-l-ge-LIST_HEAD w ↦ head_short l w.if-l-ge-LIST_HEAD.false w.value-is
+    ] in
+    let d : length (drop list_head l) ≡ length l - list_head = length-drop list_head l in
+    let a : take (length l - list_head) (drop list_head l) ≡ drop list_head l = take_all (length l - list_head) (drop list_head l) (omega arith) in
+    right_head l (sym e ∙ c.if-l-eq1.true) (c.commands_right.ensures ∙ ap₂ commands_right a c.number.ensures)
 
-pub returns-then-l-ne1 : goal.returns-then-l-ne1
-returns-then-l-ne1 c = other_version _ c.if-l-lt-LIST_HEAD.false c.if-l-ne1.true
-
-pub count_right-requires : goal.count_right-requires
-count_right-requires c =
-    subst (λ (m : ℕ). m < 256 ^ 4) (sym c.count-n.ensures) (four_below _ 1 (record { octet = λ j. (c.shared_slice_known-1.given j).fits }))
-
-pub returns : goal.returns
-returns c = by_count _ c.if-l-lt-LIST_HEAD.false c.if-l-ne1.false c.count-n.ensures c.count_right.ensures
+pub returns-else-l-eq1 : goal.returns-else-l-eq1
+returns-else-l-eq1 c =
+    let l = c.args.l.now in
+    let e : c.if-l-ge-LIST_HEAD.value ≡ head_right l = elim c.if-l-ge-LIST_HEAD.branch [
+      | then-l-ge-LIST_HEAD w ↦ head_long l w.if-l-ge-LIST_HEAD.true w.value-is
+      | else-l-ge-LIST_HEAD w ↦ head_short l w.if-l-ge-LIST_HEAD.false w.value-is
+    ] in
+    wrong_head l e c.if-l-eq1.false

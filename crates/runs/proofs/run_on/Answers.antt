@@ -1,47 +1,32 @@
 -- `runs::run_on` meets its contract.
-use Prim.Native.Nat.{ℕ, ◌+◌, ◌-◌}
-use native.Mathlib.Omega.{arith}
-use mathlib.Core.Path.{refl, sym, ◌∙◌, ap}
-use Rattle.reader.proofs.Left.{yields_command, yields_end}
-use Rattle.runs.specs.Steps.{reached_none, reached_more, reached_as, run_accepts, ran_refused, ran_all, counted_as}
+use Rattle.std.proofs.Common.{arith, length, ap, ◌∙◌}
+use Rattle.lists.specs.declared.Commands.{Commands}
+use Rattle.runs.specs.Steps.{reached_none, ran_accepted, ran_refused, ran_all}
+use Rattle.lists.specs.Left.{commands_left}
+use Rattle.lists.proofs.Left.{few_commands}
 use Rattle.runs.proofs.run_on.Goals as goal
 
 pub loop-c-init : goal.loop-c-init
-loop-c-init c = (refl, reached_none c.requires.0 refl, c.requires.0.size)
-
-pub read_one-requires : goal.read_one-requires
-read_one-requires c = c.requires.1
+loop-c-init c = record { reached = reached_none c.requires (ap (λ (s : Commands). commands_left s.unread.now) c.into_iter-c-iterator.ensures.into_iter_gives ∙ c.commands-c-items.ensures); table = c.requires.size }
 
 pub command_in_list-answer-requires : goal.command_in_list-answer-requires
 command_in_list-answer-requires c =
-    let r = c.loop-c.invariant.1 in
-    record { station = r.station; valid = r.valid; size = c.loop-c.invariant.2 }
+    let r = c.loop-c.invariant.reached in
+    record { station = r.station; valid = r.valid; size = c.loop-c.invariant.table }
 
-pub shape_of-b-in_default-answer : goal.shape_of-b-in_default-answer
-shape_of-b-in_default-answer c = c.command_in_list-answer.auto.b ∙ c.loop-c.invariant.1.size
-
-pub returns-in_default-answer : goal.returns-in_default-answer
-returns-in_default-answer c =
-    let y = yields_command _ _ (sym c.in-Command.is ∙ c.read_one.ensures) in
-    counted_as c.loop-c.invariant.0 (ran_refused c.loop-c.invariant.1 y.more y.fields c.command_in_list-answer.ensures.answer c.in_default-answer.is c.number_of.ensures)
+pub returns-in_default : goal.returns-in_default
+returns-in_default c = ran_refused c.loop-c.invariant.reached c.in-Some.ensures.steps c.command_in_list-answer.ensures.answer c.in_default.is c.number_of.ensures
 
 pub overflow_add-accepted : goal.overflow_add-accepted
 overflow_add-accepted c =
-    let y = yields_command _ _ (sym c.in-Command.is ∙ c.read_one.ensures) in
-    omega (arith, y.moved, c.loop-c.invariant.0)
-
-pub loop-c-smaller : goal.loop-c-smaller
-loop-c-smaller c =
-    let y = yields_command _ _ (sym c.in-Command.is ∙ c.read_one.ensures) in
-    omega (arith, y.more, y.moved)
+    let e = c.loop-c.invariant.reached.counted in
+    omega (arith, few_commands _ c.args.list.formed, ap length c.in-Some.ensures.steps)
 
 pub loop-c-preserved : goal.loop-c-preserved
-loop-c-preserved c =
-    let y = yields_command _ _ (sym c.in-Command.is ∙ c.read_one.ensures) in
-    (ap (λ (k : ℕ). k + 1) c.loop-c.invariant.0 ∙ sym y.moved, reached_as y.moved (reached_more c.loop-c.invariant.1 y.more y.fields c.command_in_list-answer.ensures.answer (λ cs z. run_accepts _ _ _ cs _ z) c.in-Accepted.is), c.command_in_list-answer.ensures.table)
-
-pub shape_of-b : goal.shape_of-b
-shape_of-b c = c.loop-c.invariant.1.size
+loop-c-preserved c = record {
+  reached = ran_accepted c.loop-c.invariant.reached c.in-Some.ensures.steps c.command_in_list-answer.ensures.answer c.in-Accepted.is;
+  table = c.command_in_list-answer.ensures.table;
+}
 
 pub returns : goal.returns
-returns c = counted_as c.loop-c.invariant.0 (ran_all c.loop-c.invariant.1 (yields_end _ _ (sym c.in_default.is ∙ c.read_one.ensures)))
+returns c = ran_all c.loop-c.invariant.reached c.in-None.ensures.steps.0

@@ -1,7 +1,9 @@
 -- `trials::first_held` meets its contract.
-use Prim.Native.Nat.{◌≤◌}
-use mathlib.Core.Path.{◌≡◌, sym, ◌∙◌, ap}
-use mathlib.Core.Bool.{false, not}
+use Prim.Native.Nat.{ℕ, ◌≤◌}
+use native.Mathlib.Omega.{arith}
+use mathlib.Core.Path.{◌≡◌, refl, sym, ◌∙◌, ap}
+use mathlib.Core.List.{List}
+use mathlib.Core.Bool.{false, not, cond}
 use lib.Dec.{ltb}
 use lib.ListN.{length}
 use lib.Seq.{length-take-le}
@@ -16,7 +18,8 @@ use Rattle.owners.proofs.Read.{valid_record}
 use Rattle.cells.specs.Station.{Station, right_shape}
 use Rattle.opening.specs.Opened.{station_of, long_enough}
 use Rattle.holding.specs.Asked.{cell_asked}
-use Rattle.trials.specs.Answers.{later, later_none, refused, answered, turned_down, lent_kept, lent_used}
+use Rattle.matrix.specs.FirstHeld.{first_on}
+use Rattle.trials.specs.Answers.{later, earlier, earlier_none, earlier_stands, list_decides, refused, answered, turned_down, lent_kept, lent_used}
 use Rattle.trials.proofs.first_held.Goals as goal
 use Rattle.trials.proofs.first_held.Goals.{After-refusal_of-refusal, After-shape-f, Else-refusal-ne0, Else-turned-ne0}
 
@@ -44,22 +47,26 @@ opened c = station_of ((record { octet = λ j. (c.type_inv.b j).fits })) ((sym c
 pub question_fits-unfit-requires : goal.question_fits-unfit-requires
 question_fits-unfit-requires c = right_shape (opened c)
 
--- the refusal after 1 to 5, and what holds where there is none
-refusal : (c : After-refusal_of-refusal) →
+-- 7 and 15 by the definition's tests, and what holds where neither is due
+tests : (c : After-refusal_of-refusal) →
     let a = c.args in
-    c.refusal_of-refusal.result ≡ later (not (question_fits (shape_of a.b.now) a.s a.o a.right)) (ltb (length a.copy.now) (length a.b.now)) (not (well_formed a.l.now))
-refusal c =
+    c.refusal_of-refusal.result ≡ earlier (not (question_fits (shape_of a.b.now) a.s a.o a.right)) (ltb (length a.copy.now) (length a.b.now))
+tests c =
     let a = c.args in
     let q = c.question_fits-unfit.ensures ∙ ap (λ f. question_fits f a.s a.o a.right) c.shape-f.ensures in
-    c.refusal_of-refusal.ensures ∙ (λ i. later (not (q i)) (ltb (length a.copy.now) (length a.b.now)) (not (c.well_formed-2.ensures i)))
+    c.refusal_of-refusal.ensures ∙ (λ i. earlier (not (q i)) (ltb (length a.copy.now) (length a.b.now)))
 
-none : (c : Else-refusal-ne0) →
+none : (c : Else-refusal-ne0) → (not c.question_fits-unfit.result ≡ false) × (ltb (length c.args.copy.now) (length c.args.b.now) ≡ false)
+none c = let a = c.args in earlier_none (not c.question_fits-unfit.result) (ltb (length a.copy.now) (length a.b.now)) c.refusal_of-refusal.ensures c.if-refusal-ne0.false
+
+-- then the form of the list decides
+formed : (c : Else-refusal-ne0) {r : ℕ} → r ≡ cond (not (well_formed c.args.l.now)) 16 0
+    → let a = c.args in
+    r ≡ later (not (question_fits (shape_of a.b.now) a.s a.o a.right)) (ltb (length a.copy.now) (length a.b.now)) (not (well_formed a.l.now))
+formed c e =
     let a = c.args in
-    (not c.question_fits-unfit.result ≡ false) × (ltb (length a.copy.now) (length a.b.now) ≡ false) × (not c.well_formed-2.result ≡ false)
-none c =
-    let a = c.args in
-    later_none (not c.question_fits-unfit.result) (ltb (length a.copy.now) (length a.b.now)) (not c.well_formed-2.result)
-    (sym c.refusal_of-refusal.ensures ∙ c.if-refusal-ne0.false)
+    let q = c.question_fits-unfit.ensures ∙ ap (λ f. question_fits f a.s a.o a.right) c.shape-f.ensures in
+    list_decides (not (question_fits (shape_of a.b.now) a.s a.o a.right)) (ltb (length a.copy.now) (length a.b.now)) (not (well_formed a.l.now)) (sym (ap not q) ∙ (none c).0) (none c).1 e
 
 room : (c : Else-refusal-ne0) → length c.args.b.now ≤ length c.args.copy.now
 room c = let a = c.args in ltb-false (length a.copy.now) (length a.b.now) (none c).1
@@ -68,9 +75,15 @@ pub returns-then-refusal-ne0 : goal.returns-then-refusal-ne0
 returns-then-refusal-ne0 c =
     let a = c.args in
     record {
-      result = refused a.b.now a.l.now a.s a.o a.right (length a.copy.now) (right (goal.at.returns-then-refusal-ne0 c).Else-turned-ne0) (refusal (goal.at.returns-then-refusal-ne0 c).After-refusal_of-refusal) c.if-refusal-ne0.true;
+      result = refused a.b.now a.l.now a.s a.o a.right (length a.copy.now) (right (goal.at.returns-then-refusal-ne0 c).Else-turned-ne0) (earlier_stands (not (question_fits (shape_of a.b.now) a.s a.o a.right)) (ltb (length a.copy.now) (length a.b.now)) (not (well_formed a.l.now)) (tests (goal.at.returns-then-refusal-ne0 c).After-refusal_of-refusal) c.if-refusal-ne0.true) c.if-refusal-ne0.true;
       lent = lent_kept _ _ _;
     }
+
+pub returns-in_default-clause-result : goal.returns-in_default-clause-result
+returns-in_default-clause-result c =
+    let a = c.args in
+    let f = c.in_default.ensures in
+    refused a.b.now a.l.now a.s a.o a.right (length a.copy.now) (right (goal.at.returns-in_default-clause-result c).Else-turned-ne0) (formed (goal.at.returns-in_default-clause-result c).Else-refusal-ne0 (rw f refl)) (λ z. omega arith)
 
 pub slice_bounds-try_on-end : goal.slice_bounds-try_on-end
 slice_bounds-try_on-end c = room (goal.at.slice_bounds-try_on-end c).Else-refusal-ne0
@@ -85,7 +98,6 @@ try_on-first-requires c =
       record { station = opened (goal.at.try_on-first-requires c).After-shape-f; valid = valid_record _ (right (goal.at.try_on-first-requires c).Else-turned-ne0); size = c.refusal_with-turned.ensures.table },
       asked.0,
       asked.1,
-      sym c.well_formed-2.ensures ∙ not-false _ (none (goal.at.try_on-first-requires c).Else-refusal-ne0).2,
       length-take-le (length a.b.now) a.copy.now (room (goal.at.try_on-first-requires c).Else-refusal-ne0),
     )
 
@@ -93,6 +105,6 @@ pub returns : goal.returns
 returns c =
     let a = c.args in
     record {
-      result = ap (numbers 0) c.try_on-first.ensures ∙ answered a.b.now a.l.now a.s a.o a.right (length a.copy.now) (right (goal.at.returns c).Else-turned-ne0) (refusal (goal.at.returns c).After-refusal_of-refusal) c.if-refusal-ne0.false;
+      result = ap (numbers 0) (c.try_on-first.ensures ∙ ap (λ (l : List ℕ). first_on a.b.now l a.s a.o a.right) c.in-Some.ensures.1) ∙ answered a.b.now a.l.now a.s a.o a.right (length a.copy.now) (right (goal.at.returns c).Else-turned-ne0) (formed (goal.at.returns c).Else-refusal-ne0 (let f = c.in-Some.ensures.0 in rw f refl)) refl;
       lent = lent_used (length a.b.now) c.try_on-first.new.copy a.copy.now (c.try_on-first.auto.copy ∙ length-take-le (length a.b.now) a.copy.now (room (goal.at.returns c).Else-refusal-ne0)) (room (goal.at.returns c).Else-refusal-ne0);
     }

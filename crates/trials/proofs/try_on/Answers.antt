@@ -6,14 +6,14 @@ use Rattle.states.specs.Needs.{Guessed}
 use Rattle.trials.proofs.try_on.Goals as goal
 
 pub copy_from_slice-requires : goal.copy_from_slice-requires
-copy_from_slice-requires c = c.requires.4
+copy_from_slice-requires c = c.requires.3
 
 pub first_on-requires : goal.first_on-requires
 first_on-requires c =
     let a = c.args in
     let p = c.requires in
     let e = sym c.copy_from_slice.ensures.after in
-    (subst (λ b. Guessed b a.f a.owners.now) e p.0, subst (λ b. Cell b a.f a.s a.o) e p.1, p.2, p.3)
+    (subst (λ b. Guessed b a.f a.owners.now) e p.0, subst (λ b. Cell b a.f a.s a.o) e p.1, p.2)
 
 pub returns : goal.returns
-returns c = let a = c.args in c.first_on.ensures ∙ ap (λ b. first_on b a.l.now a.s a.o a.right) c.copy_from_slice.ensures.after
+returns c = let a = c.args in c.first_on.ensures ∙ ap (λ b. first_on b a.list.bytes.now a.s a.o a.right) c.copy_from_slice.ensures.after
