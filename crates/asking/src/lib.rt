@@ -2,8 +2,6 @@
 
 #![tactic(auto)]
 
-ghost use Rattle.std.specs.Prelude.{◌≡◌, ◌+◌, ◌≤◌, length};
-ghost use Rattle.matrix.specs.Bytes.{number_at};
 ghost use Rattle.asking.specs.Input.{AnswersInput};
 
 use question::Safety;
@@ -12,16 +10,6 @@ use question::Safety;
 pub const MOST_INPUT: usize = 65536;
 
 const QUESTION_BYTES: usize = 11;
-
-// The trust mask, high byte first.
-fn mask(l: &[u8], at: usize) -> u64
-    requires { at + 8 ≤ length l.now }
-    ensures { result ≡ number_at l.now at 8 }
-{
-    let high = lists::number(l, at) as u64;
-    let low = lists::number(l, at + 4) as u64;
-    high * 4294967296 + low
-}
 
 // The answer to the question in the input, with the list that leaks in `out`.
 pub fn ask(input: &[u8], out: &mut [u8]) -> Safety
@@ -35,7 +23,7 @@ pub fn ask(input: &[u8], out: &mut [u8]) -> Safety
         return Safety::Refused(1);
     }
     let at = size - QUESTION_BYTES;
-    let trust = mask(input, at);
+    let trust = octets::eight(input, at);
     let s = opening::byte(input, at + 8) as u64;
     let o = opening::byte(input, at + 9) as u64;
     let right = opening::byte(input, at + 10) as u64;

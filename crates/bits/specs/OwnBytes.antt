@@ -91,9 +91,9 @@ joined_is w x y k t e = rw e (⊎_elim last other (way (eqb (k % w) (w - 1))))
     other : eqb (k % w) (w - 1) ≡ false → bit_or x (bit_and y (last_byte w k)) ≡ own_joined w x y k
     other d = rw d (ap (bit_or x) (and_zero_r y) ∙ or_zero_r x)
 
--- a byte of a row stands within the record, which is not long
-pub byte_below : {b : List ℕ} {f : Shape} {r k at : ℕ} → Station b f → r < f.n → k < row_bytes f → at ≡ cell_place f r 0 → (at + k < length b) × (at + k ≤ most_bytes)
-byte_below {b} {f} {r} {k} {at} h row more e =
+-- a row stands within the record, which is not long, and so does a byte of it
+pub row_below : {b : List ℕ} {f : Shape} {r at : ℕ} → Station b f → r < f.n → at ≡ cell_place f r 0 → (at + row_bytes f ≤ length b) × (at + row_bytes f ≤ most_bytes)
+row_below {b} {f} {r} {at} h row e =
     let g = right_shape h in
     let some : columns f ≡ suc (columns f - 1) = omega (arith, g.low) in
     let last : columns f - 1 < columns f = omega (arith, g.low) in
@@ -102,6 +102,9 @@ byte_below {b} {f} {r} {k} {at} h row more e =
   where
     row_end : (a w x m : ℕ) {y : ℕ} → at ≡ a + w * (x + 0) → y ≡ suc m → a + w * (x + m) + w ≡ at + w * y
     row_end a w x m d q = rw q (omega arith)
+
+pub byte_below : {b : List ℕ} {f : Shape} {r k at : ℕ} → Station b f → r < f.n → k < row_bytes f → at ≡ cell_place f r 0 → (at + k < length b) × (at + k ≤ most_bytes)
+byte_below h row more e = (omega (arith, (row_below h row e).0), omega (arith, (row_below h row e).1))
 
 -- where byte k of a row stands: before its cell's last byte, or at it; and its cell's column
 module _ (w k : ℕ) (h : TwoOrFour w) where

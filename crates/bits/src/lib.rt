@@ -23,7 +23,7 @@ fn with_bit(v: u8, j: usize, on: bool) -> u8
     requires { j < 8 }
     ensures { result ≡ with_bit j on v }
 {
-    if on { v | (1 << j) } else { v - (v & (1 << j)) }
+    if on { v | (1 << j) } else { v & !(1 << j) }
 }
 
 // Right y is given to row w in column c, or taken from it.
@@ -50,47 +50,18 @@ pub fn clear_column(b: &mut [u8], f: Shape, c: usize)
     requires { Station b.old f × (c < columns f) }
     ensures { Became b.old b.new (clear (in_column (name_of f.n c)) (state_of b.old)) }
 {
-    let n = f.n;
-    for w in 0..n {
+    for w in 0..f.n {
         cells::store(b, f, w, c, 0);
     }
 }
 
-// The shape f, made anew with its width from a caller who knows it as a number.
-fn in_width(f: Shape, width: usize) -> Shape
-    requires { width ≡ f.width }
-    ensures { result ≡ f }
-{
-    Shape {
-        version: f.version,
-        n: f.n,
-        p: f.p,
-        width,
-        first: f.first,
-    }
-}
-
-// Every cell of row r is cleared, in a shape of any width.
-fn clear_cells(b: &mut [u8], f: Shape, r: usize)
-    requires { Station b.old f × (r < f.n) }
-    ensures { Became b.old b.new (clear (in_row r) (state_of b.old)) }
-{
-    let all = cells::columns_of(f);
-    for c in 0..all {
-        cells::store(b, f, r, c, 0);
-    }
-}
-
-// Every cell of row r is cleared. Each width has a call of its own, so that the compiler knows it.
+// Every cell of row r is cleared: they lie one after another.
 pub fn clear_row(b: &mut [u8], f: Shape, r: usize)
     requires { Station b.old f × (r < f.n) }
     ensures { Became b.old b.new (clear (in_row r) (state_of b.old)) }
 {
-    if f.width == 2 {
-        clear_cells(b, in_width(f, 2), r)
-    } else {
-        clear_cells(b, in_width(f, 4), r)
-    }
+    let at = cells::place(f, r, 0);
+    b[at..at + cells::row_bytes(f)].fill(0);
 }
 
 // 1 where byte k of a row is the last of its cell, which has two bytes or four, and else 0. It is made of digits, so that the compiler may take

@@ -7,7 +7,6 @@ use Rattle.matrix.specs.declared.Shape.{Shape}
 use Rattle.matrix.specs.Bytes.{number_at, set_number, bit}
 use Rattle.matrix.specs.Shape.{most_subjects, most_plain, bits_of, columns, cell_place, size_of}
 use Rattle.matrix.specs.Reading.{cell_at, set_cell}
-use Rattle.codec.specs.Numbers.{four_read, four_stored}
 use Rattle.codec.specs.Bits.{with_bit, bit_low}
 use Rattle.codec.specs.BitBytes.{byte_of}
 use Rattle.codec.proofs.BitBytes.{byte_bit, byte_stored}
@@ -97,15 +96,9 @@ module _ (b : List ℕ) (f : Shape) (h : Station b f) where
       store_number r c (with_bit j on (cell_at b r c)) ∙ ap (λ (v : ℕ). set_number b (cell_place f r c) f.width (with_bit j on v)) (cell_number r c)
       ∙ byte_stored b (cell_place f r c) f.width j on h.octets l
 
-  -- a cell of two bytes, and one of four, which are two numbers of two, read and stored
-  pub cell_two : (r c : ℕ) → f.width ≡ 2 → number_at b (cell_place f r c) 2 ≡ cell_at b r c
-  cell_two r c e = sym (cell_number r c ∙ ap (number_at b (cell_place f r c)) e)
+  -- a cell of w bytes read and stored
+  pub cell_read : (r c : ℕ) {w : ℕ} → f.width ≡ w → number_at b (cell_place f r c) w ≡ cell_at b r c
+  cell_read r c e = sym (cell_number r c ∙ ap (number_at b (cell_place f r c)) e)
 
-  pub cell_four : (r c : ℕ) → f.width ≡ 4 → number_at b (cell_place f r c) 2 * 65536 + number_at b (cell_place f r c + 2) 2 ≡ cell_at b r c
-  cell_four r c e = sym (cell_number r c ∙ ap (number_at b (cell_place f r c)) e ∙ four_read b (cell_place f r c))
-
-  pub store_two : (r c v : ℕ) → f.width ≡ 2 → set_number b (cell_place f r c) 2 v ≡ set_cell b r c v
-  store_two r c v e = sym (store_number r c v ∙ ap (λ (w : ℕ). set_number b (cell_place f r c) w v) e)
-
-  pub store_four : (r c v : ℕ) → f.width ≡ 4 → set_number (set_number b (cell_place f r c) 2 (v / 65536)) (cell_place f r c + 2) 2 v ≡ set_cell b r c v
-  store_four r c v e = sym (store_number r c v ∙ ap (λ (w : ℕ). set_number b (cell_place f r c) w v) e ∙ four_stored b (cell_place f r c) v)
+  pub cell_stored : (r c v : ℕ) {w : ℕ} → f.width ≡ w → set_number b (cell_place f r c) w v ≡ set_cell b r c v
+  cell_stored r c v e = sym (store_number r c v ∙ ap (λ (w : ℕ). set_number b (cell_place f r c) w v) e)

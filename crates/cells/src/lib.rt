@@ -2,8 +2,8 @@
 
 #![tactic(auto)]
 
-ghost use Rattle.std.specs.Prelude.{◌≡◌, ◌+◌, ◌<◌, length};
-ghost use Rattle.matrix.specs.Bytes.{bit, number_at, set_number};
+ghost use Rattle.std.specs.Prelude.{◌≡◌, ◌<◌};
+ghost use Rattle.matrix.specs.Bytes.{bit};
 ghost use Rattle.matrix.specs.Shape.{columns, bits_of, basics_of, cell_place};
 ghost use Rattle.matrix.specs.Reading.{cell_at, set_cell};
 ghost use Rattle.codec.specs.Bits.{word_bits};
@@ -51,51 +51,30 @@ pub fn place(f: Shape, r: usize, c: usize) -> usize
     f.first + f.width * (r * columns_of(f) + c)
 }
 
-// The two bytes from `at` on, as a number.
-fn two(b: &[u8], at: usize) -> usize
-    requires { at + 1 < length b.now }
-    ensures number { result ≡ number_at b.now at 2 }
-    ensures small { result < 65536 }
-{
-    let high = b[at] as usize;
-    let low = b[at + 1] as usize;
-    high * 256 + low
-}
-
-// The two bytes from `at` on become the number v, without what is above its 16 low bits.
-fn put_two(b: &mut [u8], at: usize, v: usize)
-    requires { at + 1 < length b.old }
-    ensures { b.new ≡ set_number b.old at 2 v }
-{
-    b[at] = (v / 256 % 256) as u8;
-    b[at + 1] = (v % 256) as u8;
-}
-
 // The cell of row r and column c: two bytes or four.
 pub fn cell(b: &[u8], f: Shape, r: usize, c: usize) -> usize
     requires { Cell b.now f r c }
     ensures { result ≡ cell_at b.now r c }
 {
     let at = place(f, r, c);
-    let v = two(b, at);
     if f.width == 2 {
-        return v;
+        octets::two(b, at) as usize
+    } else {
+        octets::four(b, at) as usize
     }
-    v * 65536 + two(b, at + 2)
 }
 
-// The cell of row r and column c becomes v.
+// The cell of row r and column c becomes v, without what is above its bits.
 pub fn store(b: &mut [u8], f: Shape, r: usize, c: usize, v: usize)
     requires { Cell b.old f r c }
     ensures { b.new ≡ set_cell b.old r c v }
 {
     let at = place(f, r, c);
     if f.width == 2 {
-        put_two(b, at, v);
-        return;
+        octets::put_two(b, at, (v % 65536) as u16);
+    } else {
+        octets::put_four(b, at, (v % 4294967296) as u32);
     }
-    put_two(b, at, v / 65536);
-    put_two(b, at + 2, v);
 }
 
 // Whether bit j of v is set.

@@ -1,10 +1,10 @@
 -- Laws of the changes to a window's bytes: the counts after an entry has left, the bytes of the entries and their next place.
-use Rattle.std.specs.Prelude.{ℕ, ◌+◌, ◌-◌, ◌*◌, ◌≤◌, ◌<◌, ◌≡◌, List, get_or}
-use Rattle.std.proofs.Common.{mul-le-mul_right, arith}
+use Rattle.std.specs.Prelude.{ℕ, ◌+◌, ◌≤◌, ◌<◌, ◌≡◌, List, get_or}
+use Rattle.std.proofs.Common.{arith}
 use Rattle.std.proofs.Math.ListN.{length}
 use Rattle.matrix.specs.Bytes.{number_at, set_number}
 use Rattle.codec.specs.Numbers.{length_set_number, get_or_set_number_other, number_at_set_other, number_at_set_same}
-use Rattle.history.specs.Entries.{refused, window_numbers, window_entries}
+use Rattle.history.specs.Entries.{window_numbers, window_entries}
 use Rattle.history.specs.Window.{count_place, next_place, window_bytes}
 use Rattle.window.specs.Changed.{raised}
 
@@ -40,9 +40,3 @@ module _ (w : List ℕ) (size : length w ≡ window_bytes) (number more : ℕ) (
   pub raised_other : (other : ℕ) → (other ≡ number → ⊥) → number_at (raised w number more) (count_place other) 2 ≡ number_at w (count_place other) 2
   unfolding raised
   raised_other other h = set_other w size number _ named other h
-
--- an entry's byte is at most 64
-pub byte_few : (refused number : ℕ) → refused ≤ 1 → number < window_numbers → refused * (number + 1) ≤ window_numbers
-byte_few refused number r n =
-    let l : refused * (number + 1) ≤ 1 * (number + 1) = mul-le-mul_right (number + 1) r in
-    omega arith

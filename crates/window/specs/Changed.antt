@@ -4,7 +4,7 @@ use Rattle.matrix.specs.Bytes.{number_at, set_number}
 use Rattle.history.specs.Entries.{window_numbers, window_entries}
 use Rattle.history.specs.Window.{count_place, next_place}
 
--- 1 for a refused outcome
+-- 1 for the outcome of a refused command
 abbrev pub refused_one : ℕ → ℕ
 refused_one outcome = cond (eqb outcome 0) 0 1
 

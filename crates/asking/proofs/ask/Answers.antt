@@ -16,4 +16,4 @@ slice_bounds-safety-end c = sym (length-take-le _ _ (omega arith))
 
 pub returns : goal.returns
 returns c =
-    asked_so _ _ c.if-size-lt-QUESTION_BYTES.false c.if-size-gt-MOST_INPUT.false c.mask-trust.ensures c.byte-s.ensures c.byte-o.ensures c.byte-right.ensures c.safety.ensures
+    asked_so _ _ c.if-size-lt-QUESTION_BYTES.false c.if-size-gt-MOST_INPUT.false c.eight-trust.ensures c.byte-s.ensures c.byte-o.ensures c.byte-right.ensures c.safety.ensures

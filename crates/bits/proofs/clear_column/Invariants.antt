@@ -1,5 +1,4 @@
 -- The loop's invariant: the cells of the rows passed so far are cleared.
-use Prim.Native.Nat.{◌-◌, ◌≤◌}
 use Rattle.matrix.specs.State.{clear}
 use Rattle.matrix.specs.Reading.{state_of}
 use Rattle.bits.specs.Became.{Became}
@@ -7,7 +6,4 @@ use Rattle.bits.specs.Passed.{column_part}
 use Rattle.bits.proofs.clear_column.Given as goal
 
 abbrev pub invariant-loop-w : goal.invariant-loop-w
-invariant-loop-w l = (l.w ≤ l.n) × Became l.initial.b l.b (clear (column_part l.f.n l.c l.w) (state_of l.initial.b))
-
-abbrev pub decreases-loop-w : goal.decreases-loop-w
-decreases-loop-w l = l.n - l.w
+invariant-loop-w l = Became l.initial.b l.b (clear (column_part l.f.n l.c l.w) (state_of l.initial.b))

@@ -1,6 +1,5 @@
 -- `bits::inherit_own` meets its contract.
-use borrow.Author.Rules.{rules}
-use Prim.Native.Nat.{ℕ, ◌+◌, ◌-◌, ◌≤◌, ◌<◌}
+use Prim.Native.Nat.{ℕ, ◌+◌, ◌≤◌, ◌<◌}
 use native.Mathlib.Omega.{arith}
 use mathlib.Core.Path.{refl, ap}
 use lib.ListN.{length}
@@ -22,12 +21,12 @@ within c = omega (arith, c.loop-k-test.true, c.row_bytes-bytes.ensures)
 to_below : (c : In-loop-k)
     → (c.place-to.result + c.loop-k.k < length c.loop-k.b) × (c.place-to.result + c.loop-k.k ≤ most_bytes)
 to_below c =
-    byte_below (station_after c.requires.0 c.loop-k.invariant.1) c.requires.1 (within c) c.place-to.ensures
+    byte_below (station_after c.requires.0 c.loop-k.invariant) c.requires.1 (within c) c.place-to.ensures
 
 from_below : (c : In-loop-k)
     → (c.place-from.result + c.loop-k.k < length c.loop-k.b) × (c.place-from.result + c.loop-k.k ≤ most_bytes)
 from_below c =
-    byte_below (station_after c.requires.0 c.loop-k.invariant.1) c.requires.2 (within c) c.place-from.ensures
+    byte_below (station_after c.requires.0 c.loop-k.invariant) c.requires.2 (within c) c.place-from.ensures
 
 pub place-to-requires : goal.place-to-requires
 place-to-requires c = let q = c.requires in (right_shape q.0, q.1, omega (arith, (right_shape q.0).low))
@@ -39,7 +38,7 @@ pub row_bytes-bytes-requires : goal.row_bytes-bytes-requires
 row_bytes-bytes-requires c = right_shape c.requires.0
 
 pub loop-k-init : goal.loop-k-init
-loop-k-init c = (search rules, inherit_none c.args.i c.args.s c.requires.0)
+loop-k-init c = inherit_none c.args.i c.args.s c.requires.0
 
 pub overflow_add-to : goal.overflow_add-to
 overflow_add-to c = omega (arith, (to_below c).1)
@@ -66,11 +65,11 @@ pub loop-k-preserved : goal.loop-k-preserved
 loop-k-preserved c =
     let to = c.place-to.ensures in
     let from = c.place-from.ensures in
-    (search rules, inherit_byte c.args.i c.args.s c.requires.0 c.loop-k.invariant.1 c.requires.1 c.requires.2 (within (goal.at.loop-k-preserved c).In-loop-k) (ap (λ (m : ℕ). m + c.loop-k.k) to) (ap (λ (m : ℕ). m + c.loop-k.k) from) c.own_joined.ensures refl)
+    inherit_byte c.args.i c.args.s c.requires.0 c.loop-k.invariant c.requires.1 c.requires.2 (within (goal.at.loop-k-preserved c).In-loop-k) (ap (λ (m : ℕ). m + c.loop-k.k) to) (ap (λ (m : ℕ). m + c.loop-k.k) from) c.own_joined.ensures refl
 
 pub shape_of-b : goal.shape_of-b
-shape_of-b c = length_after c.requires.0 c.loop-k.invariant.1
+shape_of-b c = length_after c.requires.0 c.loop-k.invariant
 
 pub returns : goal.returns
 returns c =
-    inherit_all c.args.i c.args.s c.requires.0 (omega (arith, c.loop-k.invariant.0, c.loop-k-test.false, c.row_bytes-bytes.ensures)) c.loop-k.invariant.1
+    inherit_all c.args.i c.args.s c.requires.0 (omega (arith, c.loop-k-test.false, c.row_bytes-bytes.ensures)) c.loop-k.invariant

@@ -2,8 +2,5 @@
 use Rattle.bits.specs.OwnBytes.{joined_is}
 use Rattle.bits.proofs.own_joined.Goals as goal
 
-pub last_byte-requires : goal.last_byte-requires
-last_byte-requires c = c.requires
-
 pub returns : goal.returns
 returns c = joined_is c.args.width c.args.x c.args.y c.args.k _ c.last_byte.ensures

@@ -1,8 +1,5 @@
 -- `cells::has` meets its contract.
-use Prim.Native.Nat.{ℕ, ◌%◌}
-use native.Mathlib.Omega.{arith}
-use mathlib.Core.Path.{sym, ◌∙◌, ap}
-use lib.ListN.{get_or}
+use Rattle.std.proofs.Common.{ℕ, ◌%◌, arith, sym, ◌∙◌, ap, get_or}
 use Rattle.matrix.specs.Bytes.{bit}
 use Rattle.cells.specs.Station.{right_shape}
 use Rattle.cells.specs.Places.{bit_below, bit_there}
@@ -17,12 +14,8 @@ bounds-b-bit_place c =
     let q = c.requires in
     omega (arith, c.bit_place.ensures, bit_below a.b.now a.f q.0.station a.r a.c a.j q.0.row q.0.column q.1)
 
-pub overflow_cast-b : goal.overflow_cast-b
-overflow_cast-b c = omega (arith, c.shared_slice_known-2-1.given c.bit_place.result)
-
 pub returns : goal.returns
 returns c =
     let a = c.args in
-    let q = c.requires in
     c.bit_of.ensures ∙ ap (λ (i : ℕ). bit (a.j % 8) (get_or a.b.now i 0)) c.bit_place.ensures
-    ∙ sym (bit_there a.b.now a.f q.0.station a.r a.c a.j q.1)
+    ∙ sym (bit_there a.b.now a.f c.requires.0.station a.r a.c a.j c.requires.1)

@@ -1,11 +1,12 @@
 -- `window::count` meets its contract.
-use native.Mathlib.Omega.{arith}
-use mathlib.Core.Path.{sym, ◌∙◌}
-use Rattle.window.specs.Answered.{named_of, count_shown}
+use Rattle.std.proofs.Common.{ℕ, List, ◌∙◌, ap}
+use Rattle.matrix.specs.Bytes.{number_at}
+use Rattle.history.specs.Window.{count_place}
+use Rattle.window.specs.Answered.{count_shown}
 use Rattle.window.proofs.count.Goals as goal
 
-pub count_at-requires : goal.count_at-requires
-count_at-requires c = (omega arith, omega (arith, named_of c.args.number (sym c.refusal_of-refusal.ensures ∙ c.if-refusal-eq0.true)))
-
-pub returns-then-w-eq-WINDOW_BYTES : goal.returns-then-w-eq-WINDOW_BYTES
-returns-then-w-eq-WINDOW_BYTES c = count_shown c.refusal_of-refusal.ensures c.if-refusal-eq0.true c.count_at.ensures.0
+pub returns : goal.returns
+returns c =
+    let a = c.args in
+    count_shown c.refusal_of-refusal.ensures c.if-refusal-eq0.true
+    (c.count_at.ensures ∙ ap (λ (l : List ℕ). number_at l (count_place a.number) 2) c.in-Ok.ensures.1.same)
