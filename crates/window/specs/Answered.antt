@@ -8,13 +8,6 @@ use Rattle.history.specs.Entries.{window_numbers, window_refusal}
 use Rattle.history.specs.Window.{count_place}
 use Rattle.history.specs.Calls.{Counted}
 
--- ---- refusal 17
-pub refusal_none : (number : ℕ) → number < window_numbers → 0 ≡ window_refusal number
-refusal_none number l = rw (lt-ltb number window_numbers l) refl
-
-pub refusal_given : (number : ℕ) → window_numbers ≤ number → 17 ≡ window_refusal number
-refusal_given number l = rw (le-ltb number window_numbers l) refl
-
 -- a number that is not refused has a count
 pub named_of : (number : ℕ) → window_refusal number ≡ 0 → number < window_numbers
 named_of number h =

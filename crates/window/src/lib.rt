@@ -3,25 +3,27 @@
 
 #![tactic(auto)]
 
-ghost use Rattle.std.specs.Prelude.{◌≡◌, ◌<◌};
+ghost use Rattle.std.specs.Prelude.{◌≡◌, ◌<◌, IfOk};
 ghost use Rattle.matrix.specs.Bytes.{number_at, set_number};
 ghost use Rattle.history.specs.Entries.{window_numbers, window_refusal};
 ghost use Rattle.history.specs.Window.{count_place};
 ghost use Rattle.history.specs.Calls.{Emptied, Put, Counted};
 ghost use Rattle.matrix.specs.Numbers.{truth};
+ghost use Rattle.matrix.specs.Refusals.{number_of, numbers_by};
 ghost use Rattle.window.specs.Changed.{lowered, entered};
 
 use history::{COUNTS_PLACE, NEXT_PLACE, WINDOW_BYTES, WINDOW_ENTRIES, WINDOW_NUMBERS};
-use matrix::Numbers;
+use matrix::Refusal;
 
-// 17 where the number has no count, else 0.
-fn refusal_of(number: u64) -> u64
-    ensures { result ≡ window_refusal number }
+// A number that has a count; any other is refused by 17.
+fn named(number: u64) -> Result<usize, Refusal>
+    ensures refusal { number_of result ≡ window_refusal number }
+    ensures same { IfOk result (λ n. (n ≡ number) × (n < window_numbers)) }
 {
     if number < WINDOW_NUMBERS as u64 {
-        0
+        Ok(number as usize)
     } else {
-        17
+        Err(Refusal::WindowNumber)
     }
 }
 
@@ -84,37 +86,24 @@ pub fn empty(w: &mut [u8])
 
 // One more entry: the initiator of a command, and its outcome, 0 if it was accepted. Refused by 17 for an initiator of 64 or more. Bytes of
 // another length than a window's stay as they are.
-pub fn put(w: &mut [u8], initiator: u64, outcome: u64) -> Numbers
-    ensures { Put w.old initiator outcome w.new result }
+pub fn put(w: &mut [u8], initiator: u64, outcome: u64) -> Result<(), Refusal>
+    ensures { Put w.old initiator outcome w.new (numbers_by (λ _. 0) result) }
 {
-    let refusal = refusal_of(initiator);
-    if refusal != 0 {
-        return Numbers { refusal, value: 0 };
+    let number = named(initiator)?;
+    if w.len() != WINDOW_BYTES {
+        return Ok(());
     }
-    let length = w.len();
-    if length != WINDOW_BYTES {
-        return Numbers { refusal, value: 0 };
-    }
-    enter(
-        w.first_chunk_mut().unwrap(),
-        initiator as usize,
-        outcome != 0,
-    );
-    Numbers { refusal, value: 0 }
+    enter(w.first_chunk_mut().unwrap(), number, outcome != 0);
+    Ok(())
 }
 
-// The count of a number, refused by 17 for a number of 64 or more.
-pub fn count(w: &[u8], number: u64) -> Numbers
-    ensures { Counted w.now number result }
+// The count of a number, refused by 17 for a number of 64 or more; 0 where the bytes are none of a window.
+pub fn count(w: &[u8], number: u64) -> Result<u16, Refusal>
+    ensures { Counted w.now number (numbers_by (λ n. n) result) }
 {
-    let refusal = refusal_of(number);
-    if refusal == 0
-        && let Ok(window) = w.try_into()
-    {
-        return Numbers {
-            refusal,
-            value: count_at(window, number as usize) as u64,
-        };
-    }
-    Numbers { refusal, value: 0 }
+    let number = named(number)?;
+    let Ok(window) = w.try_into() else {
+        return Ok(0);
+    };
+    Ok(count_at(window, number))
 }
