@@ -1,5 +1,5 @@
 -- The refusals in code, and the numbers that the definitions have for them (Manual 7.1); and the answers in code as the definitions have them.
-use Rattle.std.specs.Prelude.{ℕ, Bool, cond, Result, Ok, Err}
+use Rattle.std.specs.Prelude.{ℕ, ◌+◌, Bool, cond, Option, Some, None, Result, Ok, Err}
 use Rattle.matrix.specs.declared.Refusal.{Refusal}
 use Rattle.matrix.specs.declared.Refused.{Refused}
 use Rattle.matrix.specs.declared.Numbers.{Numbers}
@@ -58,3 +58,8 @@ numbers_of (Err e) = numbers (refusal_number e.refusal) e.value
 abbrev pub numbers_by : {A : Type 0} → (A → ℕ) → Result A Refusal → Numbers
 numbers_by value (Ok x) = numbers 0 (value x)
 numbers_by value (Err r) = numbers (refusal_number r) 0
+
+-- a number as the value of such an answer: one more where there is one, and else 0
+abbrev pub one_more : Option ℕ → ℕ
+one_more None = 0
+one_more (Some n) = n + 1

@@ -1,5 +1,5 @@
 -- The answer of the call: by which test it is refused, or the first command; and what is left of the lent copy.
-use Rattle.std.specs.Prelude.{ℕ, ◌+◌, ◌-◌, ◌≤◌, ◌≡◌, Bool, true, false, cond, not, List, ◌++◌, eqb, leb, ltb, length, drop}
+use Rattle.std.specs.Prelude.{ℕ, ◌+◌, ◌-◌, ◌≤◌, ◌<◌, ◌≡◌, Bool, true, false, cond, not, List, ◌++◌, eqb, leb, ltb, length, drop}
 use Rattle.std.proofs.Common.{arith, sym, ◌∙◌, ap, ap₂, ⊎_elim, length-append, length-drop, drop_at}
 use Rattle.std.proofs.Math.Path.{refl}
 use borrow.Author.Tests.{leb-true, leb-false, le-ltb, lt-ltb, ne_eqb}
@@ -13,27 +13,8 @@ use Rattle.matrix.specs.FirstHeld.{first_on, first_held_refusal, first_held_resu
 use Rattle.laws.specs.Tests.{way}
 
 -- the refusal after 1 to 5, where the numbers do not fit, the copy is short, or the list is not of the right form
-abbrev pub later : Bool → Bool → Bool → ℕ
+abbrev later : Bool → Bool → Bool → ℕ
 later unfit short unformed = cond unfit 7 (cond short 15 (cond unformed 16 0))
-
--- the first two of these tests, before the list is read
-abbrev pub earlier : Bool → Bool → ℕ
-earlier unfit short = cond unfit 7 (cond short 15 0)
-
--- a refusal by one of them stands whatever the list is
-pub earlier_stands : (unfit short unformed : Bool) {r : ℕ} → r ≡ earlier unfit short → (r ≡ 0 → ⊥) → r ≡ later unfit short unformed
-earlier_stands true short unformed e n = e
-earlier_stands false true unformed e n = e
-earlier_stands false false unformed e n = absurd (n e)
-
--- where there is none, neither is so, and the list decides
-pub earlier_none : (unfit short : Bool) {r : ℕ} → r ≡ earlier unfit short → r ≡ 0 → (unfit ≡ false) × (short ≡ false)
-earlier_none true short e n = let z : ◌≡◌ {A = ℕ} 7 0 = sym e ∙ n in absurd (omega arith)
-earlier_none false true e n = let z : ◌≡◌ {A = ℕ} 15 0 = sym e ∙ n in absurd (omega arith)
-earlier_none false false e n = (refl, refl)
-
-pub list_decides : (unfit short unformed : Bool) {r : ℕ} → unfit ≡ false → short ≡ false → r ≡ cond unformed 16 0 → r ≡ later unfit short unformed
-list_decides unfit short unformed u d e = rw (u, d) e
 
 -- as the definition tests
 tested : (fits formed : Bool) (size room : ℕ) → cond fits (cond (leb size room) (cond formed 0 16) 15) 7 ≡ later (not fits) (ltb room size) (not formed)
@@ -46,22 +27,32 @@ tested true formed size room =
     by true = refl
     by false = refl
 
--- r is the refusal after 1 to 5
-module _ (b l : List ℕ) (s o right room : ℕ) {r : ℕ} (passed : record_refusal limits b ≡ 0)
-    (e : r ≡ later (not (question_fits (shape_of b) s o right)) (ltb room (length b)) (not (well_formed l))) where
-  refusal : first_held_refusal limits b l s o right room ≡ r
-  refusal = tests ∙ tested (question_fits (shape_of b) s o right) (well_formed l) (length b) room ∙ sym e
+-- A record that passed 1 to 5: the question is refused by 7, by 15 or by 16, or answered.
+module _ (b l : List ℕ) (s o right room : ℕ) (passed : record_refusal limits b ≡ 0) where
+  refusal : {r : ℕ} → r ≡ later (not (question_fits (shape_of b) s o right)) (ltb room (length b)) (not (well_formed l)) → first_held_refusal limits b l s o right room ≡ r
+  refusal e = tests ∙ tested (question_fits (shape_of b) s o right) (well_formed l) (length b) room ∙ sym e
     where
       tests : first_held_refusal limits b l s o right room ≡ cond (question_fits (shape_of b) s o right) (cond (leb (length b) room) (cond (well_formed l) 0 16) 15) 7
       tests = unfold first_held_refusal first_failed in rw passed refl
 
-  pub refused : (r ≡ 0 → ⊥) → numbers r 0 ≡ first_held_result limits b l s o right room
+  refused : {r : ℕ} → (r ≡ 0 → ⊥) → r ≡ later (not (question_fits (shape_of b) s o right)) (ltb room (length b)) (not (well_formed l)) → numbers r 0 ≡ first_held_result limits b l s o right room
   unfolding first_held_result
-  refused n = rw (refusal, ne_eqb r 0 n) refl
+  refused {r} n e = rw (refusal e, ne_eqb r 0 n) refl
 
-  pub answered : r ≡ 0 → numbers 0 (first_on b l s o right) ≡ first_held_result limits b l s o right room
-  unfolding first_held_result
-  answered n = rw (refusal, n) refl
+  pub unfit : question_fits (shape_of b) s o right ≡ false → numbers 7 0 ≡ first_held_result limits b l s o right room
+  unfit h = refused (λ z. absurd (omega arith)) (rw h refl)
+
+  module _ (fits : question_fits (shape_of b) s o right ≡ true) where
+    pub short : room < length b → numbers 15 0 ≡ first_held_result limits b l s o right room
+    short h = refused (λ z. absurd (omega arith)) (rw (fits, lt-ltb room (length b) h) refl)
+
+    module _ (holds : length b ≤ room) where
+      pub unformed : well_formed l ≡ false → numbers 16 0 ≡ first_held_result limits b l s o right room
+      unformed h = refused (λ z. absurd (omega arith)) (rw (fits, le-ltb room (length b) holds, h) refl)
+
+      pub answered : well_formed l ≡ true → numbers 0 (first_on b l s o right) ≡ first_held_result limits b l s o right room
+      unfolding first_held_result
+      answered h = rw (refusal {r = 0} (rw (fits, le-ltb room (length b) holds, h) refl)) refl
 
 -- 1 to 5 turn the record down
 pub turned_down : (b l : List ℕ) (s o right room : ℕ) {m : ℕ} → m ≡ record_refusal limits b → (m ≡ 0 → ⊥) → numbers m 0 ≡ first_held_result limits b l s o right room

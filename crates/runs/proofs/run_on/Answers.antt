@@ -1,5 +1,5 @@
 -- `runs::run_on` meets its contract.
-use Rattle.std.proofs.Common.{arith, length, ap, ◌∙◌}
+use Rattle.std.proofs.Common.{arith, length, ap, ◌∙◌, refl}
 use Rattle.lists.specs.declared.Commands.{Commands}
 use Rattle.runs.specs.Steps.{reached_none, ran_accepted, ran_refused, ran_all}
 use Rattle.lists.specs.Left.{commands_left}
@@ -9,13 +9,13 @@ use Rattle.runs.proofs.run_on.Goals as goal
 pub loop-c-init : goal.loop-c-init
 loop-c-init c = record { reached = reached_none c.requires (ap (λ (s : Commands). commands_left s.unread.now) c.into_iter-c-iterator.ensures.into_iter_gives ∙ c.commands-c-items.ensures); table = c.requires.size }
 
-pub command_in_list-answer-requires : goal.command_in_list-answer-requires
-command_in_list-answer-requires c =
+pub command_in_list-requires : goal.command_in_list-requires
+command_in_list-requires c =
     let r = c.loop-c.invariant.reached in
     record { station = r.station; valid = r.valid; size = c.loop-c.invariant.table }
 
-pub returns-in_default : goal.returns-in_default
-returns-in_default c = ran_refused c.loop-c.invariant.reached c.in-Some.ensures.steps c.command_in_list-answer.ensures.answer c.in_default.is c.number_of.ensures
+pub returns-in-Err : goal.returns-in-Err
+returns-in-Err c = ran_refused c.loop-c.invariant.reached c.in-Some.ensures.steps c.in-Err.ensures.answer refl refl
 
 pub overflow_add-accepted : goal.overflow_add-accepted
 overflow_add-accepted c =
@@ -24,8 +24,8 @@ overflow_add-accepted c =
 
 pub loop-c-preserved : goal.loop-c-preserved
 loop-c-preserved c = record {
-  reached = ran_accepted c.loop-c.invariant.reached c.in-Some.ensures.steps c.command_in_list-answer.ensures.answer c.in-Accepted.is;
-  table = c.command_in_list-answer.ensures.table;
+  reached = ran_accepted c.loop-c.invariant.reached c.in-Some.ensures.steps c.in_default.ensures.answer refl;
+  table = c.command_in_list.ensures.table;
 }
 
 pub returns : goal.returns

@@ -1,5 +1,5 @@
 -- `trials::first_on` meets its contract.
-use Rattle.std.proofs.Common.{arith, ap, ◌∙◌}
+use Rattle.std.proofs.Common.{arith, ap, ◌∙◌, refl}
 use Rattle.lists.specs.declared.Commands.{Commands}
 use Rattle.lists.specs.Left.{commands_left}
 use Rattle.lists.proofs.Left.{few_commands}
@@ -13,16 +13,13 @@ loop-c-init c = record {
   table = c.requires.0.size;
 }
 
-pub overflow_add-result : goal.overflow_add-result
-overflow_add-result c = omega (arith, c.loop-c.invariant.reached.counted, few_commands _ c.args.list.formed)
-
 pub returns-then-is_held : goal.returns-then-is_held
 returns-then-is_held c = let a = c.args in found a.s a.o a.right c.loop-c.invariant.reached c.is_held.ensures c.if-is_held.true
 
 pub returns-in_default : goal.returns-in_default
 returns-in_default c =
     let a = c.args in
-    found_refused a.s a.o a.right c.loop-c.invariant.reached c.is_held.ensures c.if-is_held.false c.in-Some.ensures.steps c.command_on-answer.ensures.answer c.in_default.is
+    found_refused a.s a.o a.right c.loop-c.invariant.reached c.is_held.ensures c.if-is_held.false c.in-Some.ensures.steps c.in_default.ensures.answer refl
 
 pub overflow_add-before : goal.overflow_add-before
 overflow_add-before c = omega (arith, c.loop-c.invariant.reached.counted, few_commands _ c.args.list.formed)
@@ -31,12 +28,9 @@ pub loop-c-preserved : goal.loop-c-preserved
 loop-c-preserved c =
     let a = c.args in
     record {
-      reached = found_later a.s a.o a.right c.loop-c.invariant.reached c.is_held.ensures c.if-is_held.false c.in-Some.ensures.steps c.command_on-answer.ensures.answer c.in-Accepted.is;
-      table = c.command_on-answer.ensures.table;
+      reached = found_later a.s a.o a.right c.loop-c.invariant.reached c.is_held.ensures c.if-is_held.false c.in-Some.ensures.steps c.in-Ok.ensures.answer refl;
+      table = c.command_on.ensures.table;
     }
-
-pub overflow_add-result-then-is_held-2 : goal.overflow_add-result-then-is_held-2
-overflow_add-result-then-is_held-2 c = omega (arith, c.loop-c.invariant.reached.counted, few_commands _ c.args.list.formed)
 
 pub returns-then-is_held-2 : goal.returns-then-is_held-2
 returns-then-is_held-2 c = let a = c.args in found a.s a.o a.right c.loop-c.invariant.reached c.is_held-2.ensures c.if-is_held-2.true
