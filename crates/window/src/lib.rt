@@ -11,7 +11,6 @@ ghost use Rattle.history.specs.Calls.{Emptied, Put, Counted};
 ghost use Rattle.window.specs.Changed.{refused_one, lowered, entered};
 
 use history::{COUNTS_PLACE, NEXT_PLACE, WINDOW_BYTES, WINDOW_ENTRIES, WINDOW_NUMBERS};
-use lists::wide;
 use matrix::Numbers;
 
 // 17 where the number has no count, else 0.
@@ -38,8 +37,8 @@ fn count_at(w: &[u8], number: usize) -> usize
     ensures { (result ≡ number_at w.now (count_place number) 2) × (result < 65536) }
 {
     let at = COUNTS_PLACE + 2 * number;
-    let high = wide(w[at]);
-    let low = wide(w[at + 1]);
+    let high = usize::from(w[at]);
+    let low = usize::from(w[at + 1]);
     high * 256 + low
 }
 
@@ -75,8 +74,8 @@ fn enter(w: &mut [u8], number: usize, refused: usize)
     requires { (length w.old ≡ window_bytes) × (number < window_numbers) × (refused ≤ 1) }
     ensures { w.new ≡ entered w.old number refused }
 {
-    let place = wide(w[NEXT_PLACE]);
-    let leaving = wide(w[place]);
+    let place = usize::from(w[NEXT_PLACE]);
+    let leaving = usize::from(w[place]);
     lower(w, leaving);
     w[place] = (refused * (number + 1)) as u8;
     w[NEXT_PLACE] = ((place + 1) % WINDOW_ENTRIES) as u8;

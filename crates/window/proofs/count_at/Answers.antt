@@ -8,4 +8,4 @@ use Rattle.window.proofs.count_at.Goals as goal
 pub returns : goal.returns
 returns c =
     let a = c.args in
-    (ap₂ (λ (x y : ℕ). x * 256 + y) c.wide-high.ensures.0 c.wide-low.ensures.0 ∙ sym (two_read a.w.now _), omega arith)
+    (ap₂ (λ (x y : ℕ). x * 256 + y) c.from-high.ensures c.from-low.ensures ∙ sym (two_read a.w.now _), omega arith)

@@ -40,10 +40,10 @@ returns c =
     let a = c.args in
     let byte = a.refused * (a.number + 1) in
     c.set_count.ensures
-    ∙ ap (λ (v : ℕ). set_number (placed c.lower.new.w c.wide-place.result byte) (count_place a.number) 2 (v + a.refused)) c.count_at-v.ensures.0
-    ∙ ap (λ (w : List ℕ). raised (placed w c.wide-place.result byte) a.number a.refused) c.lower.ensures
-    ∙ ap (λ (x : ℕ). raised (placed (lowered a.w.now x) c.wide-place.result byte) a.number a.refused) c.wide-leaving.ensures.0
-    ∙ ap (λ (x : ℕ). raised (placed (lowered a.w.now (get_or a.w.now x 0)) x byte) a.number a.refused) c.wide-place.ensures.0
+    ∙ ap (λ (v : ℕ). set_number (placed c.lower.new.w c.from-place.result byte) (count_place a.number) 2 (v + a.refused)) c.count_at-v.ensures.0
+    ∙ ap (λ (w : List ℕ). raised (placed w c.from-place.result byte) a.number a.refused) c.lower.ensures
+    ∙ ap (λ (x : ℕ). raised (placed (lowered a.w.now x) c.from-place.result byte) a.number a.refused) c.from-leaving.ensures
+    ∙ ap (λ (x : ℕ). raised (placed (lowered a.w.now (get_or a.w.now x 0)) x byte) a.number a.refused) c.from-place.ensures
 
 pub shape_of-w : goal.shape_of-w
 shape_of-w c = ap length (returns c) ∙ length_entered _ _ _
