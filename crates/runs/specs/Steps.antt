@@ -8,7 +8,7 @@ use Rattle.matrix.specs.declared.Answer.TheVariants.{Accepted, Refused}
 use Rattle.matrix.specs.declared.Shape.{Shape}
 use Rattle.matrix.specs.State.{State}
 use Rattle.matrix.specs.Numbers.{command_numbers}
-use Rattle.matrix.specs.Step.{answer, refusal, next}
+use Rattle.matrix.specs.Step.{answer, next}
 use Rattle.matrix.specs.Shape.{shape_of}
 use Rattle.matrix.specs.Reading.{state_of}
 use Rattle.matrix.specs.CommandList.{commands_of}
