@@ -14,4 +14,3 @@ slice_bounds-out-end c = let s = list_stands _ _ c.in-Leaks.ensures refl in omeg
 
 pub slice_bounds-read-end : goal.slice_bounds-read-end
 slice_bounds-read-end c = let s = list_stands _ _ c.in-Leaks.ensures refl in omega (arith, s.within, length-take {A = ℕ})
-
