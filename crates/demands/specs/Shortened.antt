@@ -3,16 +3,15 @@ use Rattle.std.specs.Prelude.{ℕ, zero, suc, ◌+◌, ◌*◌, ◌/◌, ◌%◌
 use Rattle.std.proofs.Common.{arith, sym, ◌∙◌, ap}
 use Rattle.std.proofs.Math.Dec.{eqb, leb}
 use Rattle.std.proofs.Math.Seq.{get_or-take, length-take-le}
-use borrow.Author.Tests.{eqb-true, eq-eqb}
+use borrow.Author.Tests.{eqb-true}
 use Rattle.matrix.specs.declared.Fields.{Fields}
 use Rattle.matrix.specs.Bounded.{all}
 use Rattle.matrix.specs.Bytes.{number_at, set_number}
 use Rattle.matrix.specs.CommandList.{list_head, record_bytes, most_list_bytes, length_byte, command_place, commands_in, well_formed, fields_at, commands_from, commands_of}
 use Rattle.laws.specs.Tests.{and_left, and_right}
-use Rattle.laws.specs.Bounded.{all_each, each_all}
+use Rattle.laws.specs.Bounded.{all_each}
 use Rattle.codec.specs.Numbers.{number_at_agree, length_set_number, get_or_set_number_other, number_at_set_same}
-use Rattle.lists.specs.Formed.{formed}
-use Rattle.lists.specs.Forms.{length_right, lengths_right, by_count, by_lengths}
+use Rattle.lists.specs.Formed.{formed, is_formed}
 use Rattle.writing.specs.Commands.{commands_agree}
 use Rattle.demands.specs.InTurn.{first_commands}
 
@@ -87,17 +86,16 @@ module _ (l : List ℕ) (right : well_formed l ≡ true) where
         number_at_agree cut changed 1 1 4 (λ j h. cut_at (1 + j) (omega arith))
         ∙ number_at_set_same l 1 4 (record_bytes * m) (let i = inside in omega arith) (let s = small in omega arith)
 
-    each_length : lengths_right cut m ≡ true
-    unfolding lengths_right
-    each_length = each_all m (length_right cut) (λ j h. eq-eqb (get_or cut (command_place j) 0) length_byte (other_at (command_place j) (omega arith) (λ a b. omega arith) ∙ lengths j (omega arith)))
+    each_length : (j : ℕ) → j < m → get_or cut (command_place j) 0 ≡ length_byte
+    each_length j h = other_at (command_place j) (omega arith) (λ a b. omega arith) ∙ lengths j (omega arith)
 
     number_of : record_bytes * m / record_bytes ≡ m
     number_of = omega arith
 
     pub cut_formed : well_formed (first_commands m l) ≡ true
     cut_formed =
-        sym (by_count cut {count = record_bytes * m} (let e = size in omega arith) (other_at 0 (omega arith) (λ a b. omega arith) ∙ version) (sym count)
-        (by_lengths cut (record_bytes * m) (sym size) small (omega arith) (sym (rw number_of each_length))))
+        is_formed cut (record { long = (let e = size in omega arith); size = (let e = size in let n = count in omega arith); bounded = (let n = count in let s = small in omega arith); whole = (let n = count in omega arith) })
+        (other_at 0 (omega arith) (λ a b. omega arith) ∙ version) (λ j h. each_length j (let n = count in omega arith))
 
     pub cut_commands : commands_of (first_commands m l) ≡ take m (commands_of l)
     cut_commands =

@@ -6,20 +6,20 @@ use Rattle.matrix.specs.declared.Fields.{Fields}
 use Rattle.matrix.specs.CommandList.{list_head, record_bytes, most_list_bytes, command_place, well_formed, fields_at, commands_in, commands_from, commands_of}
 use Rattle.lists.specs.Forms.{fields_of}
 use Rattle.lists.specs.Formed.{formed, length_commands}
-use Rattle.lists.specs.Left.{first_commands, commands_left}
+use Rattle.lists.specs.Left.{front_commands, commands_left}
 
 pub left_none : (bytes : List ℕ) → length bytes < record_bytes → commands_left bytes ≡ []
-unfolding commands_left first_commands
+unfolding commands_left front_commands
 left_none bytes h =
     let e : length bytes / record_bytes ≡ 0 = omega arith in
-    ap (λ (m : ℕ). first_commands m bytes) e
+    ap (λ (m : ℕ). front_commands m bytes) e
 
 left_more : (bytes : List ℕ) → record_bytes ≤ length bytes → commands_left bytes ≡ fields_at bytes 0 ∷ commands_left (drop record_bytes bytes)
-unfolding commands_left first_commands
+unfolding commands_left front_commands
 left_more bytes h =
     let d : length (drop record_bytes bytes) ≡ length bytes - record_bytes = length-drop record_bytes bytes in
     let e : length bytes / record_bytes ≡ suc (length (drop record_bytes bytes) / record_bytes) = omega arith in
-    ap (λ (m : ℕ). first_commands m bytes) e
+    ap (λ (m : ℕ). front_commands m bytes) e
 
 -- the command in the first bytes, by its fields
 pub left_next : (bytes command others : List ℕ) {code i s o k : ℕ} → record_bytes ≤ length bytes → command ≡ take record_bytes bytes → others ≡ drop record_bytes bytes
@@ -36,11 +36,11 @@ left_next bytes command others {code} {i} {s} {o} {k} long e d f₁ f₂ f₃ f�
         fields_of bytes 0 (f₁ ∙ byte 1 (omega arith)) (f₂ ∙ byte 2 (omega arith)) (f₃ ∙ byte 3 (omega arith)) (f₄ ∙ byte 4 (omega arith)) (f₅ ∙ byte 5 (omega arith))
 
 -- the m commands of a list from the one numbered j on
-left_from : (l : List ℕ) (j m : ℕ) → first_commands m (drop (command_place j) l) ≡ commands_from l j m
-unfolding first_commands commands_from
+left_from : (l : List ℕ) (j m : ℕ) → front_commands m (drop (command_place j) l) ≡ commands_from l j m
+unfolding front_commands commands_from
 left_from l j zero = refl
 left_from l j (suc m) =
-    ap₂ (λ (c : Fields) (cs : List Fields). c ∷ cs) here (ap (first_commands m) next ∙ left_from l (suc j) m)
+    ap₂ (λ (c : Fields) (cs : List Fields). c ∷ cs) here (ap (front_commands m) next ∙ left_from l (suc j) m)
   where
     p : ℕ
     p = command_place j
@@ -59,7 +59,7 @@ left_all l h =
     let d : length (drop list_head l) ≡ length l - list_head = length-drop list_head l in
     let e : length (drop list_head l) / record_bytes ≡ commands_in l = omega (arith, f.size) in
     let a : take (length l - list_head) (drop list_head l) ≡ drop list_head l = take_all (length l - list_head) (drop list_head l) (omega arith) in
-    ap (λ (bytes : List ℕ). first_commands (length bytes / record_bytes) bytes) a ∙ ap (λ (m : ℕ). first_commands m (drop list_head l)) e ∙ left_from l 0 (commands_in l)
+    ap (λ (bytes : List ℕ). front_commands (length bytes / record_bytes) bytes) a ∙ ap (λ (m : ℕ). front_commands m (drop list_head l)) e ∙ left_from l 0 (commands_in l)
 
 -- so a list has few commands
 pub few_commands : (l : List ℕ) → well_formed l ≡ true → length (commands_of l) ≤ most_list_bytes / record_bytes

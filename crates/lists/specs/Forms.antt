@@ -1,5 +1,5 @@
 -- The form of a list of commands, test by test.
-use Rattle.std.specs.Prelude.{ℕ, zero, suc, ◌+◌, ◌-◌, ◌*◌, ◌/◌, ◌%◌, ◌≤◌, ◌<◌, ◌≡◌, refl, Bool, true, false, ◌&&◌, List, ◌++◌, eqb, leb, length, get_or, drop}
+use Rattle.std.specs.Prelude.{ℕ, zero, suc, ◌+◌, ◌-◌, ◌*◌, ◌/◌, ◌%◌, ◌^◌, ◌≤◌, ◌<◌, ◌≡◌, refl, Bool, true, false, ◌&&◌, List, ◌++◌, eqb, leb, length, get_or, drop}
 use Rattle.std.proofs.Common.{add-zero, zero-add, arith, sym, ◌∙◌, ap, ⊎_elim, get_or-drop, length-drop, length-append, eqb-true, leb-true}
 use Rattle.std.proofs.Math.ListN.{get_or-append}
 use Rattle.std.proofs.lemmas.List.{get_or-append-add}
@@ -8,6 +8,7 @@ use Rattle.matrix.specs.declared.Fields.{Fields}
 use Rattle.matrix.specs.Bounded.{all}
 use Rattle.matrix.specs.Bytes.{number_at}
 use Rattle.matrix.specs.CommandList.{list_head, record_bytes, most_list_bytes, length_byte, command_place, well_formed, fields_at}
+use Rattle.matrix.specs.Shaped.{Octets}
 use Rattle.laws.specs.Tests.{way, same_test, and_left}
 use Rattle.laws.specs.Bounded.{all_each, each_all, all_fails, all_same}
 
@@ -108,3 +109,9 @@ module _ (command others : List ℕ) (whole : length command ≡ record_bytes) w
 -- ---- a command from the bytes read
 pub fields_of : (l : List ℕ) (at : ℕ) {code i s o k : ℕ} → code ≡ get_or l (at + 1) 0 → i ≡ get_or l (at + 2) 0 → s ≡ get_or l (at + 3) 0 → o ≡ get_or l (at + 4) 0 → k ≡ get_or l (at + 5) 0 → ◌≡◌ {A = Fields} (record { code = code; i = i; s = s; o = o; k = k }) (fields_at l at)
 fields_of l at e f g h q = λ x. record { code = e x; i = f x; s = g x; o = h x; k = q x }
+
+-- a number of four bytes is small
+pub four_below : (l : List ℕ) (at : ℕ) → Octets l → number_at l at 4 < 256 ^ 4
+four_below l at h =
+    let e : number_at l at 4 ≡ ((get_or l at 0 * 256 + get_or l (at + 1) 0) * 256 + get_or l (at + 2) 0) * 256 + get_or l (at + 3) 0 = four_bytes l at in
+    omega (arith, h.octet at, h.octet (at + 1), h.octet (at + 2), h.octet (at + 3))

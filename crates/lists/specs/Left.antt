@@ -4,10 +4,10 @@ use Rattle.matrix.specs.declared.Fields.{Fields}
 use Rattle.matrix.specs.CommandList.{record_bytes, fields_at}
 
 -- the first m commands of bytes that begin with a command
-unfoldable pub first_commands : ℕ → List ℕ → List Fields
-first_commands zero bytes = []
-first_commands (suc m) bytes = fields_at bytes 0 ∷ first_commands m (drop record_bytes bytes)
+unfoldable pub front_commands : ℕ → List ℕ → List Fields
+front_commands zero bytes = []
+front_commands (suc m) bytes = fields_at bytes 0 ∷ front_commands m (drop record_bytes bytes)
 
 -- the commands of the bytes
 unfoldable pub commands_left : List ℕ → List Fields
-commands_left bytes = first_commands (length bytes / record_bytes) bytes
+commands_left bytes = front_commands (length bytes / record_bytes) bytes

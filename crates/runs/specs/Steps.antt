@@ -8,7 +8,7 @@ use Rattle.matrix.specs.Answers.{Accepted, Refused}
 use Rattle.matrix.specs.declared.Shape.{Shape}
 use Rattle.matrix.specs.State.{State}
 use Rattle.matrix.specs.Numbers.{command_numbers}
-use Rattle.matrix.specs.Step.{answer, refusal, next}
+use Rattle.matrix.specs.Step.{answer, next}
 use Rattle.matrix.specs.Shape.{shape_of}
 use Rattle.matrix.specs.Reading.{state_of}
 use Rattle.matrix.specs.CommandList.{commands_of}
@@ -57,7 +57,7 @@ refused_number r l {k} {x} h = ⊎_elim (λ t. absurd (never t)) (λ t. t) (way 
 
 -- the next of the commands that are left, answered
 module _ {A : Type 0} {end : ℕ → State → List Fields → A} {b₀ b b' : List ℕ} {f : Shape} {j : ℕ} {left all cs : List Fields} {c : Fields} {r : Answer} (h : Reached end b₀ b f j left all) (next_is : left ≡ c ∷ cs) (w : Answered b b' c r) where
--- the commands that are left, with this one in front
+  -- the commands that are left, with this one in front
   pub here : end j (state_of b) (c ∷ cs) ≡ end 0 (state_of b₀) all
   here = ap (end j (state_of b)) (sym next_is) ∙ h.rest
 

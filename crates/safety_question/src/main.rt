@@ -3,12 +3,12 @@
 
 #![tactic(auto)]
 
-ghost use Rattle.std.specs.Prelude.{◌≡◌, ◌<◌, true, length, take, IfOk};
+ghost use Rattle.std.specs.Prelude.{◌<◌, length, take, IfOk};
 ghost use Rattle.std.specs.Io.{ReadsAtMost};
 ghost use Rattle.std.specs.Io.KnownBytes.{Consumes, IsAtEnd};
-ghost use Rattle.matrix.specs.CommandList.{well_formed};
 
 use asking::MOST_INPUT;
+use lists::List;
 use matrix::{Fields, LIST_HEAD, MOST_SUBJECTS, RECORD_BYTES};
 use question::Safety;
 use std::io::{self, Read};
@@ -50,16 +50,9 @@ fn print_command(rt: &impl Print, c: Fields) -> io::Result<()> {
 }
 
 // The commands of a list, a line for each.
-fn print_list(rt: &impl Print, list: &[u8]) -> io::Result<()>
-    requires { well_formed list.now ≡ true }
-{
-    let mut at = 0;
-    loop {
-        let reader::Read::Command(c, after) = reader::read_one(list, at) else {
-            break;
-        };
+fn print_list(rt: &impl Print, list: List) -> io::Result<()> {
+    for c in list.commands() {
         print_command(rt, c)?;
-        at = after;
     }
     Ok(())
 }
@@ -80,7 +73,8 @@ fn main(rt: HostRuntime) -> io::Result<()> {
         Safety::Refused(number) => print_count(&rt, b"refused ", number),
         Safety::Leaks(count) => {
             print_count(&rt, b"leaks ", count)?;
-            print_list(&rt, &out[..LIST_HEAD + RECORD_BYTES * count])
+            let list = List::read(&out[..LIST_HEAD + RECORD_BYTES * count]).unwrap();
+            print_list(&rt, list)
         }
     }
 }

@@ -12,8 +12,5 @@ overflow_add-out c = let s = list_stands _ _ c.in-Leaks.ensures refl in omega (a
 pub slice_bounds-out-end : goal.slice_bounds-out-end
 slice_bounds-out-end c = let s = list_stands _ _ c.in-Leaks.ensures refl in omega (arith, s.within)
 
-pub slice_bounds-print_list-end : goal.slice_bounds-print_list-end
-slice_bounds-print_list-end c = let s = list_stands _ _ c.in-Leaks.ensures refl in omega (arith, s.within, length-take {A = ℕ})
-
-pub print_list-requires : goal.print_list-requires
-print_list-requires c = (list_stands _ _ c.in-Leaks.ensures refl).right
+pub slice_bounds-read-end : goal.slice_bounds-read-end
+slice_bounds-read-end c = let s = list_stands _ _ c.in-Leaks.ensures refl in omega (arith, s.within, length-take {A = ℕ})
