@@ -13,11 +13,7 @@ ghost use Rattle.matrix.specs.Refusals.{number_of, numbers_by};
 ghost use Rattle.window.specs.Changed.{lowered, entered};
 
 use history::{COUNTS_PLACE, NEXT_PLACE, WINDOW_BYTES, WINDOW_ENTRIES, WINDOW_NUMBERS};
-<<<<<<< HEAD
 use matrix::Refusal;
-=======
-use matrix::Numbers;
->>>>>>> 984188f3fca3bc64091341fb4acdcd64eaa376bf
 
 // A number that has a count; any other is refused by 17.
 fn named(number: u64) -> Result<usize, Refusal>
@@ -39,14 +35,7 @@ fn count_at(w: &Window, number: usize) -> u16
     requires { number < window_numbers }
     ensures { result ≡ number_at w.now (count_place number) 2 }
 {
-<<<<<<< HEAD
     octets::two(w, COUNTS_PLACE + 2 * number)
-=======
-    let at = COUNTS_PLACE + 2 * number;
-    let high = usize::from(w[at]);
-    let low = usize::from(w[at + 1]);
-    high * 256 + low
->>>>>>> 984188f3fca3bc64091341fb4acdcd64eaa376bf
 }
 
 // The count of a number becomes v.
@@ -77,13 +66,8 @@ fn enter(w: &mut Window, number: usize, refused: bool)
     requires { number < window_numbers }
     ensures { w.new ≡ entered w.old number (truth refused) }
 {
-<<<<<<< HEAD
     let place = w[NEXT_PLACE] as usize;
     let leaving = w[place];
-=======
-    let place = usize::from(w[NEXT_PLACE]);
-    let leaving = usize::from(w[place]);
->>>>>>> 984188f3fca3bc64091341fb4acdcd64eaa376bf
     lower(w, leaving);
     w[place] = u8::from(refused) * (number as u8 + 1);
     w[NEXT_PLACE] = ((place + 1) % WINDOW_ENTRIES) as u8;

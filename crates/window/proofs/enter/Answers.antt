@@ -12,7 +12,6 @@ pub returns : goal.returns
 unfolding entered placed raised
 returns c =
     let a = c.args in
-<<<<<<< HEAD
     let place = get_or a.w.now next_place 0 in
     let more = truth a.refused in
     let bit = digit a.refused in
@@ -20,14 +19,3 @@ returns c =
     c.set_count.ensures ∙ two_cut w (count_place a.number) (c.count_at-v.result + c.from-2.result)
     ∙ ap₂ (λ (v x : ℕ). set_number w (count_place a.number) 2 (v + x)) c.count_at-v.ensures (c.from-2.ensures ∙ sym bit)
     ∙ ap₂ (λ (l : List ℕ) (x : ℕ). raised (placed l place (x * (a.number + 1))) a.number more) c.lower.ensures (c.from.ensures ∙ sym bit)
-=======
-    let byte = a.refused * (a.number + 1) in
-    c.set_count.ensures
-    ∙ ap (λ (v : ℕ). set_number (placed c.lower.new.w c.from-place.result byte) (count_place a.number) 2 (v + a.refused)) c.count_at-v.ensures.0
-    ∙ ap (λ (w : List ℕ). raised (placed w c.from-place.result byte) a.number a.refused) c.lower.ensures
-    ∙ ap (λ (x : ℕ). raised (placed (lowered a.w.now x) c.from-place.result byte) a.number a.refused) c.from-leaving.ensures
-    ∙ ap (λ (x : ℕ). raised (placed (lowered a.w.now (get_or a.w.now x 0)) x byte) a.number a.refused) c.from-place.ensures
-
-pub shape_of-w : goal.shape_of-w
-shape_of-w c = ap length (returns c) ∙ length_entered _ _ _
->>>>>>> 984188f3fca3bc64091341fb4acdcd64eaa376bf
