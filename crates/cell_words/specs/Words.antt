@@ -113,7 +113,7 @@ module _ (v m : ℕ) (t : Turned v m) where
       none : (p q : ℕ) → m ≡ (p * 256 + q) * 65536 + (t.x * 256 + t.y) → q * 256 + p ≡ 0
       none p q d = omega arith
 
--- ---- stored
+  -- ---- stored
 
   -- the bytes of the upper half of the word are those of the lower half of the number
   pub two_turned : (v / 65536 % 256 ∷ v / 16777216 % 256 ∷ []) ≡ to_be_bytes w16 m

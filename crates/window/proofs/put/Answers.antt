@@ -4,7 +4,8 @@ use Rattle.std.proofs.lemmas.List.{take_all, drop_all}
 use Rattle.history.specs.Window.{window_bytes}
 use Rattle.window.specs.Changed.{entered}
 use Rattle.window.specs.Answered.{named_of}
-use Rattle.window.proofs.Answered.{refused_is, put_refused, put_other, put_taken}
+use Rattle.window.proofs.Flags.{refused_is}
+use Rattle.window.proofs.Answered.{put_refused, put_other, put_taken}
 use Rattle.window.proofs.put.Goals as goal
 
 pub returns-then-refusal-ne0 : goal.returns-then-refusal-ne0
