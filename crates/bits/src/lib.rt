@@ -45,7 +45,7 @@ pub fn put_right(b: &mut [u8], f: Shape, y: Right, w: usize, x: Name, on: bool)
     put_in_column(b, f, y, w, c, on);
 }
 
-// Every cell of column c is cleared.
+// Every cell of column c is cleared. They lie apart, so each is stored by itself.
 pub fn clear_column(b: &mut [u8], f: Shape, c: usize)
     requires { Station b.old f × (c < columns f) }
     ensures { Became b.old b.new (clear (in_column (name_of f.n c)) (state_of b.old)) }
@@ -82,6 +82,7 @@ fn own_joined(x: u8, y: u8, width: usize, k: usize) -> u8
 }
 
 // Row i gains own over all that row s owns. The rows are taken byte by byte as they lie, so that the compiler may take many at once.
+// Both are parts of one slice, in either order or the same, so that no two slices can lend them: they are read and written by index.
 pub fn inherit_own(b: &mut [u8], f: Shape, i: usize, s: usize)
     requires { Station b.old f × (i < f.n) × (s < f.n) }
     ensures { Became b.old b.new (inherit i s (state_of b.old)) }

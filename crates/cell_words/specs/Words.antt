@@ -1,12 +1,13 @@
 -- A cell's bytes as a word whose first byte is the lowest, beside the cell's number, whose first byte is the highest.
-use Rattle.std.specs.Prelude.{ℕ, ◌+◌, ◌*◌, ◌/◌, ◌%◌, ◌≤◌, ◌<◌, ◌≡◌, List, get_or, set}
+use Rattle.std.specs.Prelude.{ℕ, ◌+◌, ◌*◌, ◌/◌, ◌%◌, ◌≤◌, ◌<◌, ◌≡◌, List, [], ◌∷◌, get_or}
 use Rattle.std.proofs.Common.{mod-eq_of_lt, arith, sym, ◌∙◌, ap, ap₂, ⊎_elim}
 use Rattle.std.proofs.Math.Nat.{div-div-eq-div-mul}
 use Rattle.std.proofs.Math.Arith.{digits_div, digits_mod}
-use Rattle.matrix.specs.Bytes.{number_at, set_number}
+use Rattle.std.specs.Int.{w16, w32, to_be_bytes, to_le_bytes}
+use Rattle.matrix.specs.Bytes.{number_at}
 use Rattle.matrix.specs.Shaped.{Octets}
 use Rattle.codec.specs.ShapeRight.{TwoOrFour}
-use Rattle.codec.specs.Numbers.{two_read, two_stored, four_read, four_stored}
+use Rattle.codec.specs.Numbers.{two_read, four_read}
 
 -- a cell's bytes are two or more, and four where they are not two
 pub two_least : {w : ℕ} → TwoOrFour w → 2 ≤ w
@@ -112,19 +113,15 @@ module _ (v m : ℕ) (t : Turned v m) where
       none : (p q : ℕ) → m ≡ (p * 256 + q) * 65536 + (t.x * 256 + t.y) → q * 256 + p ≡ 0
       none p q d = omega arith
 
--- ---- stored
+  -- ---- stored
 
--- the upper half of a word stored is the lower half of the number
-pub two_turned : (l : List ℕ) (at v m : ℕ) → Turned v m → set (set l at (v / 65536 % 256)) (at + 1) (v / 16777216 % 256) ≡ set_number l at 2 m
-two_turned l at v m t = ap₂ (λ (x y : ℕ). set (set l at x) (at + 1) y) (last_two v m t).0 (last_two v m t).1 ∙ sym (two_stored l at m)
+  -- the bytes of the upper half of the word are those of the lower half of the number
+  pub two_turned : (v / 65536 % 256 ∷ v / 16777216 % 256 ∷ []) ≡ to_be_bytes w16 m
+  two_turned = ap₂ (λ (x y : ℕ). x ∷ y ∷ []) last_two.0 last_two.1
 
--- and with the lower half it is the number
-pub four_turned : (l : List ℕ) (at v m : ℕ) → Turned v m
-    → set (set (set (set l at (v % 256)) (at + 1) (v / 256 % 256)) (at + 2) (v / 65536 % 256)) (at + 3) (v / 16777216 % 256) ≡ set_number l at 4 m
-four_turned l at v m t =
-    let i : at + 3 ≡ at + 2 + 1 = omega arith in
-    ap₂ (λ (k : List ℕ) (j : ℕ). set (set k (at + 2) (v / 65536 % 256)) j (v / 16777216 % 256)) first i
-    ∙ two_turned (set_number l at 2 (m / 65536)) (at + 2) v m t ∙ sym (four_stored l at m)
-  where
-    first : set (set l at (v % 256)) (at + 1) (v / 256 % 256) ≡ set_number l at 2 (m / 65536)
-    first = ap₂ (λ (p q : ℕ). set (set l at p) (at + 1) q) (first_two v m t).0 (first_two v m t).1 ∙ sym (two_stored l at (m / 65536))
+  -- and all are those of the number
+  pub four_turned : to_le_bytes w32 v ≡ to_be_bytes w32 m
+  four_turned =
+      let high : m / 65536 / 256 ≡ m / 16777216 = div-div-eq-div-mul m 65536 256 in
+      ap₂ (λ (x y : ℕ). x ∷ y ∷ v / 65536 % 256 ∷ v / 16777216 % 256 ∷ []) (first_two.0 ∙ ap (λ (k : ℕ). k % 256) high) first_two.1
+      ∙ ap₂ (λ (x y : ℕ). m / 16777216 % 256 ∷ m / 65536 % 256 ∷ x ∷ y ∷ []) last_two.0 last_two.1

@@ -7,11 +7,28 @@ ghost use Rattle.matrix.specs.Bytes.{number_at, set_number};
 ghost use Rattle.matrix.specs.Shape.{basics_of};
 ghost use Rattle.matrix.specs.Reading.{state_of};
 ghost use Rattle.matrix.specs.Converting.{basic_from};
-ghost use Rattle.codec.specs.ShapeRight.{TwoOrFour};
+ghost use Rattle.codec.specs.ShapeRight.{ShapeRight, TwoOrFour};
 ghost use Rattle.cell_words.specs.Wanted.{Wanted};
 ghost use Rattle.cell_words.specs.Words.{Turned};
+ghost use Rattle.cell_words.specs.Places.{cells_of, place_of};
 
 use matrix::Shape;
+
+// The number of the cells.
+pub fn cells_of(f: Shape) -> usize
+    requires { ShapeRight f }
+    ensures { result ≡ cells_of f }
+{
+    f.n * cells::columns_of(f)
+}
+
+// The place of the cell numbered k, row after row; of none, the end of the last.
+pub fn place_of(f: Shape, k: usize) -> usize
+    requires { ShapeRight f × (k ≤ cells_of f) }
+    ensures { result ≡ place_of f k }
+{
+    f.first + f.width * k
+}
 
 // The cell of `width` bytes from `at` on, as a word whose first byte is the lowest, so that the compiler may read all at once. A cell of two bytes
 // is the upper half of its word.
@@ -19,11 +36,11 @@ pub fn word(b: &[u8], at: usize, width: usize) -> u32
     requires { TwoOrFour width × (at + width ≤ length b.now) }
     ensures { Turned result (number_at b.now at width) }
 {
-    let two = b[at] as u32 + b[at + 1] as u32 * 256;
     if width == 2 {
-        return two * 65536;
+        u16::from_le_bytes([b[at], b[at + 1]]) as u32 * 65536
+    } else {
+        u32::from_le_bytes([b[at], b[at + 1], b[at + 2], b[at + 3]])
     }
-    two + b[at + 2] as u32 * 65536 + b[at + 3] as u32 * 16777216
 }
 
 // The cell of `width` bytes from `at` on becomes that of the word v: where it has two bytes, the word's upper half.
@@ -31,15 +48,12 @@ pub fn put_word(out: &mut [u8], at: usize, width: usize, v: u32)
     requires { TwoOrFour width × (at + width ≤ length out.old) }
     ensures { (m : ℕ) → Turned v m → out.new ≡ set_number out.old at width m }
 {
+    let bytes = v.to_le_bytes();
     if width == 2 {
-        out[at] = (v / 65536 % 256) as u8;
-        out[at + 1] = (v / 16777216 % 256) as u8;
-        return;
+        out[at..at + 2].copy_from_slice(&bytes[2..]);
+    } else {
+        out[at..at + 4].copy_from_slice(&bytes);
     }
-    out[at] = (v % 256) as u8;
-    out[at + 1] = (v / 256 % 256) as u8;
-    out[at + 2] = (v / 65536 % 256) as u8;
-    out[at + 3] = (v / 16777216 % 256) as u8;
 }
 
 // Whether a basic right is set that shape g has no room for. A cell of four bytes has it in its first two, the lower half of its word: the words of
@@ -51,12 +65,9 @@ pub fn too_wide(b: &[u8], f: Shape, g: Shape) -> bool
     if f.width <= g.width {
         return false;
     }
-    let cells = f.n * cells::columns_of(f);
-    let mut at = f.first;
     let mut seen: u32 = 0;
-    for k in 0..cells {
-        seen = seen | word(b, at, f.width);
-        at += f.width;
+    for k in 0..cells_of(f) {
+        seen |= word(b, place_of(f, k), f.width);
     }
     seen % 65536 != 0
 }

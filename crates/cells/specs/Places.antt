@@ -1,6 +1,6 @@
 -- Where the cells of a record stand, in numbers: what the code computes is what the definitions say. That a cell has two bytes or four is known
 -- here, where they are read and stored.
-use Rattle.std.specs.Prelude.{ℕ, suc, ◌+◌, ◌-◌, ◌*◌, ◌/◌, ◌%◌, ◌^◌, ◌≤◌, ◌<◌, ◌≡◌, Bool, List, length, get_or, set}
+use Rattle.std.specs.Prelude.{ℕ, suc, ◌+◌, ◌-◌, ◌*◌, ◌%◌, ◌^◌, ◌≤◌, ◌<◌, ◌≡◌, Bool, List, length, get_or, set}
 use Rattle.std.proofs.Common.{le_trans, mul-le-mul, mul-le-mul_right, arith, sym, ◌∙◌, subst, ⊎_elim}
 use Rattle.std.proofs.Math.Path.{ap}
 use Rattle.matrix.specs.declared.Shape.{Shape}

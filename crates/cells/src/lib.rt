@@ -14,6 +14,7 @@ ghost use Rattle.cells.specs.Places.{row_bytes, bit_place};
 use matrix::Shape;
 
 // The number of columns, the bits of a cell, and the number of basic rights that they have room for.
+// These are functions and no methods, since `Shape` is declared in another crate, for the definitions.
 pub fn columns_of(f: Shape) -> usize
     requires { ShapeRight f }
     ensures { result ≡ columns f }

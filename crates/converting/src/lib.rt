@@ -22,7 +22,7 @@ fn size_of(f: Shape) -> usize
     requires { ShapeRight f }
     ensures { result ≡ size_of f }
 {
-    f.first + f.width * (f.n * cells::columns_of(f))
+    cell_words::place_of(f, cell_words::cells_of(f))
 }
 
 // The header of a record of shape g: version, L, n and p.
@@ -32,27 +32,22 @@ fn put_header(out: &mut [u8], g: Shape)
 {
     let count = size_of(g) - COUNTED_FROM;
     out[0] = g.version as u8;
-    out[1] = (count / 256 / 256 / 256 % 256) as u8;
-    out[2] = (count / 256 / 256 % 256) as u8;
-    out[3] = (count / 256 % 256) as u8;
-    out[4] = (count % 256) as u8;
+    octets::put_four(out, 1, count as u32);
     out[5] = g.n as u8;
     out[6] = g.p as u8;
 }
 
-// The record b of shape f, in shape g, fills `out`: the header, and each cell, of which the place in b and the one in `out` are kept.
+// The record b of shape f, in shape g, fills `out`: the header, and each cell.
+// The cells go by number, since no clause says what `chunks_exact_mut` leaves in a slice.
 fn write(b: &[u8], f: Shape, out: &mut [u8], g: Shape)
     requires { Fits b.now f g × (length out.old ≡ size_of g) }
     ensures { out.new ≡ bytes_of (content g (state_of b.now)) }
 {
     put_header(out, g);
-    let cells = f.n * cells::columns_of(f);
-    let mut from = f.first;
-    let mut to = g.first;
-    for k in 0..cells {
+    for k in 0..cell_words::cells_of(f) {
+        let from = cell_words::place_of(f, k);
+        let to = cell_words::place_of(g, k);
         cell_words::put_word(out, to, g.width, cell_words::word(b, from, f.width));
-        from += f.width;
-        to += g.width;
     }
 }
 
@@ -63,9 +58,9 @@ fn fill(b: &[u8], f: Shape, out: &mut [u8], g: Shape)
 {
     if f.version == g.version {
         out.copy_from_slice(b);
-        return;
+    } else {
+        write(b, f, out, g);
     }
-    write(b, f, out, g);
 }
 
 // A record that passed 1 to 5, in another version at the start of `out`, and the bytes of the new record. What is after it there stays.

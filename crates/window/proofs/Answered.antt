@@ -1,28 +1,13 @@
 -- What the calls promise, from the facts at the places where they answer.
-use Rattle.std.specs.Prelude.{ℕ, ◌<◌, ◌≡◌, refl, Bool, true, false, cond, not, List, [], ◌∷◌, ◌++◌, eqb, length}
-use Rattle.std.proofs.Common.{arith, sym, ◌∙◌, ap, subst, ⊎_elim, eqb-true}
-use Rattle.std.proofs.lemmas.Bool.{eqb-false}
-use mir.Val.{bool_byte}
-use Rattle.matrix.specs.Numbers.{truth, numbers}
-use Rattle.laws.specs.Tests.{way}
+use Rattle.std.specs.Prelude.{ℕ, ◌≡◌, refl, List, [], ◌∷◌, ◌++◌, length}
+use Rattle.std.proofs.Common.{sym, ◌∙◌, ap, subst}
+use Rattle.matrix.specs.Numbers.{numbers}
 use Rattle.history.specs.Entries.{window_refusal}
 use Rattle.history.specs.Window.{window_bytes, Shows}
 use Rattle.history.specs.Calls.{entry, Put}
-use Rattle.window.specs.Changed.{refused_one, refused_bit, entered}
+use Rattle.window.specs.Changed.{refused_one, entered}
 use Rattle.window.proofs.Shown.{entered_shows}
 use Rattle.window.specs.Answered.{named_of}
-
--- a test as 0 or 1: of an outcome, and of the byte of the entry that leaves
-pub refused_is : (outcome : ℕ) → truth (not (eqb outcome 0)) ≡ refused_one outcome
-refused_is outcome = either (eqb outcome 0)
-  where
-    either : (t : Bool) → truth (not t) ≡ cond t 0 1
-    either true = refl
-    either false = refl
-
-pub bit_of_byte : (byte : ℕ) → byte < 256 → bool_byte (not (eqb byte 0)) ≡ refused_bit byte
-bit_of_byte byte h =
-    ⊎_elim (λ t. let e : byte ≡ 0 = eqb-true byte 0 t in rw t (omega arith)) (λ t. let n : byte ≡ 0 → ⊥ = eqb-false byte 0 t in rw t (omega arith)) (way (eqb byte 0))
 
 module _ {w : List ℕ} {number m : ℕ} (outcome : ℕ) (said : m ≡ window_refusal number) where
   -- ---- one more entry

@@ -1,3 +1,4 @@
+pub mod Flags
 pub mod Bytes
 pub mod Shown
 pub mod Answered

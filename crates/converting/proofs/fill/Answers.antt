@@ -1,5 +1,5 @@
 -- `converting::fill` meets its contract: a record of the wanted version is the record itself.
-use mathlib.Core.Path.{sym, ◌∙◌}
+use Rattle.std.proofs.Common.{sym, ◌∙◌}
 use Rattle.converting.specs.Copying.{own_record, own_size}
 use Rattle.converting.proofs.fill.Goals as goal
 

@@ -4,7 +4,7 @@ use Rattle.matrix.specs.Bytes.{set_number}
 use Rattle.history.specs.Window.{count_place}
 use Rattle.window.specs.Changed.{initiator_of, refused_bit}
 use Rattle.window.proofs.Bytes.{lowered_beyond, lowered_within}
-use Rattle.window.proofs.Answered.{bit_of_byte}
+use Rattle.window.proofs.Flags.{bit_of_byte}
 use Rattle.window.proofs.lower.Goals as goal
 
 pub returns-then-byte-gt-WINDOW_NUMBERS : goal.returns-then-byte-gt-WINDOW_NUMBERS

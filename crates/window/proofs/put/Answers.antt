@@ -5,7 +5,8 @@ use Rattle.std.proofs.lemmas.Result.{err_from_is_err_and}
 use Rattle.laws.specs.Refusals.{some_number}
 use Rattle.history.specs.Window.{window_bytes}
 use Rattle.window.specs.Changed.{refused_one, entered}
-use Rattle.window.proofs.Answered.{refused_is, put_refused, put_other, put_taken}
+use Rattle.window.proofs.Flags.{refused_is}
+use Rattle.window.proofs.Answered.{put_refused, put_other, put_taken}
 use Rattle.window.proofs.put.Goals as goal
 
 pub returns-in_err-number : goal.returns-in_err-number
