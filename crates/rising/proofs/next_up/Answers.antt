@@ -2,6 +2,7 @@
 use Rattle.std.proofs.Common.{sym, ◌∙◌, subst, inl, inr}
 use Rattle.matrix.specs.Reading.{state_of}
 use Rattle.states.specs.Reads.{top_is}
+use Rattle.rising.specs.Valid.{guessed_of}
 use Rattle.rising.specs.Shut.{Next, next_none, next_owner}
 use Rattle.rising.proofs.next_up.Goals as goal
 use Rattle.rising.proofs.next_up.Goals.{then-v-eq0-via-then-v-eq0, then-v-eq0-via-else-v-eq0+then-has}
@@ -13,8 +14,11 @@ returns-then-v-eq0 c =
       | then-v-eq0-via-else-v-eq0+then-has w ↦ inr (sym w.has.ensures ∙ w.if-has.true)
     ])
 
+pub owner_of-owner-requires : goal.owner_of-owner-requires
+owner_of-owner-requires c = let r = c.args.r.now in (guessed_of r.station r.valid r.size, c.requires)
+
 pub returns : goal.returns
 returns c =
     let a = c.args in
-    subst (Next (state_of a.b.now) a.closed a.v) (sym c.then_some.ensures)
-    (next_owner (state_of a.b.now) a.closed a.v c.if-v-eq0.false c.owner_of-owner.ensures (top_is _ _ c.requires.0.station))
+    subst (Next (state_of a.r.now.b.now) a.closed a.v) (sym c.then_some.ensures)
+    (next_owner (state_of a.r.now.b.now) a.closed a.v c.if-v-eq0.false c.owner_of-owner.ensures (top_is _ _ c.args.r.now.station))

@@ -12,11 +12,11 @@ pub loop-init : goal.loop-init
 loop-init c =
     let q = c.requires in
     record {
-      below = q.1;
+      below = q.0;
       count = ap length c.new-passed.ensures;
-      rising = rising_none _ c.new-passed.ensures (omega (arith, top_is _ _ q.0.station));
-      shut = q.2;
-      seen = seen_none _ q.2;
+      rising = rising_none _ c.new-passed.ensures (omega (arith, top_is _ _ c.args.r.now.station));
+      shut = q.1;
+      seen = seen_none _ q.1;
     }
 
 pub returns-then-not-is_trusted : goal.returns-then-not-is_trusted
@@ -27,14 +27,14 @@ returns-then-not-is_trusted c =
 pub loop-preserved : goal.loop-preserved
 loop-preserved c =
     let i = c.loop.invariant in
-    let S = state_of c.args.b.now in
+    let S = state_of c.args.r.now.b.now in
     let t = sym c.is_trusted.ensures ∙ c.if-not-is_trusted.false in
     let next = subst (Next S c.loop.closed c.loop.at) c.in-Some.is c.next_up.ensures in
     record {
-      below = omega (arith, (next.up _ refl).2, top_is _ _ c.requires.0.station);
+      below = omega (arith, (next.up _ refl).2, top_is _ _ c.args.r.now.station);
       count = omega (arith, ap length c.push.ensures);
       rising =
-          subst (λ (ws : List ℕ). Rising S (trusted_by c.args.trust) c.args.w c.in-Some.owner ws (c.args.f.n - (c.loop.counter + 1))) (sym c.push.ensures)
+          subst (λ (ws : List ℕ). Rising S (trusted_by c.args.trust) c.args.w c.in-Some.owner ws (c.args.r.now.f.n - (c.loop.counter + 1))) (sym c.push.ensures)
           (rising_up i.rising (omega arith) t next (omega arith));
       shut = i.shut;
       seen = seen_up i.seen t next c.added-seen.ensures;

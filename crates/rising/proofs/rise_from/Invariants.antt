@@ -11,9 +11,9 @@ use Rattle.rising.proofs.rise_from.Given as goal
 abbrev pub invariant-loop : goal.invariant-loop
 invariant-loop l =
     record {
-      below : l.at < l.f.n;
+      below : l.at < l.r.f.n;
       count : length l.passed ≡ l.counter;
-      rising : Rising (state_of l.b) (trusted_by l.trust) l.w l.at l.passed (l.f.n - l.counter);
-      shut : ShutAll (state_of l.b) (trusted_by l.trust) l.closed;
-      seen : Seen (state_of l.b) (trusted_by l.trust) l.at l.seen;
+      rising : Rising (state_of l.r.b.now) (trusted_by l.trust) l.w l.at l.passed (l.r.f.n - l.counter);
+      shut : ShutAll (state_of l.r.b.now) (trusted_by l.trust) l.closed;
+      seen : Seen (state_of l.r.b.now) (trusted_by l.trust) l.at l.seen;
     }
