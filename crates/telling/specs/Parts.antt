@@ -37,6 +37,11 @@ pub destroys_none : (v : ℕ) → [] ≡ destroys_all v []
 unfolding destroys_all
 destroys_none v = refl
 
+pub length_destroys : (v : ℕ) (ws : List ℕ) → length (destroys_all v ws) ≡ length ws
+unfolding destroys_all
+length_destroys v [] = refl
+length_destroys v (w ∷ ws) = ap suc (length_destroys v ws)
+
 pub destroys_more : (v : ℕ) (ws : List ℕ) (k : ℕ) → k < length ws → destroys_all v (take k ws) ++ (destroys v (slice_index ws k) ∷ []) ≡ destroys_all v (take (suc k) ws)
 unfolding destroys_all
 destroys_more v [] k l = absurd (not-suc-le-zero l)
