@@ -102,11 +102,9 @@ fn made(r: &ValidRecord, trust: u64, t: Target, out: &mut [u8]) -> Safety
     requires { Asks r.now.b.now r.now.f t (way_made (state_of r.now.b.now) (trusted_by trust)) out.old }
     ensures { Told (state_of r.now.b.now) t.s t.x t.y (way_made (state_of r.now.b.now) (trusted_by trust)) out.old out.new result }
 {
-    let n = r.f.n;
-    let v = masks::lowest_untrusted(r.b, r.f, trust);
-    if n <= v {
+    let Some(v) = masks::lowest_untrusted(r.b, r.f, trust) else {
         return Safety::Safe;
-    }
+    };
     by_creation(r, v, t, out)
 }
 
@@ -118,8 +116,7 @@ fn decide(r: &ValidRecord, trust: u64, t: Target, out: &mut [u8]) -> Safety
     if !targets::is_possible(t.s, t.x, t.y) {
         return Safety::Safe;
     }
-    let i = targets::star_holder(r.b, r.f, trust, t.y, t.x);
-    if i < r.f.n {
+    if let Some(i) = targets::star_holder(r.b, r.f, trust, t.y, t.x) {
         return by_star(r, i, t, out);
     }
     if states::name_exists(r.b, r.f, t.x) {
