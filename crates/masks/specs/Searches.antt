@@ -1,7 +1,7 @@
--- A search whose first number is taken apart, and a search cut off at a lower bound.
-use Rattle.std.specs.Prelude.{ℕ, zero, suc, ◌≤◌, ◌<◌, ◌≡◌, refl, Bool, true, false, cond, ◌||◌, ltb, None}
+-- Searches and counts whose first number is taken apart, and a search cut off at a lower bound.
+use Rattle.std.specs.Prelude.{ℕ, zero, suc, ◌+◌, ◌≤◌, ◌<◌, ◌≡◌, refl, Bool, true, false, cond, ◌||◌, ltb, None}
 use Rattle.std.proofs.Common.{arith, sym, ◌∙◌, ap, ⊎_elim, ltb-true, ltb-false}
-use Rattle.matrix.specs.Bounded.{any, least}
+use Rattle.matrix.specs.Bounded.{any, count, least}
 use Rattle.laws.specs.Tests.{way, clash}
 use Rattle.laws.specs.Bounded.{least_hit, least_none, least_first, any_none, none_any, First}
 use Rattle.row_search.specs.SomeBelow.{some_below, below_some, below_none}
@@ -24,6 +24,12 @@ least_next (suc n) f h =
     inside true u k = refl
     inside false true k = refl
     inside false false k = refl
+
+-- the first number counts apart
+pub count_next : (n : ℕ) (f : ℕ → Bool) → count (suc n) f ≡ cond (f 0) 1 0 + count n (λ j. f (suc j))
+unfolding count
+count_next zero f = omega arith
+count_next (suc n) f = let e : count (suc n) f ≡ cond (f 0) 1 0 + count n (λ j. f (suc j)) = count_next n f in omega arith
 
 -- f below m and g below n pass the same numbers
 pub record Same (m n : ℕ) (f g : ℕ → Bool) : Type 0 where

@@ -5,7 +5,7 @@
 
 ghost use Rattle.std.specs.Prelude.{◌≡◌, not, ◌&&◌, ◌^◌, ◌<◌, ltb};
 ghost use Rattle.std.specs.Iterator.{at_most};
-ghost use Rattle.matrix.specs.Bounded.{least};
+ghost use Rattle.matrix.specs.Bounded.{least, count};
 ghost use Rattle.matrix.specs.Bytes.{bit};
 ghost use Rattle.matrix.specs.State.{exists};
 ghost use Rattle.matrix.specs.Reading.{state_of};
@@ -37,11 +37,18 @@ pub fn untrusted(set: u64, trust: u64) -> u64
     set & !trust
 }
 
+// The number of members of a set.
+pub fn size(set: u64) -> usize
+    ensures { result ≡ count mask_bits (λ j. bit j set) }
+{
+    u64::count_ones(set) as usize
+}
+
 // The lowest member of a set.
 pub fn lowest(set: u64) -> Option<usize>
     ensures { result ≡ some_below mask_bits (least mask_bits (λ j. bit j set)) }
 {
-    if set == 0 {
+    if size(set) == 0 {
         return None;
     }
     Some(u64::trailing_zeros(set) as usize)

@@ -140,7 +140,7 @@ pub fn owner_walk(b: &[u8], f: Shape, owners: &[u8; MOST_SUBJECTS], s: usize, o:
     ensures { result ≡ walk (state_of b.now) s (Name.Subject o) }
 {
     let mut at = s;
-    for links in 0..f.n {
+    'up: for links in 0..f.n {
         if at == o {
             return Walked::Meets(links);
         }
@@ -148,7 +148,7 @@ pub fn owner_walk(b: &[u8], f: Shape, owners: &[u8; MOST_SUBJECTS], s: usize, o:
             return Walked::Root(links);
         }
         let Some(owner) = owner_of(b, f, owners, at) else {
-            return Walked::Lost;
+            break 'up;
         };
         at = owner;
     }
