@@ -1,92 +1,81 @@
 -- The steps of the search for an owner whose way up meets an untrusted subject.
-use Rattle.std.specs.Prelude.{ℕ, ◌*◌, ◌/◌, ◌≤◌, ◌<◌, ◌≡◌, Bool, eqb, length}
-use Rattle.std.proofs.Common.{arith, sym, ◌∙◌, ap, ⊎_elim, true≢false}
-use Rattle.std.proofs.Math.Path.{refl, subst}
-use Rattle.std.proofs.Math.Bool.{true, false}
-use mathlib.Core.List.{List, []}
-use borrow.Author.Tests.{lt-ltb, le-ltb, eqb-true, eqb-false}
+use Rattle.std.specs.Prelude.{ℕ, ◌*◌, ◌/◌, ◌≤◌, ◌<◌, ◌≡◌, refl, Bool, true, false, cond, ◌&&◌, eqb, ltb, [], List, Option, Some, None, is_some}
+use Rattle.std.specs.List.{All}
+use Rattle.std.proofs.Common.{arith, sym, ◌∙◌, ap, subst, ⊎_elim, lt-ltb, le-ltb, ltb-true, eqb-true}
+use Rattle.std.proofs.lemmas.Bool.{eqb-false}
+use Rattle.std.proofs.lemmas.List.Elements.{All-nil}
 use Rattle.matrix.specs.declared.Name.{Name}
 use Rattle.matrix.specs.declared.Name.TheVariants.{Subject, Plain}
 use Rattle.matrix.specs.declared.Right.TheVariants.{Own}
 use Rattle.matrix.specs.declared.Shape.{Shape}
 use Rattle.matrix.specs.Bounded.{any, least}
+use Rattle.matrix.specs.State.{State}
 use Rattle.matrix.specs.Owners.{owner_of}
-use Rattle.matrix.specs.Shape.{most_subjects}
 use Rattle.matrix.specs.Reading.{state_of}
 use Rattle.laws.specs.Tests.{way, fails}
 use Rattle.laws.specs.Bounded.{none_any, least_hit, least_none, least_passes}
-use Rattle.cells.specs.Station.{Station}
 use Rattle.row_search.specs.Blocks.{block_has, blocks_clear}
 use Rattle.states.specs.Needs.{NameIn, Guessed}
 use Rattle.states.specs.Reads.{top_is, read_bit, owner_guessed}
 use Rattle.masks.specs.Lowest.{least_before, least_most}
+use Rattle.route.specs.Rise.{Risen, meets_at, none, rises}
 use Rattle.chain.specs.Rising.{rise_in}
-use Rattle.ways.specs.Ways.{riser, way_up, risen_over}
-use Rattle.rising.specs.declared.Climbed.{Climbed}
-use Rattle.rising.specs.declared.Climbed.TheVariants.{At, None}
-use Rattle.rising.specs.Rises.{risen_to, Rises}
-use Rattle.rising.specs.Rising.{found_none}
-use Rattle.climbing.specs.Climbs.{climbed_to, OwnerRises, Climbs, Leads}
+use Rattle.ways.specs.Ways.{riser, risen_over}
+use Rattle.rising.specs.declared.Met.{Met}
+use Rattle.rising.specs.Rises.{risen_to}
+use Rattle.rising.specs.Rising.{Within, rise_within}
+use Rattle.climbing.specs.Climbs.{owner_rise}
 
--- ---- one owner
+pub some_rises : (r : Option Met) → rises (risen_to r) ≡ is_some r
+some_rises (Some m) = refl
+some_rises None = refl
 
-abbrev is_at : Climbed → Bool
-is_at (At v m) = true
-is_at None = false
+module _ (S : State) (trusted : ℕ → Bool) (x : Name) where
+  -- an owner is one whose way up as an owner meets somebody
+  pub riser_rises : (w : ℕ) → riser S trusted x w ≡ rises (owner_rise S trusted x w)
+  riser_rises w = by (S.owns w x) (rise_in S trusted S.top w [])
+    where
+      by : (t : Bool) (r : Risen) → (t && rises r) ≡ rises (cond t r none)
+      by true r = refl
+      by false r = refl
 
-module _ {b : List ℕ} {n : ℕ} {trusted : ℕ → Bool} {x : Name} {w : ℕ} {path : List ℕ} where
-  pub owner_not : (state_of b).owns w x ≡ false → length path ≡ most_subjects → OwnerRises b n trusted x w path None
-  owner_not own e =
-      record {
-        met = λ v m q. absurd (true≢false (sym (ap is_at q)));
-        missed = λ q. rw own refl;
-        size = e;
-        found = found_none n path;
-      }
+  not_owner : (w : ℕ) → S.owns w x ≡ false → riser S trusted x w ≡ false
+  not_owner w own = rw own refl
 
-  pub owner_rises : {r : Climbed} → (state_of b).owns w x ≡ true → Rises b n trusted w path r → OwnerRises b n trusted x w path r
-  owner_rises {r} own h =
-      record {
-        met = λ v m q. (own, h.risen);
-        missed = λ q. rw (own, h.risen, q) refl;
-        size = h.size;
-        found = h.found;
-      }
-
--- a subject that doesn't own x
-not_owner : (b : List ℕ) (trusted : ℕ → Bool) (x : Name) (w : ℕ) → (state_of b).owns w x ≡ false → riser (state_of b) trusted x w ≡ false
-not_owner b trusted x w own = rw own refl
-
--- ---- all of them
-
-module _ {b : List ℕ} {f : Shape} {trusted : ℕ → Bool} {x : Name} {path : List ℕ} (h : Station b f) where
   -- the first whose way up meets an untrusted subject
-  pub climbs_met : {w v m : ℕ} {r : Climbed} → w < f.n → any w (riser (state_of b) trusted x) ≡ false → OwnerRises b f.n trusted x w path r
-      → r ≡ At v m → Climbs b f.n trusted x path r
+  pub over_first : {w : ℕ} → w < S.top → any w (riser S trusted x) ≡ false → rises (owner_rise S trusted x w) ≡ true
+      → risen_over S trusted x ≡ owner_rise S trusted x w
   unfolding risen_over
-  climbs_met {w} {v} {m} {r} l before g e =
-      let top : (state_of b).top ≡ f.n = top_is b f h in
-      let own : (state_of b).owns w x ≡ true = (g.met v m e).0 in
-      let up : rise_in (state_of b) trusted (state_of b).top w [] ≡ risen_to path r = (g.met v m e).1 in
-      let hit : riser (state_of b) trusted x w ≡ true = rw (own, up, e) refl in
-      let first : least (state_of b).top (riser (state_of b) trusted x) ≡ w = least_hit (state_of b).top (riser (state_of b) trusted x) w (omega arith) before hit in
-      record { risen = rw (first, lt-ltb w (state_of b).top (omega arith)) up; size = g.size; found = g.found }
+  over_first {w} l before h =
+      let first : least S.top (riser S trusted x) ≡ w = least_hit S.top (riser S trusted x) w l before (riser_rises w ∙ h) in
+      rw (first, lt-ltb w S.top l) (by (S.owns w x) (rise_in S trusted S.top w []) h)
+    where
+      by : (t : Bool) (r : Risen) → rises (cond t r none) ≡ true → r ≡ cond t r none
+      by true r e = refl
+      by false r e = cc
 
-  pub climbs_none : any f.n (riser (state_of b) trusted x) ≡ false → length path ≡ most_subjects → Climbs b f.n trusted x path None
+  pub over_none : any S.top (riser S trusted x) ≡ false → risen_over S trusted x ≡ none
   unfolding risen_over
-  climbs_none before e =
-      let top : (state_of b).top ≡ f.n = top_is b f h in
-      let a : any (state_of b).top (riser (state_of b) trusted x) ≡ false =
-      subst (λ (m : ℕ). any m (riser (state_of b) trusted x) ≡ false) (sym top) before in
-      let last : least (state_of b).top (riser (state_of b) trusted x) ≡ (state_of b).top = least_none (state_of b).top (riser (state_of b) trusted x) a in
-      record { risen = rw (last, le-ltb (state_of b).top (state_of b).top (omega arith)) refl; size = e; found = found_none f.n path }
+  over_none h = rw (least_none S.top (riser S trusted x) h, le-ltb S.top S.top (omega arith)) refl
+
+  -- whom the way over x meets and passes are below `top`
+  pub over_within : Within S.top (risen_over S trusted x)
+  unfolding risen_over
+  over_within = by (ltb (least S.top (riser S trusted x)) S.top) refl
+    where
+      by : (t : Bool) → ltb (least S.top (riser S trusted x)) S.top ≡ t → Within S.top (cond t (rise_in S trusted S.top (least S.top (riser S trusted x)) []) none)
+      by true e = rise_within S.top S.owns trusted S.top (least S.top (riser S trusted x)) [] (ltb-true (least S.top (riser S trusted x)) S.top e) (All-nil (λ (u : ℕ). u < S.top))
+      by false e = tt
+
+  pub met_within : {n : ℕ} {m : Met} → S.top ≡ n → risen_over S trusted x ≡ risen_to (Some m) → (m.subject < n) × All (λ (w : ℕ). w < n) m.passed
+  met_within {m = m} top e = subst (λ (n : ℕ). Within n (risen_to (Some m))) top (subst (Within S.top) e over_within)
 
 -- ---- a plain object
 
 -- nobody below the rows of the first block with an owner of o owns it
 pub unowned : {b : List ℕ} {f : Shape} {o q : ℕ} (trusted : ℕ → Bool) → NameIn b f (Plain o) → q ≡ least (f.n / 4) (block_has b o 0)
     → any (4 * q) (riser (state_of b) trusted (Plain o)) ≡ false
-unowned {b} {f} {o} {q} trusted h e = none_any (4 * q) (riser (state_of b) trusted (Plain o)) (λ j l. not_owner b trusted (Plain o) j (each j l))
+unowned {b} {f} {o} {q} trusted h e = none_any (4 * q) (riser (state_of b) trusted (Plain o)) (λ j l. not_owner (state_of b) trusted (Plain o) j (each j l))
   where
     clear : any q (block_has b o 0) ≡ false
     clear = subst (λ (m : ℕ). any m (block_has b o 0) ≡ false) (sym e) (least_before (f.n / 4) (block_has b o 0))
@@ -98,43 +87,41 @@ unowned {b} {f} {o} {q} trusted h e = none_any (4 * q) (riser (state_of b) trust
 
 -- ---- a subject, which has one owner in a valid record
 
-module _ {b owners : List ℕ} {f : Shape} (h : Guessed b f owners) (v : ℕ) {w : ℕ} (e : w ≡ owner_of (state_of b).top (state_of b).owns v) where
-  others_not : (trusted : ℕ → Bool) (j : ℕ) → (j ≡ w → ⊥) → riser (state_of b) trusted (Subject v) j ≡ false
-  others_not trusted j ne = not_owner b trusted (Subject v) j (fails ((state_of b).owns j (Subject v)) (λ o. ne (owner_guessed v h refl o ∙ sym e)))
+module _ {b owners : List ℕ} {f : Shape} (h : Guessed b f owners) (v : ℕ) {w : ℕ} (e : w ≡ owner_of (state_of b).top (state_of b).owns v) (trusted : ℕ → Bool) where
+  abbrev S : State
+  S = state_of b
 
-  pub subject_lost : (trusted : ℕ → Bool) {path : List ℕ} → f.n ≤ w → length path ≡ most_subjects → Climbs b f.n trusted (Subject v) path None
-  subject_lost trusted l size = climbs_none h.station (none_any f.n (riser (state_of b) trusted (Subject v)) (λ j k. others_not trusted j (λ q. omega arith))) size
+  others_not : (j : ℕ) → (j ≡ w → ⊥) → riser S trusted (Subject v) j ≡ false
+  others_not j ne = not_owner S trusted (Subject v) j (fails (S.owns j (Subject v)) (λ o. ne (owner_guessed v h refl o ∙ sym e)))
 
-  pub subject_rises : {trusted : ℕ → Bool} {path : List ℕ} → w < f.n → (r : Climbed) → Rises b f.n trusted w path r → Climbs b f.n trusted (Subject v) path r
-  subject_rises {trusted} {path} l r g = each r (owner_rises own g)
+  pub subject_lost : f.n ≤ w → risen_over S trusted (Subject v) ≡ none
+  subject_lost l =
+      let top : S.top ≡ f.n = top_is b f h.station in
+      over_none S trusted (Subject v) (none_any S.top (riser S trusted (Subject v)) (λ j k. others_not j (λ q. omega arith)))
+
+  pub subject_rises : w < f.n → risen_over S trusted (Subject v) ≡ rise_in S trusted S.top w []
+  subject_rises l = by (rises (rise_in S trusted S.top w [])) refl
     where
-      own : (state_of b).owns w (Subject v) ≡ true
+      top : S.top ≡ f.n
+      top = top_is b f h.station
+
+      own : S.owns w (Subject v) ≡ true
       own =
-          let top : (state_of b).top ≡ f.n = top_is b f h.station in
-          subst (λ (i : ℕ). (state_of b).owns i (Subject v) ≡ true) (sym e)
-          (least_passes (state_of b).top (λ i. (state_of b).owns i (Subject v)) (omega arith))
+          subst (λ (i : ℕ). S.owns i (Subject v) ≡ true) (sym e) (least_passes S.top (λ i. S.owns i (Subject v)) (omega (arith, top, e, l)))
 
-      each : (r : Climbed) → OwnerRises b f.n trusted (Subject v) w path r → Climbs b f.n trusted (Subject v) path r
-      each (At u m) k = climbs_met h.station l (none_any w (riser (state_of b) trusted (Subject v)) (λ j i. others_not trusted j (λ q. omega arith))) k refl
-      each None k = climbs_none h.station (none_any f.n (riser (state_of b) trusted (Subject v)) (λ j i. ⊎_elim
-          (λ (t : eqb j w ≡ true). subst (λ (i : ℕ). riser (state_of b) trusted (Subject v) i ≡ false) (sym (eqb-true j w t)) (k.missed refl))
-          (λ (t : eqb j w ≡ false). others_not trusted j (eqb-false j w t)) (way (eqb j w)))) k.size
+      same : owner_rise S trusted (Subject v) w ≡ rise_in S trusted S.top w []
+      same = rw own refl
 
--- ---- a name whose kind is known
+      none_rises : (r : Risen) → rises r ≡ false → none ≡ r
+      none_rises none q = refl
+      none_rises (meets_at u ws) q = cc
 
-pub named_as : {b : List ℕ} {f : Shape} {x x₁ : Name} → NameIn b f x → x ≡ x₁ → NameIn b f x₁
-named_as {b} {f} h e = subst (NameIn b f) e h
-
-pub leads_over : {b : List ℕ} {n : ℕ} {trusted : ℕ → Bool} {x x₁ : Name} {path : List ℕ} {r : Climbed} → x ≡ x₁ → Leads b n trusted x₁ path r
-    → Leads b n trusted x path r
-leads_over {b} {n} {trusted} {path = path} {r = r} e h = subst (λ (x : Name). Leads b n trusted x path r) (sym e) h
-
--- over a subject all that were passed are needed
-pub leads_subject : {b : List ℕ} {n : ℕ} {trusted : ℕ → Bool} {path : List ℕ} (v : ℕ) (r : Climbed) → Climbs b n trusted (Subject v) path r
-    → Leads b n trusted (Subject v) path r
-leads_subject {b} {n} {trusted} {path} v r h =
-    record { way = ap (way_up (state_of b) (Subject v)) h.risen ∙ all r; size = h.size; found = h.found }
-  where
-    all : (r : Climbed) → way_up (state_of b) (Subject v) (risen_to path r) ≡ climbed_to path r
-    all (At w m) = refl
-    all None = refl
+      by : (t : Bool) → rises (rise_in S trusted S.top w []) ≡ t → risen_over S trusted (Subject v) ≡ rise_in S trusted S.top w []
+      by true q =
+          over_first S trusted (Subject v) (omega (arith, top, l)) (none_any w (riser S trusted (Subject v)) (λ j i. others_not j (λ q. omega arith))) (ap rises same ∙ q)
+          ∙ same
+      by false q =
+          over_none S trusted (Subject v) (none_any S.top (riser S trusted (Subject v)) (λ j i. ⊎_elim
+          (λ (t : eqb j w ≡ true). subst (λ (i : ℕ). riser S trusted (Subject v) i ≡ false) (sym (eqb-true j w t)) (riser_rises S trusted (Subject v) w ∙ ap rises same ∙ q))
+          (λ (t : eqb j w ≡ false). others_not j (eqb-false j w t)) (way (eqb j w))))
+          ∙ none_rises (rise_in S trusted S.top w []) q

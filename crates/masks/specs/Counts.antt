@@ -1,11 +1,15 @@
 -- Trailing zeros find the lowest bit that is set, and ones count those that are.
-use Rattle.std.specs.Prelude.{ℕ, zero, suc, ◌+◌, ◌/◌, ◌%◌, ◌^◌, ◌<◌, ◌≡◌, refl, Bool, false, cond, eqb}
+use Rattle.std.specs.Prelude.{ℕ, zero, suc, ◌+◌, ◌/◌, ◌%◌, ◌^◌, ◌<◌, ◌≡◌, refl, Some, None, Bool, false, cond, eqb}
 use Rattle.std.proofs.Common.{mod-lt, add-one, arith, sym, ◌∙◌, ap, ap₂, shr_lt}
 use Rattle.std.proofs.Math.Arith.{lt-one}
 use Rattle.std.specs.Int.Count.{count_trailing_zeros, under, ones, ones_step}
 use Rattle.matrix.specs.Bounded.{any, count, least}
 use Rattle.matrix.specs.Bytes.{bit}
-use Rattle.laws.specs.Bounded.{least_same, count_same, least_hit}
+use Rattle.laws.specs.Tests.{fails, holds}
+use Rattle.laws.specs.Bounded.{least_same, count_same, least_hit, least_none, least_first}
+use Rattle.laws.specs.Counting.{some_count, count_none}
+use Rattle.row_search.specs.SomeBelow.{some_below, below_some, below_none}
+use Rattle.masks.specs.Marks.{mask_bits}
 use Rattle.masks.specs.Digits.{bit_half}
 use Rattle.masks.specs.Searches.{least_next, count_next}
 
@@ -46,3 +50,17 @@ ones_count (suc k) v h =
     digit zero e h = rw (bit_lowest v 0 e) refl
     digit (suc zero) e h = rw (bit_lowest v 1 e) refl
     digit (suc (suc d)) e h = absurd (omega arith)
+
+-- the lowest member of a set of k members, which has none where k is 0
+module _ (v : ℕ) {k : ℕ} (size : k ≡ count mask_bits (λ j. bit j v)) where
+  pub lowest_none : k ≡ 0 → None ≡ some_below mask_bits (least mask_bits (λ j. bit j v))
+  lowest_none z =
+      let none_set : any mask_bits (λ j. bit j v) ≡ false =
+      fails (any mask_bits (λ j. bit j v)) (λ a. let q = some_count mask_bits (λ j. bit j v) a in omega arith) in
+      let e : least mask_bits (λ j. bit j v) ≡ mask_bits = least_none mask_bits (λ j. bit j v) none_set in
+      below_none (omega arith)
+
+  pub lowest_some : (k ≡ 0 → ⊥) → Some (count_trailing_zeros mask_bits v) ≡ some_below mask_bits (least mask_bits (λ j. bit j v))
+  lowest_some ne =
+      ap Some (trailing_least mask_bits v)
+      ∙ below_some (least_first mask_bits (λ j. bit j v) (holds (any mask_bits (λ j. bit j v)) (λ a. ne (size ∙ count_none mask_bits (λ j. bit j v) a)))).below

@@ -6,3 +6,4 @@ pub mod Counts
 pub mod Existing
 pub mod Untrusted
 pub mod Adding
+pub mod Stepping

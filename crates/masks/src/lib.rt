@@ -1,27 +1,30 @@
-// Sets of subjects as 64-bit masks: the existing subjects of a record, and those that a trust mask leaves out.
+// Sets of subjects as 64-bit masks: the existing subjects of a record, and those that a trust mask leaves out. A set stays a plain number: it is
+// one in the C interface, and the definitions speak of its bits.
 
 #![tactic(auto)]
 
 ghost use Rattle.std.specs.Prelude.{◌≡◌, not, ◌&&◌, ◌^◌, ◌<◌, ltb};
+ghost use Rattle.std.specs.Iterator.{at_most};
 ghost use Rattle.matrix.specs.Bounded.{least, count};
 ghost use Rattle.matrix.specs.Bytes.{bit};
 ghost use Rattle.matrix.specs.State.{exists};
 ghost use Rattle.matrix.specs.Reading.{state_of};
 ghost use Rattle.cells.specs.Station.{Station};
-ghost use Rattle.masks.specs.Marks.{mask_bits, MarksOf, LeftOut, Added};
+ghost use Rattle.row_search.specs.SomeBelow.{some_below};
+ghost use Rattle.masks.specs.Marks.{mask_bits, MarksOf, LeftOut, Added, Outside};
+ghost use Rattle.masks.specs.Stepping.{GivesLowest};
 
 use matrix::Shape;
 
-// The existing subjects of a record. No bit is set before its subject is reached, so adding it sets it.
+// The existing subjects of a record.
 pub fn existing(b: &[u8], f: Shape) -> u64
     requires { Station b.now f }
     ensures { MarksOf b.now f.n result }
 {
-    let n = f.n;
-    let mut m: u64 = 0;
-    for s in 0..n {
+    let mut m = 0;
+    for s in 0..f.n {
         if states::subject_exists(b, f, s) {
-            m += 1 << s;
+            m = added(m, s);
         }
     }
     m
@@ -34,20 +37,6 @@ pub fn untrusted(set: u64, trust: u64) -> u64
     set & !trust
 }
 
-// The lowest member of a set, or the number of bits if it has none.
-pub fn lowest(set: u64) -> usize
-    ensures { result ≡ least mask_bits (λ j. bit j set) }
-{
-    u64::trailing_zeros(set) as usize
-}
-
-// The lowest subject that is not a member of a set, or the number of bits if all are.
-pub fn lowest_outside(set: u64) -> usize
-    ensures { result ≡ least mask_bits (λ j. not (bit j set)) }
-{
-    lowest(!set)
-}
-
 // The number of members of a set.
 pub fn size(set: u64) -> usize
     ensures { result ≡ count mask_bits (λ j. bit j set) }
@@ -55,17 +44,23 @@ pub fn size(set: u64) -> usize
     u64::count_ones(set) as usize
 }
 
-// The lowest untrusted existing subject, or n if there is none.
-pub fn lowest_untrusted(b: &[u8], f: Shape, trust: u64) -> usize
+// The lowest member of a set.
+pub fn lowest(set: u64) -> Option<usize>
+    ensures { result ≡ some_below mask_bits (least mask_bits (λ j. bit j set)) }
+{
+    if size(set) == 0 {
+        return None;
+    }
+    Some(u64::trailing_zeros(set) as usize)
+}
+
+// The lowest untrusted existing subject.
+pub fn lowest_untrusted(b: &[u8], f: Shape, trust: u64) -> Option<usize>
     requires { Station b.now f }
-    ensures { result ≡ least f.n (λ v. exists (state_of b.now) v && not (bit v trust)) }
+    ensures { result ≡ some_below f.n (least f.n (λ v. exists (state_of b.now) v && not (bit v trust))) }
 {
     let all = existing(b, f);
-    let left = untrusted(all, trust);
-    if size(left) == 0 {
-        return f.n;
-    }
-    lowest(left)
+    lowest(untrusted(all, trust))
 }
 
 // Whether a trust mask has no bit at n or above. No record has as many subjects as a mask has bits.
@@ -92,10 +87,33 @@ pub fn added(set: u64, s: usize) -> u64
     set | (1 << s)
 }
 
-// Whether subject s is trusted.
-pub fn is_trusted(trust: u64, s: usize) -> bool
-    requires { s < mask_bits }
-    ensures { result ≡ bit s trust }
+// The members of a set, lowest first: those that are still to come.
+#[derive(Drop)]
+pub struct Members {
+    pub left: u64,
+}
+
+impl Iterator for Members {
+    type Item = usize;
+
+    ghost next_gives = { GivesLowest };
+
+    ghost remaining = { λ s. at_most s.left };
+
+    fn next(&mut self) -> Option<usize> {
+        let v = lowest(self.left)?;
+        self.left &= !(1 << v);
+        Some(v)
+    }
+}
+
+// The subjects below a bound that are not members of a set, lowest first.
+pub fn outside(set: u64, bound: usize) -> Members
+    requires { bound < mask_bits }
+    ensures { Outside set bound result.left }
 {
-    has(trust, s)
+    let all = (1 << bound) - 1;
+    Members {
+        left: untrusted(all, set),
+    }
 }

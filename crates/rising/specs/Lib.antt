@@ -1,3 +1,4 @@
 pub mod Rises
 pub mod Shut
 pub mod Rising
+pub mod Valid

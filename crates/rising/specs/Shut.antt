@@ -1,6 +1,6 @@
 -- Subjects from which the way up meets no untrusted one, however many subjects it may visit; sets of them; and the way up that goes no
 -- further where it comes to one. A way up may also end because it may visit no more subjects, as on a cycle of owners: that shuts nothing.
-use Rattle.std.specs.Prelude.{ℕ, zero, suc, ◌≤◌, ◌<◌, ◌≡◌, refl, Bool, true, List, ◌∷◌}
+use Rattle.std.specs.Prelude.{ℕ, zero, suc, ◌≤◌, ◌<◌, ◌≡◌, refl, ◌⊎◌, Bool, true, List, ◌∷◌, Option, Some, None}
 use Rattle.std.proofs.Common.{arith, sym, ◌∙◌, subst, ⊎_elim, eqb-true, eq-eqb, ne_eqb, lt-ltb, le-ltb}
 use Rattle.matrix.specs.Bytes.{bit}
 use Rattle.matrix.specs.Names.{U}
@@ -8,6 +8,7 @@ use Rattle.matrix.specs.State.{State}
 use Rattle.matrix.specs.Owners.{owner_of}
 use Rattle.laws.specs.Tests.{clash, or_cases}
 use Rattle.codec.specs.Bits.{bit_zero}
+use Rattle.row_search.specs.SomeBelow.{some_below, some_was, none_was}
 use Rattle.masks.specs.Marks.{Added}
 use Rattle.route.specs.Rise.{none, rise}
 use Rattle.chain.specs.Rising.{rise_in, rise_root, rise_up, rise_lost}
@@ -50,24 +51,23 @@ module _ (S : State) {trusted : ℕ → Bool} {v : ℕ} (t : trusted v ≡ true)
 
 -- ---- one step up
 
--- Where the way up from subject v goes on to r, that is its owner. Where r is no subject, the way ends at v: then v is shut if it is trusted
--- and the members of `closed` are shut.
-pub record Next (S : State) (closed v r : ℕ) : Type 0 where
-  pub below : r < S.top → v ≡ U → ⊥
-  pub up : r < S.top → r ≡ owner_of S.top S.owns v
-  pub ends : S.top ≤ r → (trusted : ℕ → Bool) → trusted v ≡ true → ShutAll S trusted closed → Shut S trusted v
+-- Where the way up from subject v goes on, it is to the owner of v. Where it ends at v, v is shut if it is trusted and the members of `closed`
+-- are shut.
+pub record Next (S : State) (closed v : ℕ) (r : Option ℕ) : Type 0 where
+  pub up : (u : ℕ) → r ≡ Some u → (v ≡ U → ⊥) × (u ≡ owner_of S.top S.owns v) × (u < S.top)
+  pub ends : r ≡ None → (trusted : ℕ → Bool) → trusted v ≡ true → ShutAll S trusted closed → Shut S trusted v
 
--- r is no subject: v is U, or is known to be shut
-module _ (S : State) (closed v : ℕ) {r : ℕ} (l : S.top ≤ r) where
-  pub next_root : v ≡ U → Next S closed v r
-  next_root u = record { below = λ k. absurd (omega arith); up = λ k. absurd (omega arith); ends = λ g trusted t h. shut_root S t u }
-
-  pub next_closed : bit v closed ≡ true → Next S closed v r
-  next_closed c = record { below = λ k. absurd (omega arith); up = λ k. absurd (omega arith); ends = λ g trusted t h. h.each v c }
+-- v is U, or is known to be shut
+pub next_none : (S : State) (closed v : ℕ) → (v ≡ U) ⊎ (bit v closed ≡ true) → Next S closed v None
+next_none S closed v h = record { up = λ u e. cc; ends = λ e trusted t k. ⊎_elim (λ u. shut_root S t u) (λ c. k.each v c) h }
 
 -- r is what the search for the owner of v found
-pub next_owner : (S : State) (closed v : ℕ) {r : ℕ} → (v ≡ U → ⊥) → r ≡ owner_of S.top S.owns v → Next S closed v r
-next_owner S closed v u e = record { below = λ k. u; up = λ k. e; ends = λ g trusted t h. shut_lost S t u (subst (λ (r : ℕ). S.top ≤ r) e g) }
+pub next_owner : (S : State) (closed v : ℕ) {r : Option ℕ} {n : ℕ} → (v ≡ U → ⊥) → r ≡ some_below n (owner_of S.top S.owns v) → S.top ≡ n → Next S closed v r
+next_owner S closed v root e top =
+    record {
+      up = λ u h. let w = some_was (sym h ∙ e) in (root, w.1, omega (arith, top, w.0));
+      ends = λ h trusted t k. shut_lost S t root (omega (arith, top, none_was (sym h ∙ e)));
+    }
 
 -- ---- the subjects passed
 
@@ -79,13 +79,14 @@ pub seen_none : {S : State} {trusted : ℕ → Bool} (at : ℕ) {closed : ℕ} �
 seen_none at h = record { shuts = λ s. h }
 
 -- the way up goes on to r
-pub seen_up : {S : State} {trusted : ℕ → Bool} {closed at seen r more : ℕ} → Seen S trusted at seen → trusted at ≡ true → Next S closed at r → r < S.top
+pub seen_up : {S : State} {trusted : ℕ → Bool} {closed at seen r more : ℕ} → Seen S trusted at seen → trusted at ≡ true → Next S closed at (Some r)
     → Added seen at more → Seen S trusted r more
-seen_up {S} {trusted} {at = at} {r = r} h t next l g =
+seen_up {S} {trusted} {at = at} {r = r} h t next g =
     record {
       shuts =
-          λ s. let e : r ≡ owner_of S.top S.owns at = next.up l in
-          let k : Shut S trusted at = shut_up S t (next.below l) (omega arith) (subst (Shut S trusted) e s) in
+          λ s. let q = next.up r refl in
+          let e : r ≡ owner_of S.top S.owns at = q.1 in
+          let k : Shut S trusted at = shut_up S t q.0 (omega (arith, q.2)) (subst (Shut S trusted) e s) in
           record {
             each =
                 λ v m. ⊎_elim (λ b. (h.shuts k).each v b) (λ q. subst (Shut S trusted) (sym (eqb-true v at q)) k)

@@ -1,2 +1,3 @@
+pub mod SomeBelow
 pub mod Rows
 pub mod Blocks

@@ -1,47 +1,42 @@
 // The searches over the rows of a column: the lowest row with a bit, whether any row but one has it, and the lowest block of four rows of which
-// one has it. Each reads the lowest bytes of the column's cells alone.
+// one has it. Each reads a single byte of a row's cell.
 
 #![tactic(auto)]
 
-ghost use Rattle.std.specs.Prelude.{◌≡◌, cond, ◌+◌, ◌*◌, ◌/◌, ◌<◌, eqb, length, get_or};
+ghost use Rattle.std.specs.Prelude.{◌≡◌, cond, ◌+◌, ◌*◌, ◌/◌, ◌<◌, eqb, get_or};
 ghost use Rattle.matrix.specs.Bounded.{any, least};
 ghost use Rattle.matrix.specs.Bytes.{bit};
-ghost use Rattle.matrix.specs.Shape.{columns};
-ghost use Rattle.codec.specs.ShapeRight.{ShapeRight};
-ghost use Rattle.cells.specs.Station.{Station};
+ghost use Rattle.matrix.specs.Shape.{columns, bits_of};
+ghost use Rattle.matrix.specs.Reading.{cell_at};
+ghost use Rattle.cells.specs.Station.{Station, Cell};
 ghost use Rattle.cells.specs.Places.{low_place};
+ghost use Rattle.row_search.specs.SomeBelow.{some_below};
 ghost use Rattle.row_search.specs.Rows.{row_has};
 ghost use Rattle.row_search.specs.Blocks.{block_has};
 
 use matrix::Shape;
 
-// The place of the lowest byte of the first row's cell in column c.
-fn low_place(f: Shape, c: usize) -> usize
-    requires { ShapeRight f × (c < columns f) }
-    ensures { result ≡ low_place f 0 c }
+// The lowest row that has bit j in column c.
+pub fn first_row(b: &[u8], f: Shape, c: usize, j: usize) -> Option<usize>
+    requires { Station b.now f × (c < columns f) × (j < bits_of f) }
+    ensures { result ≡ some_below f.n (least f.n (λ r. bit j (cell_at b.now r c))) }
 {
-    cells::place(f, 0, c) + (f.width - 1)
+    (0..f.n).find(
+        |&r|
+            requires { Cell b.now f r c × (j < bits_of f) }
+        { cells::has(b, f, r, c, j) },
+    )
 }
 
-// The lowest row that has bit j in column c, or n if there is none. Bits 0 to 7 stand in a cell's lowest byte, so that alone is read; `at` is
-// its place in row r.
-pub fn first_row(b: &[u8], f: Shape, c: usize, j: usize) -> usize
-    requires { Station b.now f × (c < columns f) × (j < 8) }
-    ensures { result ≡ least f.n (row_has b.now c j f.n) }
+// The lowest byte of the cell of row r and column c, which is its last. Bits 0 to 7 stand in it.
+fn low_byte(b: &[u8], f: Shape, r: usize, c: usize) -> usize
+    requires { Cell b.now f r c }
+    ensures { result ≡ get_or b.now (low_place f r c) 0 }
 {
-    let n = f.n;
-    let stride = cells::row_bytes(f);
-    let mut at = low_place(f, c);
-    for r in 0..n {
-        if cells::bit_of(b[at] as usize, j) {
-            return r;
-        }
-        at += stride;
-    }
-    n
+    b[cells::place(f, r, c) + (f.width - 1)] as usize
 }
 
-// The byte v of row r in a search that leaves row `skip` out.
+// The byte v of row r in a search that leaves row `skip` out: a choice between two numbers, and no branch round the read.
 fn unless_skipped(v: usize, r: usize, skip: usize) -> usize
     ensures { result ≡ cond (eqb r skip) 0 v }
 {
@@ -53,40 +48,35 @@ pub fn some_row(b: &[u8], f: Shape, c: usize, j: usize, skip: usize) -> bool
     requires { Station b.now f × (c < columns f) × (j < 8) }
     ensures { result ≡ any f.n (row_has b.now c j skip) }
 {
-    let n = f.n;
-    let stride = cells::row_bytes(f);
-    let mut low = low_place(f, c);
     let mut seen = 0;
-    for r in 0..n {
-        seen = seen | unless_skipped(b[low] as usize, r, skip);
-        low += stride;
+    for r in 0..f.n {
+        seen |= unless_skipped(low_byte(b, f, r, c), r, skip);
     }
     cells::bit_of(seen, j)
 }
 
-// Whether one of four bytes has bit j: the first is at `at`, each further one `stride` after it.
-fn one_of_four(b: &[u8], at: usize, stride: usize, j: usize) -> bool
-    requires { (at + 3 * stride < length b.now) × (j < 8) }
-    ensures { result ≡ any 4 (λ i. bit j (get_or b.now (at + i * stride) 0)) }
+// Whether one of the four rows of block q, 4 q to 4 q + 3, has bit j in column c: their lowest bytes are joined, and tested once.
+fn one_of_four(b: &[u8], f: Shape, c: usize, j: usize, q: usize) -> bool
+    requires { Station b.now f × (c < columns f) × (j < 8) × (4 * q + 3 < f.n) }
+    ensures { result ≡ block_has b.now c j q }
 {
-    let all = b[at] | b[at + stride] | b[at + 2 * stride] | b[at + 3 * stride];
-    cells::bit_of(all as usize, j)
+    let r = 4 * q;
+    let two = low_byte(b, f, r, c) | low_byte(b, f, r + 1, c);
+    let all = two | low_byte(b, f, r + 2, c) | low_byte(b, f, r + 3, c);
+    cells::bit_of(all, j)
 }
 
-// The lowest block of four rows of which one has bit j, of 0 to 7, in column c, or the number of whole blocks if there is none. The rows of
-// block q are 4 q to 4 q + 3; their lowest bytes are tested together, the first of them at `low`.
+// The lowest block of four rows of which one has bit j, of 0 to 7, in column c. Where none has, it is the number of whole blocks, since a search
+// row by row goes on after them.
 pub fn first_block(b: &[u8], f: Shape, c: usize, j: usize) -> usize
     requires { Station b.now f × (c < columns f) × (j < 8) }
     ensures { result ≡ least (f.n / 4) (block_has b.now c j) }
 {
-    let stride = cells::row_bytes(f);
     let blocks = f.n / 4;
-    let mut low = low_place(f, c);
-    for q in 0..blocks {
-        if one_of_four(b, low, stride, j) {
-            return q;
-        }
-        low += 4 * stride;
-    }
-    blocks
+    let found = (0..blocks).find(
+        |&q|
+            requires { Station b.now f × (c < columns f) × (j < 8) × (4 * q + 3 < f.n) }
+        { one_of_four(b, f, c, j, q) },
+    );
+    found.unwrap_or(blocks)
 }

@@ -11,22 +11,21 @@ use Rattle.matrix.specs.declared.Fields.{Fields}
 use Rattle.matrix.specs.declared.Shape.{Shape}
 use Rattle.matrix.specs.Bounded.{least}
 use Rattle.matrix.specs.State.{State, held, exists_name}
-use Rattle.matrix.specs.Reading.{state_of}
 use Rattle.question.specs.Safety.{Safety}
 use Rattle.question.specs.Safety.{Leaks}
 use Rattle.safe.specs.Possible.{possible}
-use Rattle.ways.specs.Ways.{Way, held_now, by_star, by_creation, from_above, no_way, star_holder, untrusted_in, way_over, way_made, way_of}
+use Rattle.ways.specs.Ways.{Way, held_now, by_star, by_creation, from_above, no_way, star_holder, untrusted_in, risen_over, way_up, way_over, way_made, way_of}
 use Rattle.writing.specs.Put.{put_all, put_head, put_list}
-use Rattle.rising.specs.declared.Climbed.{Climbed}
-use Rattle.rising.specs.declared.Climbed.TheVariants.{At}
-use Rattle.climbing.specs.Climbs.{Leads, climbed_to}
-use Rattle.ways.specs.Path.{listed}
+use Rattle.route.specs.Rise.{Risen, meets_at, none}
+use Rattle.rising.specs.Rising.{Within}
+use Rattle.climbing.specs.Over.{over_within}
+use Rattle.telling.specs.declared.target.Target.{Target}
 use Rattle.told.specs.Told.{Told}
-use Rattle.safety.specs.Asks.{Asks, Headed, PathOf}
+use Rattle.safety.specs.Asks.{Asks, Headed}
 
 -- the same question with another name for its way
-pub asks_at : {b : List ℕ} {f : Shape} {s : ℕ} {x : Name} {y : Right} {v w : Way} {out : List ℕ} → v ≡ w → Asks b f s x y v out → Asks b f s x y w out
-asks_at {b} {f} {s} {x} {y} {out = out} e h = subst (λ (w : Way). Asks b f s x y w out) e h
+pub asks_at : {b : List ℕ} {f : Shape} {t : Target} {v w : Way} {out : List ℕ} → v ≡ w → Asks b f t v out → Asks b f t w out
+asks_at {b} {f} {t} {out = out} e h = subst (λ (w : Way). Asks b f t w out) e h
 
 pub told_at : {S : State} {s : ℕ} {x : Name} {y : Right} {v w : Way} {out out' : List ℕ} {r : Safety} → v ≡ w → Told S s x y w out out' r → Told S s x y v out out' r
 told_at {S} {s} {x} {y} {out = out} {out' = out'} {r = r} e h = subst (λ (w : Way). Told S s x y w out out' r) (sym e) h
@@ -96,13 +95,10 @@ headed_list out cs e f h =
     let k = f ∙ zero-add (length cs) in
     (h.buffer ∙ ap₂ (λ (l : List ℕ) (m : ℕ). put_head l m) e k, h.reply ∙ ap Leaks k)
 
--- the way over an existing name, from the search for a way up
-module _ {b : List ℕ} {n : ℕ} {trusted : ℕ → Bool} {x : Name} {path : List ℕ} {r : Climbed} (h : Leads b n trusted x path r) where
-  pub over_met : {v m : ℕ} → r ≡ At v m → way_over (state_of b) trusted x ≡ from_above v (listed path m)
-  over_met e = h.way ∙ ap (λ (r : Climbed). climbed_to path r) e
-
-  pub over_none : r ≡ Climbed.None → way_over (state_of b) trusted x ≡ no_way
-  over_none e = h.way ∙ ap (λ (r : Climbed). climbed_to path r) e
-
-  pub climbed_path : {v m : ℕ} → r ≡ At v m → PathOf path n v m
-  climbed_path {v} {m} e = record { size = h.size; subject = h.found.subject v m e; passed = h.found.passed v m e }
+-- who is met on the way over an existing name is a subject of the record
+pub above_below : (S : State) (trusted : ℕ → Bool) (x : Name) {v n : ℕ} {ws : List ℕ} → S.top ≡ n → way_over S trusted x ≡ from_above v ws → v < n
+above_below S trusted x {v} {n} {ws} top e = subst (λ (k : ℕ). v < k) top (by (risen_over S trusted x) (over_within S trusted x) e)
+  where
+    by : (risen : Risen) → Within S.top risen → way_up S x risen ≡ from_above v ws → v < S.top
+    by (meets_at u us) k q = let i : u ≡ v = cc in subst (λ (j : ℕ). j < S.top) i k.0
+    by none k q = absurd cc

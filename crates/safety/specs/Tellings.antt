@@ -1,12 +1,12 @@
 -- What is told of a way, from the parts that were written.
 use Rattle.std.specs.Prelude.{ℕ, ◌+◌, ◌≤◌, ◌<◌, ◌≡◌, Bool, true, false, cond, not, ◌&&◌, ◌||◌, List, [], ◌∷◌, ◌++◌, eqb, length}
-use Rattle.std.proofs.Common.{arith, sym, ◌∙◌, ap, ap₂, append-nil, eq-eqb, ne_eqb, length-append}
+use Rattle.std.proofs.Common.{refl, arith, sym, ◌∙◌, ap, ap₂, append-nil, length-append}
 use Rattle.matrix.specs.declared.Name.{Name}
 use Rattle.matrix.specs.declared.Name.TheVariants.{Subject}
 use Rattle.matrix.specs.declared.Right.{Right}
 use Rattle.matrix.specs.declared.Fields.{Fields}
 use Rattle.matrix.specs.declared.Shape.{Shape}
-use Rattle.matrix.specs.Names.{column_of, same_name}
+use Rattle.matrix.specs.Names.{column_of, named, same_name}
 use Rattle.matrix.specs.State.{State, exists}
 use Rattle.matrix.specs.Shape.{most_subjects, basics_of}
 use Rattle.matrix.specs.Reading.{state_of}
@@ -23,11 +23,11 @@ use Rattle.finish.specs.Finish.{again_needed}
 use Rattle.finish.specs.Lists.{finish_length}
 use Rattle.ways.specs.Ways.{Way, held_now, by_star, by_creation, from_above, list_of, made_held, passes_right}
 use Rattle.writing.specs.Put.{put_all, put_list, HeadRoom}
-use Rattle.telling.specs.Tells.{Tells, tells_length}
-use Rattle.telling.specs.Parts.{Part}
-use Rattle.telling.specs.Paths.{PathRoom}
+use Rattle.telling.specs.declared.target.Target.{Target}
+use Rattle.telling.specs.Tells.{Tells, Fits, tells_length}
+use Rattle.telling.specs.Parts.{length_destroys}
 use Rattle.told.specs.Told.{Told}
-use Rattle.safety.specs.Asks.{Asks, Headed, PathOf}
+use Rattle.safety.specs.Asks.{Asks, Headed}
 use Rattle.safety.specs.Steps.{headed_list}
 
 -- the number of a right of a shape, 0 where it has none, is one of its basic rights'
@@ -79,67 +79,49 @@ module _ {S : State} {s : ℕ} {x : Name} {y : Right} {out mid out' : List ℕ} 
 
 -- ---- the rooms for what is written
 
-module _ {b : List ℕ} {f : Shape} {s : ℕ} {x : Name} {y : Right} {w : Way} {out : List ℕ} (q : Asks b f s x y w out) where
+module _ {b : List ℕ} {f : Shape} {t : Target} {w : Way} {out : List ℕ} (q : Asks b f t w out) where
   shape : ShapeRight f
   shape = right_shape q.bit.station
 
-  columns_few : column_of x < 256
-  columns_few = omega (arith, named_below f.n f.p x q.bit.column, shape.high, shape.plain)
+  -- the subjects of the record are few
+  pub subject_few : {v : ℕ} → v < f.n → v < most_subjects
+  subject_few l = omega (arith, shape.high)
 
-  -- a part of k commands from number j on, by subject v of the record
-  pub part_of : (v j k : ℕ) {mid : List ℕ} → v < f.n → j + k ≤ f.n + 2 → length mid ≡ length out → Part mid j k v s x y
-  part_of v j k l e h =
-      let r : list_room (f.n + 2) ≤ length out = q.room in
-      let t : s < f.n = q.bit.row in
-      let few = shape.high in
-      record {
-        room = record { fits = omega arith };
-        by = omega (arith, few);
-        to = omega (arith, few);
-        over = columns_few;
-        number = omega (arith, number_in y shape q.bit.right, shape.width_most);
-      }
+  -- room for k commands from number j on
+  pub room_for : (j k : ℕ) {mid : List ℕ} → j + k ≤ f.n + 2 → length mid ≡ length out → Fits mid j k
+  room_for j k e h = let r : list_room (f.n + 2) ≤ length out = q.room in record { fits = omega arith }
 
   pub head_of : {mid : List ℕ} {k : ℕ} → k ≤ f.n + 2 → length mid ≡ length out → HeadRoom mid k
   head_of e h = let r : list_room (f.n + 2) ≤ length out = q.room in record { fits = omega arith; few = omega (arith, shape.high) }
 
   -- room for the head of a list of the way that was written whole
-  pub head_by : {mid : List ℕ} {k : ℕ} {cs : List Fields} → cs ≡ list_of (state_of b) s x y w → Tells out mid 0 cs k → HeadRoom mid k
-  head_by {k = k} {cs = cs} e t =
-      let i : k ≡ 0 + length cs = t.next in
-      let g : length cs ≡ length (list_of (state_of b) s x y w) = ap length e in
-      let h : length (list_of (state_of b) s x y w) ≤ f.n + 2 = q.few in
-      head_of (omega arith) (tells_length t)
+  pub head_by : {mid : List ℕ} {k : ℕ} {cs : List Fields} → cs ≡ list_of (state_of b) t.s t.x t.y w → Tells out mid 0 cs k → HeadRoom mid k
+  head_by {k = k} {cs = cs} e d =
+      let i : k ≡ 0 + length cs = d.next in
+      let g : length cs ≡ length (list_of (state_of b) t.s t.x t.y w) = ap length e in
+      let h : length (list_of (state_of b) t.s t.x t.y w) ≤ f.n + 2 = q.few in
+      head_of (omega arith) (tells_length d)
 
-  -- room for the subjects of a path, whose number is that of a path's entries at most
-  pub path_short : {path : List ℕ} {v m : ℕ} → PathOf path f.n v m → m ≤ most_subjects
-  path_short h = omega (arith, h.passed, shape.high)
+module _ {b : List ℕ} {f : Shape} {t : Target} {v : ℕ} {ws : List ℕ} {out : List ℕ} (q : Asks b f t (from_above v ws) out) where
+  -- room for a command about each subject of a path
+  pub path_room : Fits out 0 (length ws)
+  path_room =
+      let after : List Fields =
+      cond (held_by_own t.y && eqb t.s v) [] (finish v t.s t.x t.y (not (exists (state_of b) t.s) || among t.s ws) (again_needed (state_of b) t.s t.x t.y)) in
+      room_for q 0 (length ws) (omega (arith, q.few, length-append (destroys_all v ws) after, length_destroys v ws)) refl
 
-  pub path_room : {path : List ℕ} {v m : ℕ} → PathOf path f.n v m → PathRoom out v m
-  path_room h =
-      let r : list_room (f.n + 2) ≤ length out = q.room in
-      let l = h.passed in
-      record { room = record { fits = omega arith }; by = omega (arith, h.subject, shape.high); short = path_short h }
+  -- room for the end of a list after the subjects of a path were destroyed
+  pub finish_room : {first : List ℕ} {j : ℕ} (absent again : Bool)
+      → (destroys_all v ws ++ finish v t.s t.x t.y absent again) ≡ list_of (state_of b) t.s t.x t.y (from_above v ws) → Tells out first 0 (destroys_all v ws) j
+      → Fits first j (cond again 2 0 + cond absent 2 1)
+  finish_room {j = j} absent again e d =
+      let i : j ≡ 0 + length (destroys_all v ws) = d.next in
+      let g : length (destroys_all v ws ++ finish v t.s t.x t.y absent again) ≡ length (list_of (state_of b) t.s t.x t.y (from_above v ws)) = ap length e in
+      let h : length (destroys_all v ws ++ finish v t.s t.x t.y absent again) ≡ length (destroys_all v ws) + length (finish v t.s t.x t.y absent again) = length-append (destroys_all v ws) (finish v t.s t.x t.y absent again) in
+      let k : length (finish v t.s t.x t.y absent again) ≡ cond again 2 0 + cond absent 2 1 = finish_length v t.s t.x t.y absent again in
+      let m : length (list_of (state_of b) t.s t.x t.y (from_above v ws)) ≤ f.n + 2 = q.few in
+      room_for q j (cond again 2 0 + cond absent 2 1) (omega arith) (tells_length d)
 
--- room for the end of a list after the subjects of a path were destroyed
-pub finish_part : {b : List ℕ} {f : Shape} {s : ℕ} {x : Name} {y : Right} {out first : List ℕ} {j : ℕ} (absent again : Bool) (v : ℕ) (ws : List ℕ) → Asks b f s x y (from_above v ws) out → v < f.n
-    → (destroys_all v ws ++ finish v s x y absent again) ≡ list_of (state_of b) s x y (from_above v ws) → Tells out first 0 (destroys_all v ws) j
-    → Part first j (cond again 2 0 + cond absent 2 1) v s x y
-finish_part {b} {f} {s = s} {x} {y} {j = j} absent again v ws q l e d =
-    let i : j ≡ 0 + length (destroys_all v ws) = d.next in
-    let g : length (destroys_all v ws ++ finish v s x y absent again) ≡ length (list_of (state_of b) s x y (from_above v ws)) = ap length e in
-    let h : length (destroys_all v ws ++ finish v s x y absent again) ≡ length (destroys_all v ws) + length (finish v s x y absent again) = length-append (destroys_all v ws) (finish v s x y absent again) in
-    let k : length (finish v s x y absent again) ≡ cond again 2 0 + cond absent 2 1 = finish_length v s x y absent again in
-    let m : length (list_of (state_of b) s x y (from_above v ws)) ≤ f.n + 2 = q.few in
-    part_of q v j (cond again 2 0 + cond absent 2 1) l (omega arith) (tells_length d)
-
--- whether s still has to be created once x is, by the kind of x
-module _ (s : ℕ) (x : Name) (e : Bool) where
-  pub self_made : {w : ℕ} → x ≡ Subject w → s ≡ w → false ≡ not (same_name (Subject s) x || e)
-  self_made {w} h q = sym (ap (λ (z : Name). not (same_name (Subject s) z || e)) h ∙ ap (λ (u : Bool). not (u || e)) (eq-eqb s w q))
-
-  pub other_made : {w : ℕ} {t : Bool} → x ≡ Subject w → (s ≡ w → ⊥) → t ≡ e → not t ≡ not (same_name (Subject s) x || e)
-  other_made {w} h q f = ap not f ∙ sym (ap (λ (z : Name). not (same_name (Subject s) z || e)) h ∙ ap (λ (u : Bool). not (u || e)) (ne_eqb s w q))
-
-  pub object_made : {w : ℕ} {t : Bool} → x ≡ Name.Plain w → t ≡ e → not t ≡ not (same_name (Subject s) x || e)
-  object_made h f = ap not f ∙ sym (ap (λ (z : Name). not (same_name (Subject s) z || e)) h)
+-- a column of a record's name is a byte
+pub column_few : {f : Shape} (x : Name) → ShapeRight f → named f.n f.p x ≡ true → column_of x < 256
+column_few {f} x g h = omega (arith, named_below f.n f.p x h, g.high, g.plain)

@@ -4,10 +4,10 @@ use Rattle.std.proofs.Common.{arith, sym, ◌∙◌, ap, ap₂, subst, subst₂}
 use Rattle.matrix.specs.declared.Name.{Name}
 use Rattle.matrix.specs.declared.Right.{Right}
 use Rattle.matrix.specs.declared.Shape.{Shape}
-use Rattle.matrix.specs.Names.{name_of, named}
+use Rattle.matrix.specs.Names.{column_of, name_of, named}
 use Rattle.matrix.specs.Rights.{right_of}
 use Rattle.matrix.specs.State.{State, held}
-use Rattle.matrix.specs.Shape.{limits, shape_of, bits_of, basics_of}
+use Rattle.matrix.specs.Shape.{limits, most_subjects, shape_of, bits_of, basics_of}
 use Rattle.matrix.specs.Reading.{state_of}
 use Rattle.matrix.specs.Record.{record_refusal}
 use Rattle.matrix.specs.Calls.{question_fits, holds_on}
@@ -25,11 +25,12 @@ use Rattle.question.specs.Asked.{trust_fits, list_room, Answers}
 use Rattle.route.specs.Parts.{basic_number}
 use Rattle.ways.specs.Ways.{Way, held_now, by_star, by_creation, from_above, no_way, way_of, list_of}
 use Rattle.decision.specs.Decides.{Says, decides}
+use Rattle.telling.specs.declared.target.Target.{Target}
 use Rattle.told.specs.Told.{Told}
 use Rattle.told.specs.Decided.{Askable, told_decided, told_size}
 use Rattle.safety.specs.Asks.{Asks, Headed}
 use Rattle.safety.specs.Steps.{told_at, way_held}
-use Rattle.safety.specs.Tellings.{number_in, told_held}
+use Rattle.safety.specs.Tellings.{number_in, column_few, told_held}
 use Rattle.safety.specs.Turned.{turned_seven, turned_fifteen, answers}
 
 -- the list of a way has at most n + 2 commands
@@ -54,8 +55,11 @@ module _ {b : List ℕ} {f : Shape} (valid : record_refusal limits b ≡ 0) (sta
   same_number y h = rw (← station.shape) (number_in y (right_shape station) h)
 
   -- a question of the record's names and rights asks what its way needs
-  asks_of : (trusted : ℕ → Bool) {s : ℕ} {x : Name} {y : Right} {out : List ℕ} → BitIn b f y s x → list_room (f.n + 2) ≤ length out → Asks b f s x y (way_of (state_of b) trusted s x y) out
-  asks_of trusted {s} {x} {y} q room =
+  pub asks_of : (trusted : ℕ → Bool) {t : Target} {out : List ℕ} → BitIn b f t.y t.s t.x → list_room (f.n + 2) ≤ length out → Asks b f t (way_of (state_of b) trusted t.s t.x t.y) out
+  asks_of trusted {t} q room =
+      let s = t.s in
+      let x = t.x in
+      let y = t.y in
       let w = way_of (state_of b) trusted s x y in
       let l : s < (shape_of b).n = rw (← station.shape) q.row in
       let h : length (list_of (state_of b) s x y w) ≤ (shape_of b).n + 2 = few_said (shape_of b) (state_of b) trusted s x y w (decides (shape_of b) (state_of b) trusted s x y (valid_record b valid) (within_read b) l (same_named x q.column) (same_number y q.right)) in
@@ -90,7 +94,7 @@ module _ {b : List ℕ} {f : Shape} {mask s o right : ℕ} {out : List ℕ} (q :
 
   -- x and y are the name and the right that it asks for
   module _ {x : Name} {y : Right} (object : x ≡ name_of f.n o) (code : y ≡ right_of right) where
-    bit_asked : BitIn b f y s x
+    pub bit_asked : BitIn b f y s x
     bit_asked =
         record {
           station = station;
@@ -99,8 +103,15 @@ module _ {b : List ℕ} {f : Shape} {mask s o right : ℕ} {out : List ℕ} (q :
           column = ap (λ (x : Name). named f.n f.p x) object ∙ named_name_of f.n f.p o asked.0.column;
         }
 
-    pub asks : Asks b f s x y (way_of (state_of b) (trusted_by mask) s x y) out
-    asks = asks_of q.valid station (trusted_by mask) bit_asked q.room
+    -- so they are bytes
+    pub subject_byte : s < most_subjects
+    subject_byte = omega (arith, bit_asked.row, (right_shape station).high)
+
+    pub column_byte : column_of x < 256
+    column_byte = column_few x (right_shape station) bit_asked.column
+
+    pub number_byte : basic_number y < 256
+    number_byte = omega (arith, number_in y (right_shape station) bit_asked.right, (right_shape station).width_most)
 
     here : x ≡ name_of (shape_of b).n o
     here = object ∙ ap (λ (e : Shape). name_of e.n o) station.shape

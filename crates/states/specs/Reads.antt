@@ -1,6 +1,6 @@
 -- The state of a record's bytes, read from the cells.
-use Rattle.std.specs.Prelude.{ℕ, suc, ◌+◌, ◌-◌, ◌*◌, ◌/◌, ◌%◌, ◌<◌, ◌≡◌, Bool, true, false, cond, ◌&&◌, List, eqb}
-use Rattle.std.proofs.Common.{arith, sym, ◌∙◌, subst, lt-ltb, ltb-true, eq-eqb, ne_eqb}
+use Rattle.std.specs.Prelude.{ℕ, ◌<◌, ◌≡◌, Option, Bool, true, false, ◌&&◌, List, eqb}
+use Rattle.std.proofs.Common.{arith, sym, ◌∙◌, subst, lt-ltb, ltb-true, ne_eqb}
 use Rattle.std.proofs.Math.Path.{ap}
 use Rattle.std.proofs.Math.Bool.{not, and_comm}
 use Rattle.matrix.specs.declared.Name.{Name}
@@ -29,6 +29,7 @@ use Rattle.codec.proofs.ShapeRight.{width_some, bits_most}
 use Rattle.codec.specs.Update.{has_state, bit_at_named, bit_named}
 use Rattle.owners.specs.Framed.{valid_framed, owner_same}
 use Rattle.cells.specs.Station.{Station, right_shape}
+use Rattle.row_search.specs.SomeBelow.{some_below}
 use Rattle.row_search.specs.Rows.{row_has}
 use Rattle.states.specs.Needs.{RightIn, NameIn, Guessed}
 
@@ -42,34 +43,9 @@ module _ (f : Shape) (g : ShapeRight f) where
   pub code_small : (y : Right) → RightIn f y → code_of y < word_bits
   code_small y h = omega (arith, code_in y h, bits_most f g)
 
--- the star of a form as a number, 1 where it has one
-abbrev pub star_of : Form → ℕ
-star_of Form.Plain = 0
-star_of Form.Starred = 1
-
--- the code of a basic right is a sum
-code_sum : (k : ℕ) (f : Form) → 2 + 2 * k + star_of f ≡ code_of (Basic k f)
-code_sum k Form.Plain = omega arith
-code_sum k Form.Starred = omega arith
-
 -- a basic right, taken apart
-pub basic_code : {y : Right} {k : ℕ} {f : Form} → y ≡ Basic k f → 2 + 2 * k + star_of f ≡ code_of y
-basic_code {k = k} {f} e = code_sum k f ∙ sym (ap code_of e)
-
 pub basic_in : {y : Right} {k : ℕ} {e : Form} (f : Shape) → y ≡ Basic k e → RightIn f y → k < basics_of f
 basic_in f e h = subst (RightIn f) e h
-
--- the right of a code other than 0 and 1, by what is left of it
-right_of_basic : (code : ℕ) (f : Form) → (code ≡ 0 → ⊥) → (code ≡ 1 → ⊥) → cond (eqb ((code - 2) % 2) 0) Form.Plain Form.Starred ≡ f → Basic ((code - 2) / 2) f ≡ right_of code
-right_of_basic code f h g e =
-    let q : suc (suc (code - 2)) ≡ code = omega arith in
-    ap (λ (f : Form). Basic ((code - 2) / 2) f) (sym e) ∙ ap right_of q
-
-pub right_of_plain : (code : ℕ) → (code ≡ 0 → ⊥) → (code ≡ 1 → ⊥) → (code - 2) % 2 ≡ 0 → Basic ((code - 2) / 2) Form.Plain ≡ right_of code
-right_of_plain code h g e = right_of_basic code Form.Plain h g (ap (λ (t : Bool). cond t Form.Plain Form.Starred) (eq-eqb ((code - 2) % 2) 0 e))
-
-pub right_of_starred : (code : ℕ) → (code ≡ 0 → ⊥) → (code ≡ 1 → ⊥) → ((code - 2) % 2 ≡ 0 → ⊥) → Basic ((code - 2) / 2) Form.Starred ≡ right_of code
-right_of_starred code h g e = right_of_basic code Form.Starred h g (ap (λ (t : Bool). cond t Form.Plain Form.Starred) (ne_eqb ((code - 2) % 2) 0 e))
 
 module _ (b : List ℕ) (f : Shape) (h : Station b f) where
   -- a bit of the state is the bit of the right's code in the cell
@@ -82,20 +58,17 @@ module _ (b : List ℕ) (f : Shape) (h : Station b f) where
   unfolding state_of
   top_is = ap (λ (e : Shape). e.n) (sym h.shape)
 
-  -- the test of a row in the searches over a column, where none is left out
-  row_bit : (y : Right) (x : Name) → RightIn f y → named f.n f.p x ≡ true → (w : ℕ) → w < f.n → row_has b (column_of x) (code_of y) f.n w ≡ has (state_of b) y w x
-  unfolding row_has
-  row_bit y x hy hx w l = rw (ne_eqb w f.n (λ e. omega arith)) (sym (read_bit y w x hy l hx))
-
-  -- the lowest row of a column with a bit, and whether there is one
-  pub search_bit : (y : Right) (x : Name) → RightIn f y → named f.n f.p x ≡ true → least f.n (row_has b (column_of x) (code_of y) f.n) ≡ least (state_of b).top (λ w. has (state_of b) y w x)
+  -- the lowest row of a column with a bit, and whether there is one, in a search that leaves none out
+  pub search_bit : (y : Right) (x : Name) → RightIn f y → named f.n f.p x ≡ true → least f.n (λ w. bit (code_of y) (cell_at b w (column_of x))) ≡ least (state_of b).top (λ w. has (state_of b) y w x)
   search_bit y x hy hx =
-      least_same f.n (row_has b (column_of x) (code_of y) f.n) (λ w. has (state_of b) y w x) (row_bit y x hy hx)
+      least_same f.n (λ w. bit (code_of y) (cell_at b w (column_of x))) (λ w. has (state_of b) y w x) (λ w l. sym (read_bit y w x hy l hx))
       ∙ ap (λ (m : ℕ). least m (λ w. has (state_of b) y w x)) (sym top_is)
 
   pub some_bit : (y : Right) (x : Name) → RightIn f y → named f.n f.p x ≡ true → any f.n (row_has b (column_of x) (code_of y) f.n) ≡ any (state_of b).top (λ w. has (state_of b) y w x)
+  unfolding row_has
   some_bit y x hy hx =
-      any_same f.n (row_has b (column_of x) (code_of y) f.n) (λ w. has (state_of b) y w x) (row_bit y x hy hx)
+      any_same f.n (row_has b (column_of x) (code_of y) f.n) (λ w. has (state_of b) y w x)
+      (λ w l. rw (ne_eqb w f.n (λ e. omega arith)) (sym (read_bit y w x hy l hx)))
       ∙ ap (λ (m : ℕ). any m (λ w. has (state_of b) y w x)) (sym top_is)
 
   -- whether a subject o has a controller other than itself
@@ -134,8 +107,9 @@ object_touched {b} {o = o} {w = w} {x = x} h valid l e g ne =
     sym (valid.column (right_of j) w x set)
 
 -- the owner of a subject is what the search of its column finds
-pub owner_is : {b : List ℕ} {f : Shape} {s r : ℕ} → Station b f → s < f.n → r ≡ least f.n (row_has b s 0 f.n) → r ≡ owner_of (state_of b).top (state_of b).owns s
-owner_is {b} {f} {s} h l g = g ∙ search_bit b f h Own (Subject s) tt (lt-ltb s f.n l)
+pub owner_is : {b : List ℕ} {f : Shape} {s : ℕ} {r : Option ℕ} → Station b f → s < f.n → r ≡ some_below f.n (least f.n (λ w. bit 0 (cell_at b w s)))
+    → r ≡ some_below f.n (owner_of (state_of b).top (state_of b).owns s)
+owner_is {b} {f} {s} h l g = g ∙ ap (some_below f.n) (search_bit b f h Own (Subject s) tt (lt-ltb s f.n l))
 
 -- a row that passes the test t for own of a subject is its owner, where the record is valid
 pub owner_guessed : {b owners : List ℕ} {f : Shape} {w : ℕ} {t : Bool} (v : ℕ) → Guessed b f owners → t ≡ (state_of b).owns w (Subject v) → t ≡ true → w ≡ owner_of (state_of b).top (state_of b).owns v

@@ -1,5 +1,5 @@
 -- The steps of the owner walk.
-use Rattle.std.specs.Prelude.{ℕ, suc, ◌+◌, ◌-◌, ◌≤◌, ◌<◌, ◌≡◌, Bool}
+use Rattle.std.specs.Prelude.{ℕ, suc, ◌+◌, ◌-◌, ◌≤◌, ◌<◌, ◌≡◌, Some, None, Bool}
 use Rattle.std.proofs.Common.{arith, sym, ◌∙◌, ap, lt-ltb, le-ltb, eq-eqb, ne_eqb}
 use Rattle.std.proofs.Math.Path.{refl}
 use Rattle.matrix.specs.declared.Name.{Name}
@@ -8,32 +8,40 @@ use Rattle.matrix.specs.declared.Walked.{Walked}
 use Rattle.matrix.specs.declared.Walked.TheVariants.{Meets, Root, Lost}
 use Rattle.matrix.specs.Owners.{walk_from, owner_of}
 use Rattle.laws.specs.Walks.{walk_met, walk_root as root_met, walk_up as goes_up, walk_lost}
+use Rattle.row_search.specs.SomeBelow.{some_below, some_was, none_was}
 
-module _ (top : ℕ) (owns : ℕ → Name → Bool) (s o links : ℕ) where
-  -- the walk is here, and may visit `left` more subjects
-  abbrev walked : ℕ → Walked
-  walked left = walk_from top owns left s (Subject o) links
+module _ (top : ℕ) (owns : ℕ → Name → Bool) (s o links n : ℕ) where
+  -- the walk has come to s by so many links, of the n subjects that it may visit
+  abbrev walked : Walked
+  walked = walk_from top owns (n - links) s (Subject o) links
 
-  pub walk_out : (left : ℕ) → left ≡ 0 → walked left ≡ Lost
+  pub walk_out : n ≤ links → walked ≡ Lost
   unfolding walk_from
-  walk_out left h = rw h refl
+  walk_out l = let e : n - links ≡ 0 = omega arith in rw e refl
 
-  one_more : (left : ℕ) → (left ≡ 0 → ⊥) → walked left ≡ walked (suc (left - 1))
-  one_more left h = let e : left ≡ suc (left - 1) = omega arith in ap walked e
+  module _ (l : links < n) where
+    one_more : walked ≡ walk_from top owns (suc (n - (links + 1))) s (Subject o) links
+    one_more = let e : n - links ≡ suc (n - (links + 1)) = omega arith in ap (λ (left : ℕ). walk_from top owns left s (Subject o) links) e
 
-  pub walk_meets : (left : ℕ) → (left ≡ 0 → ⊥) → s ≡ o → walked left ≡ Meets links
-  walk_meets left h e = one_more left h ∙ walk_met top owns (left - 1) s (Subject o) links (eq-eqb s o e)
+    pub walk_meets : s ≡ o → walked ≡ Meets links
+    walk_meets e = one_more ∙ walk_met top owns (n - (links + 1)) s (Subject o) links (eq-eqb s o e)
 
-  pub walk_root : (left : ℕ) → (left ≡ 0 → ⊥) → (s ≡ o → ⊥) → s ≡ 0 → walked left ≡ Root links
-  walk_root left h e r = one_more left h ∙ root_met top owns (left - 1) s (Subject o) links (ne_eqb s o e) (eq-eqb s 0 r)
+    module _ (other : s ≡ o → ⊥) where
+      pub walk_root : s ≡ 0 → walked ≡ Root links
+      walk_root r = one_more ∙ root_met top owns (n - (links + 1)) s (Subject o) links (ne_eqb s o other) (eq-eqb s 0 r)
 
-  -- r is what the search for the owner of s found
-  module _ (left : ℕ) (more : left ≡ 0 → ⊥) (other : s ≡ o → ⊥) (below : s ≡ 0 → ⊥) {r n : ℕ} (found : r ≡ owner_of top owns s) (bound : top ≡ n) where
-    pub walk_unowned : n ≤ r → walked left ≡ Lost
-    walk_unowned l =
-        one_more left more ∙ walk_lost top owns (left - 1) s (Subject o) links (ne_eqb s o other) (ne_eqb s 0 below) (le-ltb (owner_of top owns s) top (omega arith))
+      -- by what the search for the owner of s found
+      module _ (below : s ≡ 0 → ⊥) (bound : top ≡ n) where
+        pub walk_unowned : None ≡ some_below n (owner_of top owns s) → walked ≡ Lost
+        walk_unowned found =
+            one_more
+            ∙ walk_lost top owns (n - (links + 1)) s (Subject o) links (ne_eqb s o other) (ne_eqb s 0 below)
+            (le-ltb (owner_of top owns s) top (omega (arith, none_was found)))
 
-    pub walk_up : r < n → walked left ≡ walk_from top owns (left - 1) r (Subject o) (links + 1)
-    walk_up l =
-        one_more left more ∙ goes_up top owns (left - 1) s (Subject o) links (ne_eqb s o other) (ne_eqb s 0 below) (lt-ltb (owner_of top owns s) top (omega arith))
-        ∙ ap (λ (w : ℕ). walk_from top owns (left - 1) w (Subject o) (links + 1)) (sym found)
+        pub walk_up : {r : ℕ} → Some r ≡ some_below n (owner_of top owns s) → walked ≡ walk_from top owns (n - (links + 1)) r (Subject o) (links + 1)
+        walk_up found =
+            let w = some_was found in
+            one_more
+            ∙ goes_up top owns (n - (links + 1)) s (Subject o) links (ne_eqb s o other) (ne_eqb s 0 below)
+            (lt-ltb (owner_of top owns s) top (omega (arith, w.0, w.1)))
+            ∙ ap (λ (w : ℕ). walk_from top owns (n - (links + 1)) w (Subject o) (links + 1)) (sym w.1)

@@ -12,18 +12,19 @@ ghost use Rattle.matrix.specs.Tests.{other_controller};
 ghost use Rattle.matrix.specs.Reading.{state_of};
 ghost use Rattle.codec.specs.Bits.{word_bits};
 ghost use Rattle.cells.specs.Station.{Station};
+ghost use Rattle.row_search.specs.SomeBelow.{some_below};
 ghost use Rattle.states.specs.Needs.{NameIn, BitIn, Guessed};
-ghost use Rattle.states.specs.Reads.{star_of};
 
 use matrix::{Form, MOST_SUBJECTS, Name, Right, Shape, Walked};
+
+// Names and rights are types of `matrix`, so their conversions are functions here: methods, and `From`, would have to stand in that crate.
 
 // The column of a name.
 pub fn column_of(x: Name) -> usize
     ensures { result ≡ column_of x }
 {
     match x {
-        Name::Subject(c) => c,
-        Name::Plain(c) => c,
+        Name::Subject(c) | Name::Plain(c) => c,
     }
 }
 
@@ -32,22 +33,13 @@ pub fn name_of(n: usize, o: usize) -> Name
     ensures { result ≡ name_of n o }
 {
     if o < n {
-        return Name::Subject(o);
-    }
-    Name::Plain(o)
-}
-
-// The star of a form as a number, 1 where it has one: so the code of a basic right is one sum for both forms.
-fn star_of(f: Form) -> usize
-    ensures { result ≡ star_of f }
-{
-    match f {
-        Form::Plain => 0,
-        Form::Starred => 1,
+        Name::Subject(o)
+    } else {
+        Name::Plain(o)
     }
 }
 
-// The code of a right: its bit in a cell.
+// The code of a right: its bit in a cell. A form is 0 or 1 as a number, so that one sum is the code of both.
 pub fn code_of(y: Right) -> usize
     requires { code_of y < word_bits }
     ensures { result ≡ code_of y }
@@ -55,7 +47,7 @@ pub fn code_of(y: Right) -> usize
     match y {
         Right::Own => 0,
         Right::Control => 1,
-        Right::Basic(k, f) => 2 + 2 * k + star_of(f),
+        Right::Basic(k, f) => 2 + 2 * k + f as usize,
     }
 }
 
@@ -63,17 +55,19 @@ pub fn code_of(y: Right) -> usize
 pub fn right_of(code: usize) -> Right
     ensures { result ≡ right_of code }
 {
-    if code == 0 {
-        return Right::Own;
+    match code {
+        0 => Right::Own,
+        1 => Right::Control,
+        _ => {
+            let j = code - 2;
+            let f = if j % 2 == 0 {
+                Form::Plain
+            } else {
+                Form::Starred
+            };
+            Right::Basic(j / 2, f)
+        }
     }
-    if code == 1 {
-        return Right::Control;
-    }
-    let j = code - 2;
-    if j % 2 == 0 {
-        return Right::Basic(j / 2, Form::Plain);
-    }
-    Right::Basic(j / 2, Form::Starred)
 }
 
 // Whether row w has right y in the column of x.
@@ -114,13 +108,7 @@ pub fn exists_by(b: &[u8], f: Shape, i: usize, s: usize, x: Name) -> bool
     match x {
         Name::Subject(w) => subject_exists(b, f, w),
         Name::Plain(o) => {
-            if cells::cell(b, f, i, o) != 0 {
-                return true;
-            }
-            if cells::cell(b, f, s, o) != 0 {
-                return true;
-            }
-            name_exists(b, f, x)
+            cells::cell(b, f, i, o) != 0 || cells::cell(b, f, s, o) != 0 || name_exists(b, f, x)
         }
     }
 }
@@ -133,18 +121,15 @@ pub fn controlled(b: &[u8], f: Shape, o: usize) -> bool
     row_search::some_row(b, f, o, 1, o)
 }
 
-// The owner of subject v in a valid record, or n if it has none. The byte of v in the table `owners` is only a guess: it counts where that
-// row owns v, since no other does. Where it doesn't, the owner is searched.
-pub fn owner_of(b: &[u8], f: Shape, owners: &[u8; MOST_SUBJECTS], v: usize) -> usize
+// The owner of subject v in a valid record. The byte of v in the table `owners` is only a guess: it counts where that row owns v, since no
+// other does. Where it doesn't, the owner is searched.
+pub fn owner_of(b: &[u8], f: Shape, owners: &[u8; MOST_SUBJECTS], v: usize) -> Option<usize>
     requires { Guessed b.now f owners.now × (v < f.n) }
-    ensures { result ≡ owner_of (state_of b.now).top (state_of b.now).owns v }
+    ensures { result ≡ some_below f.n (owner_of (state_of b.now).top (state_of b.now).owns v) }
 {
-    let guess = owners[v];
-    if guess < f.n as u8 {
-        let w = guess as usize;
-        if has_bit(b, f, Right::Own, w, Name::Subject(v)) {
-            return w;
-        }
+    let w = owners[v] as usize;
+    if w < f.n && has_bit(b, f, Right::Own, w, Name::Subject(v)) {
+        return Some(w);
     }
     row_search::first_row(b, f, v, 0)
 }
@@ -154,26 +139,18 @@ pub fn owner_walk(b: &[u8], f: Shape, owners: &[u8; MOST_SUBJECTS], s: usize, o:
     requires { Guessed b.now f owners.now × (s < f.n) }
     ensures { result ≡ walk (state_of b.now) s (Name.Subject o) }
 {
-    let n = f.n;
     let mut at = s;
-    let mut links = 0;
-    let mut left = n;
-    'up: loop {
-        if left == 0 {
-            break 'up Walked::Lost;
-        }
+    'up: for links in 0..f.n {
         if at == o {
-            break 'up Walked::Meets(links);
+            return Walked::Meets(links);
         }
         if at == 0 {
-            break 'up Walked::Root(links);
+            return Walked::Root(links);
         }
-        let owner = owner_of(b, f, owners, at);
-        if n <= owner {
-            break 'up Walked::Lost;
-        }
+        let Some(owner) = owner_of(b, f, owners, at) else {
+            break 'up;
+        };
         at = owner;
-        links += 1;
-        left -= 1;
     }
+    Walked::Lost
 }

@@ -1,74 +1,65 @@
--- The search for a star that goes from one untrusted subject to the next: the trusted subjects, and those that were looked at, are passed.
-use Rattle.std.specs.Prelude.{ℕ, ◌≤◌, ◌<◌, ◌≡◌, Bool, true, false, not, ◌&&◌, eqb, ltb}
-use Rattle.std.proofs.Common.{arith, sym, ◌∙◌, ap, subst, ⊎_elim, eqb-true, eq-eqb, ltb-true, ltb-false}
-use Rattle.std.proofs.lemmas.Bool.{not-true, not-false}
+-- The search for a star that goes over the untrusted subjects, lowest first.
+use Rattle.std.specs.Prelude.{ℕ, ◌<◌, ◌≡◌, refl, Some, None, Bool, true, false, not, ◌&&◌, eqb, ltb}
+use Rattle.std.proofs.Common.{arith, sym, ◌∙◌, ap, subst, ⊎_elim, eqb-true, lt-ltb, ltb-true}
+use Rattle.std.proofs.lemmas.Bool.{not-true}
 use Rattle.matrix.specs.Bounded.{any, least}
 use Rattle.matrix.specs.Bytes.{bit}
-use Rattle.laws.specs.Tests.{way, clash, or_cases, or_none_left, or_none_right}
-use Rattle.laws.specs.Bounded.{any_none, none_any, least_hit, least_none, least_passes}
-use Rattle.masks.specs.Marks.{mask_bits, Added}
-use Rattle.masks.specs.Lowest.{least_before, none_lower}
+use Rattle.laws.specs.Tests.{way, and_left, and_right}
+use Rattle.laws.specs.Bounded.{none_any, least_hit, least_none}
+use Rattle.row_search.specs.SomeBelow.{some_below, below_some, below_none}
+use Rattle.masks.specs.Marks.{Outside}
+use Rattle.masks.specs.Stepping.{LowestOf}
 
--- nobody outside the set is trusted, and no member of it is an untrusted subject with the star
-pub record Passed (trusted star : ℕ → Bool) (set : ℕ) : Type 0 where
-  pub outside : (j : ℕ) → bit j set ≡ false → trusted j ≡ false
-  pub members : (j : ℕ) → bit j set ≡ true → (not (trusted j) && star j) ≡ false
+-- the members of `rest` are untrusted subjects, and no other of the n subjects is an untrusted one with the star
+pub record Passed (trusted star : ℕ → Bool) (n rest : ℕ) : Type 0 where
+  pub members : (j : ℕ) → bit j rest ≡ true → (j < n) × (trusted j ≡ false)
+  pub others : (j : ℕ) → j < n → bit j rest ≡ false → (not (trusted j) && star j) ≡ false
 
--- a trusted subject, whether it has the star or not, and an untrusted one
-trusted_not : {t : Bool} (u : Bool) → t ≡ true → (not t && u) ≡ false
-trusted_not u h = ap (λ (t : Bool). not t && u) h
+-- before the first: all untrusted subjects are still to come
+pub passed_none : (trust : ℕ) (star : ℕ → Bool) {n rest : ℕ} → Outside trust n rest → Passed (λ j. bit j trust) star n rest
+passed_none trust star {n} {rest} h = record { members = members; others = others }
+  where
+    members : (j : ℕ) → bit j rest ≡ true → (j < n) × (bit j trust ≡ false)
+    members j m =
+        let both : (ltb j n && not (bit j trust)) ≡ true = sym (h.marks j) ∙ m in
+        (ltb-true j n (and_left (ltb j n) (not (bit j trust)) both), not-true (bit j trust) (and_right (ltb j n) (not (bit j trust)) both))
 
-untrusted_is : {t : Bool} (u : Bool) → t ≡ false → (not t && u) ≡ u
-untrusted_is u h = ap (λ (t : Bool). not t && u) h
+    others : (j : ℕ) → j < n → bit j rest ≡ false → (not (bit j trust) && star j) ≡ false
+    others j l z =
+        let one : not (bit j trust) ≡ false = ap (λ (t : Bool). t && not (bit j trust)) (sym (lt-ltb j n l)) ∙ sym (h.marks j) ∙ z in
+        rw one refl
 
-pub passed_trusted : (trust : ℕ) (star : ℕ → Bool) → Passed (λ j. bit j trust) star trust
-passed_trusted trust star = record { outside = λ j h. h; members = λ j h. trusted_not (star j) h }
+module _ {trusted star : ℕ → Bool} {n rest : ℕ} (h : Passed trusted star n rest) where
+  pub star_none : ((j : ℕ) → bit j rest ≡ false) → None ≡ some_below n (least n (λ j. not (trusted j) && star j))
+  star_none z =
+      let e : least n (λ j. not (trusted j) && star j) ≡ n =
+      least_none n (λ j. not (trusted j) && star j) (none_any n (λ j. not (trusted j) && star j) (λ j l. h.others j l (z j))) in
+      below_none (omega arith)
 
--- v is the lowest subject outside the set
-module _ {trusted star : ℕ → Bool} {set v : ℕ} (h : Passed trusted star set) (e : v ≡ least mask_bits (λ j. not (bit j set))) where
-  below_member : (j : ℕ) → j < v → bit j set ≡ true
-  below_member j l =
-      not-false (bit j set)
-      (any_none v (λ j. not (bit j set)) j (subst (λ (m : ℕ). any m (λ j. not (bit j set)) ≡ false) (sym e) (least_before mask_bits (λ j. not (bit j set)))) l)
+  -- the next is v, and t is the answer whether it has the star
+  module _ {v : ℕ} {t : Bool} (w : LowestOf rest v) (f : t ≡ star v) where
+    here : (not (trusted v) && star v) ≡ t
+    here = rw (h.members v w.member).1 (sym f)
 
-  none_below : any v (λ j. not (trusted j) && star j) ≡ false
-  none_below = none_any v (λ j. not (trusted j) && star j) (λ j l. h.members j (below_member j l))
+    pub star_found : t ≡ true → Some v ≡ some_below n (least n (λ j. not (trusted j) && star j))
+    star_found s =
+        let l : v < n = (h.members v w.member).0 in
+        let before : any v (λ j. not (trusted j) && star j) ≡ false =
+        none_any v (λ j. not (trusted j) && star j) (λ j k. h.others j (omega arith) (w.none_below j k)) in
+        below_some l ∙ ap (some_below n) (sym (least_hit n (λ j. not (trusted j) && star j) v l before (here ∙ s)))
 
-  pub star_none : {n : ℕ} → n ≤ v → n ≡ least n (λ j. not (trusted j) && star j)
-  star_none {n} l = sym (least_none n (λ j. not (trusted j) && star j) (none_lower (λ j. not (trusted j) && star j) l none_below))
+    pub passed_more : {more : ℕ} → t ≡ false → ((j : ℕ) → bit j more ≡ (bit j rest && not (eqb j v))) → Passed trusted star n more
+    passed_more {more} s g = record { members = members; others = others }
+      where
+        left : (t : Bool) → (t && true) ≡ false → t ≡ false
+        left true e = e
+        left false e = refl
 
-  module _ (low : v < mask_bits) where
-    untrusted_here : trusted v ≡ false
-    untrusted_here =
-        h.outside v
-        (not-true (bit v set)
-        (subst (λ (m : ℕ). not (bit m set) ≡ true) (sym e) (least_passes mask_bits (λ j. not (bit j set)) (subst (λ (m : ℕ). m < mask_bits) e low))))
+        members : (j : ℕ) → bit j more ≡ true → (j < n) × (trusted j ≡ false)
+        members j m = h.members j (and_left (bit j rest) (not (eqb j v)) (sym (g j) ∙ m))
 
-    -- t is the answer whether v has the star
-    pub star_found : {n : ℕ} {t : Bool} → v < n → t ≡ star v → t ≡ true → v ≡ least n (λ j. not (trusted j) && star j)
-    star_found {n} l f s = sym (least_hit n (λ j. not (trusted j) && star j) v l none_below (untrusted_is (star v) untrusted_here ∙ sym f ∙ s))
-
-    module _ {more : ℕ} (g : Added set v more) where
-      pub passed_more : {t : Bool} → t ≡ star v → t ≡ false → Passed trusted star more
-      passed_more f s =
-          record {
-            outside = λ j z. h.outside j (or_none_left _ _ (sym (g.marks j) ∙ z));
-            members =
-                λ j m. ⊎_elim (λ a. h.members j a)
-                (λ q. subst (λ (i : ℕ). (not (trusted i) && star i) ≡ false) (sym (eqb-true j v q)) (untrusted_is (star v) untrusted_here ∙ sym f ∙ s))
-                (or_cases _ _ (sym (g.marks j) ∙ m));
-          }
-
-      -- the next is higher
-      pub passed_higher : {next : ℕ} → next ≡ least mask_bits (λ j. not (bit j more)) → v < next
-      passed_higher {next} q =
-          ⊎_elim (λ (t : ltb v next ≡ true). ltb-true v next t) (λ (t : ltb v next ≡ false). absurd (lower (ltb-false v next t))) (way (ltb v next))
-        where
-          lower : next ≤ v → ⊥
-          lower l =
-              let z : bit next more ≡ false =
-              not-true (bit next more)
-              (subst (λ (m : ℕ). not (bit m more) ≡ true) (sym q) (least_passes mask_bits (λ j. not (bit j more)) (subst (λ (m : ℕ). m < mask_bits) q (omega arith)))) in
-              let d : bit next set ≡ false = or_none_left (bit next set) (eqb next v) (sym (g.marks next) ∙ z) in
-              let ne : next ≡ v → ⊥ = λ k. clash (eq-eqb next v k) (or_none_right (bit next set) (eqb next v) (sym (g.marks next) ∙ z)) in
-              clash (below_member next (omega arith)) d
+        others : (j : ℕ) → j < n → bit j more ≡ false → (not (trusted j) && star j) ≡ false
+        others j l z =
+            ⊎_elim
+            (λ (q : eqb j v ≡ true). subst (λ (i : ℕ). (not (trusted i) && star i) ≡ false) (sym (eqb-true j v q)) (here ∙ s))
+            (λ (q : eqb j v ≡ false). h.others j l (left (bit j rest) (sym (rw q refl) ∙ sym (g j) ∙ z))) (way (eqb j v))

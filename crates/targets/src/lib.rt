@@ -8,6 +8,7 @@ ghost use Rattle.matrix.specs.Bounded.{least};
 ghost use Rattle.matrix.specs.Owners.{walk, meets};
 ghost use Rattle.matrix.specs.Shape.{basics_of};
 ghost use Rattle.matrix.specs.Reading.{state_of};
+ghost use Rattle.row_search.specs.SomeBelow.{some_below};
 ghost use Rattle.states.specs.Needs.{RightIn, NameIn, Guessed};
 ghost use Rattle.question.specs.Trust.{trusted_by};
 ghost use Rattle.safe.specs.Possible.{possible};
@@ -16,33 +17,26 @@ ghost use Rattle.ways.specs.Ways.{star_holder};
 
 use matrix::{Form, MOST_SUBJECTS, Name, Right, Shape, Walked};
 
-// The lowest untrusted subject that has basic right k starred over x, or n if there is none. `passed` are the trusted subjects and those
-// whose cell was looked at, so that the search goes from one untrusted subject to the next.
-fn star_row(b: &[u8], f: Shape, trust: u64, k: usize, x: Name) -> usize
+// The lowest untrusted subject that has basic right k starred over x. The search goes from one untrusted subject to the next.
+fn star_row(b: &[u8], f: Shape, trust: u64, k: usize, x: Name) -> Option<usize>
     requires { NameIn b.now f x × (k < basics_of f) }
-    ensures { result ≡ least f.n (star_holder (state_of b.now) (trusted_by trust) x (Right.Basic k Form.Starred)) }
+    ensures { result ≡ some_below f.n (least f.n (star_holder (state_of b.now) (trusted_by trust) x (Right.Basic k Form.Starred))) }
 {
-    let n = f.n;
-    let mut passed = trust;
-    let mut v = masks::lowest_outside(passed);
-    while v < n {
+    for v in masks::outside(trust, f.n) {
         if states::has_bit(b, f, Right::Basic(k, Form::Starred), v, x) {
-            return v;
+            return Some(v);
         }
-        passed = masks::added(passed, v);
-        v = masks::lowest_outside(passed);
     }
-    n
+    None
 }
 
-// The lowest untrusted subject with the star of right y over x, or n if there is none. Own and control have no star.
-pub fn star_holder(b: &[u8], f: Shape, trust: u64, y: Right, x: Name) -> usize
+// The lowest untrusted subject with the star of right y over x. Own and control have no star.
+pub fn star_holder(b: &[u8], f: Shape, trust: u64, y: Right, x: Name) -> Option<usize>
     requires { NameIn b.now f x × RightIn f y }
-    ensures { result ≡ least f.n (star_holder (state_of b.now) (trusted_by trust) x y) }
+    ensures { result ≡ some_below f.n (least f.n (star_holder (state_of b.now) (trusted_by trust) x y)) }
 {
     match y {
-        Right::Own => f.n,
-        Right::Control => f.n,
+        Right::Own | Right::Control => None,
         Right::Basic(k, _) => star_row(b, f, trust, k, x),
     }
 }
@@ -51,17 +45,11 @@ pub fn star_holder(b: &[u8], f: Shape, trust: u64, y: Right, x: Name) -> usize
 pub fn is_possible(s: usize, x: Name, y: Right) -> bool
     ensures { result ≡ possible s x y }
 {
-    match x {
-        Name::Subject(o) => match y {
-            Right::Own => o != s && o != 0,
-            Right::Control => o != 0 || s == 0,
-            Right::Basic(_, _) => true,
-        },
-        Name::Plain(_) => match y {
-            Right::Own => true,
-            Right::Control => false,
-            Right::Basic(_, _) => true,
-        },
+    match (x, y) {
+        (Name::Subject(o), Right::Own) => o != s && o != 0,
+        (Name::Subject(o), Right::Control) => o != 0 || s == 0,
+        (Name::Plain(_), Right::Control) => false,
+        _ => true,
     }
 }
 
@@ -70,12 +58,7 @@ fn walk_meets(b: &[u8], f: Shape, owners: &[u8; MOST_SUBJECTS], s: usize, o: usi
     requires { Guessed b.now f owners.now × (s < f.n) }
     ensures { result ≡ meets (walk (state_of b.now) s (Name.Subject o)) }
 {
-    let found = states::owner_walk(b, f, owners, s, o);
-    match found {
-        Walked::Meets(_) => true,
-        Walked::Root(_) => false,
-        Walked::Lost => false,
-    }
+    matches!(states::owner_walk(b, f, owners, s, o), Walked::Meets(_))
 }
 
 // Whether x is to be destroyed and created again before right y over it is given to s: own of a subject that the walk from s meets, and
@@ -91,12 +74,9 @@ pub fn again_needed(
     requires { NameIn b.now f x × Guessed b.now f owners.now × (s < f.n) }
     ensures { result ≡ again_needed (state_of b.now) s x y }
 {
-    match x {
-        Name::Subject(o) => match y {
-            Right::Own => walk_meets(b, f, owners, s, o),
-            Right::Control => states::controlled(b, f, o),
-            Right::Basic(_, _) => false,
-        },
-        Name::Plain(_) => false,
+    match (x, y) {
+        (Name::Subject(o), Right::Own) => walk_meets(b, f, owners, s, o),
+        (Name::Subject(o), Right::Control) => states::controlled(b, f, o),
+        _ => false,
     }
 }

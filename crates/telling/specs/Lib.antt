@@ -1,3 +1,2 @@
 pub mod Tells
 pub mod Parts
-pub mod Paths

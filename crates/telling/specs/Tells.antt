@@ -1,6 +1,6 @@
 -- Parts of a list written one after another from a command's number on.
 use Rattle.std.specs.Prelude.{ℕ, ◌+◌, ◌≤◌, ◌≡◌, refl, Bool, true, false, cond, List, [], ◌∷◌, ◌++◌, length}
-use Rattle.std.proofs.Common.{add-zero, le_refl, arith, sym, ◌∙◌, ap, ap₂, length-append}
+use Rattle.std.proofs.Common.{add-zero, arith, sym, ◌∙◌, ap, ap₂, length-append}
 use Rattle.matrix.specs.declared.Fields.{Fields}
 use Rattle.matrix.specs.CommandList.{command_place}
 use Rattle.writing.specs.Put.{put_command, put_all}
@@ -38,16 +38,9 @@ pub tells_as : {out out' : List ℕ} {j r : ℕ} {cs ds : List Fields} → cs �
 tells_as {out} {j = j} e a =
     record { bytes = a.bytes ∙ ap (λ (l : List Fields). put_all out j l) e; next = a.next ∙ ap (λ (l : List Fields). j + length l) e }
 
--- a part that is written where a test holds
+-- a part that is written where a test holds, and is not
 pub tells_skipped : {t : Bool} (out : List ℕ) (j : ℕ) (cs : List Fields) → t ≡ false → Tells out out j (cond t cs []) j
 tells_skipped out j cs e = rw e (tells_none out j)
-
-pub tells_chosen : {out out' : List ℕ} {j r : ℕ} {cs : List Fields} {t : Bool} → t ≡ true → Tells out out' j cs r → Tells out out' j (cond t cs []) r
-tells_chosen e a = rw e a
-
-pub few_chosen : (t : Bool) (cs : List Fields) → length (cond t cs []) ≤ length cs
-few_chosen true cs = le_refl (length cs)
-few_chosen false cs = omega arith
 
 -- a command, and a part after it that is left out where a test holds
 pub tells_only : {out out' : List ℕ} {j r : ℕ} {c : Fields} {t : Bool} (cs : List Fields) → t ≡ true → Tells out out' j (c ∷ []) r

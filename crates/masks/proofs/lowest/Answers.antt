@@ -1,12 +1,9 @@
 -- `masks::lowest` meets its contract: trailing zeros stand below the lowest bit that is set.
-use native.Mathlib.Omega.{arith}
-use lib.Count.{trailing_le}
-use Rattle.masks.specs.Marks.{mask_bits}
-use Rattle.masks.specs.Counts.{trailing_least}
+use Rattle.masks.specs.Counts.{lowest_none, lowest_some}
 use Rattle.masks.proofs.lowest.Goals as goal
 
-pub overflow_cast-result : goal.overflow_cast-result
-overflow_cast-result c = omega (arith, trailing_le mask_bits c.args.set)
+pub returns-then-size-eq0 : goal.returns-then-size-eq0
+returns-then-size-eq0 c = lowest_none _ c.size.ensures c.if-size-eq0.true
 
 pub returns : goal.returns
-returns c = trailing_least mask_bits c.args.set
+returns c = lowest_some _ c.size.ensures c.if-size-eq0.false

@@ -4,4 +4,4 @@ use Rattle.masks.specs.Untrusted.{left_out}
 use Rattle.masks.proofs.untrusted.Goals as goal
 
 pub returns : goal.returns
-returns c = left_out c.args.set c.args.trust (omega arith)
+returns c = left_out c.args.set c.args.trust (omega arith) (omega arith)

@@ -1,5 +1,4 @@
--- The loop's invariant: bit j is seen where a row below r passes the test, and `low` is r rows after the first row's place.
-use Prim.Native.Nat.{◌+◌, ◌-◌, ◌*◌, ◌≤◌}
+-- The loop's invariant: bit j is seen where a row below r passes the test.
 use mathlib.Core.Path.{◌≡◌}
 use Rattle.matrix.specs.Bounded.{any}
 use Rattle.matrix.specs.Bytes.{bit}
@@ -7,7 +6,4 @@ use Rattle.row_search.specs.Rows.{row_has}
 use Rattle.row_search.proofs.some_row.Given as goal
 
 abbrev pub invariant-loop-r : goal.invariant-loop-r
-invariant-loop-r l = (l.r ≤ l.n) × (l.low ≡ l.initial.low + l.r * l.stride) × (bit l.j l.seen ≡ any l.r (row_has l.b l.c l.j l.skip))
-
-abbrev pub decreases-loop-r : goal.decreases-loop-r
-decreases-loop-r l = l.n - l.r
+invariant-loop-r l = bit l.j l.seen ≡ any l.r (row_has l.b l.c l.j l.skip)

@@ -4,11 +4,11 @@ use mathlib.Core.Path.{◌≡◌, refl, sym, ◌∙◌}
 use Rattle.matrix.specs.Shape.{limits}
 use Rattle.matrix.specs.Record.{record_refusal}
 use Rattle.matrix.specs.Shaped.{Octets}
-use Rattle.owners.proofs.Read.{valid_record}
 use Rattle.cells.specs.Station.{Station, right_shape}
 use Rattle.opening.specs.Opened.{station_of, long_enough}
+use Rattle.question.specs.Trust.{trusted_by}
 use Rattle.safety.specs.Turned.{turned_record}
-use Rattle.safety.specs.Whole.{unfit, no_room, Fitting, asked, asks, unheld, answered, answered_held}
+use Rattle.safety.specs.Whole.{unfit, no_room, Fitting, asked, bit_asked, subject_byte, column_byte, number_byte, asks_of, unheld, answered, answered_held}
 use Rattle.safety.proofs.ask.Goals as goal
 use Rattle.safety.proofs.ask.Goals.{After-shape-f, Else-out-f, Else-turned-ne0}
 
@@ -62,13 +62,24 @@ pub returns-then-is_held : goal.returns-then-is_held
 returns-then-is_held c =
     answered_held (fitting (goal.at.returns-then-is_held c).Else-out-f) refl refl c.is_held.ensures c.if-is_held.true c.leaks.ensures
 
+pub invariant_of-record : goal.invariant_of-record
+invariant_of-record c =
+    let q = fitting (goal.at.invariant_of-record c).Else-out-f in
+    record { station = q.station; valid = q.valid; size = c.refusal_with-turned.ensures.table }
+
+pub invariant_of-decide : goal.invariant_of-decide
+invariant_of-decide c =
+    let q = fitting (goal.at.invariant_of-decide c).Else-out-f in
+    let x = c.name_of-x.ensures in
+    let y = c.right_of-y.ensures in
+    record { subject = subject_byte q x y; column = column_byte q x y; number = number_byte q x y }
+
 pub decide-requires : goal.decide-requires
 decide-requires c =
-    let q = fitting (goal.at.decide-requires c).Else-out-f in (
-      asks q c.name_of-x.ensures c.right_of-y.ensures,
-      record { station = q.station; valid = valid_record _ q.valid; size = c.refusal_with-turned.ensures.table },
-      unheld q c.name_of-x.ensures c.right_of-y.ensures c.is_held.ensures c.if-is_held.false,
-    )
+    let q = fitting (goal.at.decide-requires c).Else-out-f in
+    let x = c.name_of-x.ensures in
+    let y = c.right_of-y.ensures in
+    (asks_of q.valid q.station (trusted_by c.args.trust) (bit_asked q x y) q.room, unheld q x y c.is_held.ensures c.if-is_held.false)
 
 pub returns : goal.returns
 returns c =

@@ -1,40 +1,42 @@
 -- `safety::decide` meets its contract: each return is the way that the tests before it leave.
-use mathlib.Core.Path.{◌≡◌}
+use mathlib.Core.Path.{◌≡◌, refl}
 use Rattle.matrix.specs.Reading.{state_of}
 use Rattle.states.specs.Reads.{top_is}
+use Rattle.row_search.specs.SomeBelow.{some_was, none_was}
 use Rattle.question.specs.Trust.{trusted_by}
 use Rattle.ways.specs.Ways.{by_star, way_over, way_made, way_of}
 use Rattle.safety.specs.Steps.{asks_at, told_at, told_none, way_impossible, way_star, way_over_lem, way_made_lem}
 use Rattle.safety.proofs.decide.Goals as goal
-use Rattle.safety.proofs.decide.Goals.{Else-name_exists, Then-i-n, Then-name_exists}
+use Rattle.safety.proofs.decide.Goals.{Else-name_exists, In-Some, Then-name_exists}
 
 -- which way it is where somebody has the star, and where nobody has: over an existing name, and over an absent one
-star_way : (c : Then-i-n) → way_of (state_of c.args.b.now) (trusted_by c.args.trust) c.args.s c.args.x c.args.y ≡ by_star c.star_holder-i.result
+star_way : (c : In-Some) → way_of (state_of c.args.r.now.b.now) (trusted_by c.args.trust) c.args.t.s c.args.t.x c.args.t.y ≡ by_star c.in-Some.i
 star_way c =
-    way_star _ _ _ _ _ c.requires.2 c.is_possible.ensures c.if-not-is_possible.false (top_is _ _ c.requires.0.bit.station) c.star_holder-i.ensures c.if-i-n.true
+    let i = some_was c.in-Some.ensures in
+    way_star _ _ _ _ _ c.requires.1 c.is_possible.ensures c.if-not-is_possible.false (top_is _ _ c.requires.0.bit.station) i.1 i.0
 
 over_way : (c : Then-name_exists)
-    → let a = c.args in way_of (state_of c.args.b.now) (trusted_by c.args.trust) c.args.s c.args.x c.args.y ≡ way_over (state_of a.b.now) (trusted_by a.trust) a.x
+    → let a = c.args in way_of (state_of c.args.r.now.b.now) (trusted_by c.args.trust) c.args.t.s c.args.t.x c.args.t.y ≡ way_over (state_of a.r.now.b.now) (trusted_by a.trust) a.t.x
 over_way c =
-    way_over_lem _ _ _ _ _ c.requires.2 c.is_possible.ensures c.if-not-is_possible.false (top_is _ _ c.requires.0.bit.station) c.star_holder-i.ensures c.if-i-n.false c.name_exists.ensures c.if-name_exists.true
+    way_over_lem _ _ _ _ _ c.requires.1 c.is_possible.ensures c.if-not-is_possible.false (top_is _ _ c.requires.0.bit.station) refl (none_was c.in_default.ensures) c.name_exists.ensures c.if-name_exists.true
 
 made_way : (c : Else-name_exists)
-    → let a = c.args in way_of (state_of c.args.b.now) (trusted_by c.args.trust) c.args.s c.args.x c.args.y ≡ way_made (state_of a.b.now) (trusted_by a.trust)
+    → let a = c.args in way_of (state_of c.args.r.now.b.now) (trusted_by c.args.trust) c.args.t.s c.args.t.x c.args.t.y ≡ way_made (state_of a.r.now.b.now) (trusted_by a.trust)
 made_way c =
-    way_made_lem _ _ _ _ _ c.requires.2 c.is_possible.ensures c.if-not-is_possible.false (top_is _ _ c.requires.0.bit.station) c.star_holder-i.ensures c.if-i-n.false c.name_exists.ensures c.if-name_exists.false
+    way_made_lem _ _ _ _ _ c.requires.1 c.is_possible.ensures c.if-not-is_possible.false (top_is _ _ c.requires.0.bit.station) refl (none_was c.in_default.ensures) c.name_exists.ensures c.if-name_exists.false
 
 pub returns-then-not-is_possible : goal.returns-then-not-is_possible
 returns-then-not-is_possible c =
-    told_at (way_impossible _ _ _ _ _ c.requires.2 c.is_possible.ensures c.if-not-is_possible.true) (told_none _ _ _ _ _)
+    told_at (way_impossible _ _ _ _ _ c.requires.1 c.is_possible.ensures c.if-not-is_possible.true) (told_none _ _ _ _ _)
 
 pub by_star-requires : goal.by_star-requires
-by_star-requires c = (asks_at (star_way (goal.at.by_star-requires c).Then-i-n) c.requires.0, c.if-i-n.true)
+by_star-requires c = (asks_at (star_way (goal.at.by_star-requires c).In-Some) c.requires.0, (some_was c.in-Some.ensures).0)
 
-pub returns-then-i-n : goal.returns-then-i-n
-returns-then-i-n c = told_at (star_way (goal.at.returns-then-i-n c).Then-i-n) c.by_star.ensures
+pub returns-in-Some : goal.returns-in-Some
+returns-in-Some c = told_at (star_way (goal.at.returns-in-Some c).In-Some) c.by_star.ensures
 
 pub over-requires : goal.over-requires
-over-requires c = let p = c.requires in (asks_at (over_way (goal.at.over-requires c).Then-name_exists) p.0, p.1)
+over-requires c = asks_at (over_way (goal.at.over-requires c).Then-name_exists) c.requires.0
 
 pub returns-then-name_exists : goal.returns-then-name_exists
 returns-then-name_exists c = told_at (over_way (goal.at.returns-then-name_exists c).Then-name_exists) c.over.ensures

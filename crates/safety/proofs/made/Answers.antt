@@ -1,15 +1,19 @@
 -- `safety::made` meets its contract.
+use mathlib.Core.Path.{refl}
 use Rattle.states.specs.Reads.{top_is}
+use Rattle.row_search.specs.SomeBelow.{some_was, none_was}
 use Rattle.safety.specs.Steps.{asks_at, told_at, told_none, made_by, made_none}
 use Rattle.safety.proofs.made.Goals as goal
 
-pub returns-then-n-v : goal.returns-then-n-v
-returns-then-n-v c = told_at (made_none _ _ (top_is _ _ c.requires.bit.station) c.lowest_untrusted-v.ensures c.if-n-v.true) (told_none _ _ _ _ _)
+pub returns-in_default : goal.returns-in_default
+returns-in_default c = told_at (made_none _ _ (top_is _ _ c.requires.bit.station) refl (none_was c.in_default.ensures)) (told_none _ _ _ _ _)
 
 pub by_creation-requires : goal.by_creation-requires
 by_creation-requires c =
-    (asks_at (made_by _ _ (top_is _ _ c.requires.bit.station) c.lowest_untrusted-v.ensures c.if-n-v.false) c.requires, c.if-n-v.false)
+    let v = some_was c.in-Some.ensures in
+    (asks_at (made_by _ _ (top_is _ _ c.requires.bit.station) v.1 v.0) c.requires, v.0)
 
 pub returns : goal.returns
 returns c =
-    told_at (made_by _ _ (top_is _ _ c.requires.bit.station) c.lowest_untrusted-v.ensures c.if-n-v.false) c.by_creation.ensures
+    let v = some_was c.in-Some.ensures in
+    told_at (made_by _ _ (top_is _ _ c.requires.bit.station) v.1 v.0) c.by_creation.ensures

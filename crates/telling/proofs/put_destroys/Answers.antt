@@ -1,32 +1,23 @@
 -- `telling::put_destroys` meets its contract.
-use Prim.Native.Nat.{◌-◌}
 use native.Mathlib.Omega.{arith}
-use Rattle.telling.specs.Paths.{reached_none, reached_length, destroy_pair, reached_more, reached_all}
+use Rattle.std.proofs.Common.{add-one, refl, ap, ◌∙◌, [], ◌∷◌, ◌++◌, take}
+use Rattle.matrix.specs.declared.Fields.{Fields}
+use Rattle.route.specs.Parts.{destroys_all}
+use Rattle.telling.specs.Tells.{tells_none, tells_as, tells_then}
+use Rattle.telling.specs.Parts.{destroys_none, destroys_more}
 use Rattle.telling.proofs.put_destroys.Goals as goal
 
-pub loop-t-init : goal.loop-t-init
-loop-t-init c = reached_none _ _ _ _
+pub loop-w-init : goal.loop-w-init
+loop-w-init c = record { told = tells_as (destroys_none c.args.v) (tells_none c.args.out.now 0); number = refl }
 
-pub overflow_sub-m : goal.overflow_sub-m
-overflow_sub-m c = omega arith
-
-pub overflow_sub-m-in-loop-t : goal.overflow_sub-m-in-loop-t
-overflow_sub-m-in-loop-t c = omega arith
-
-pub bounds-path-m : goal.bounds-path-m
-bounds-path-m c = omega (arith, c.requires.short)
-
-pub put_destroy-requires : goal.put_destroy-requires
-put_destroy-requires c = destroy_pair c.requires c.loop-t.invariant c.loop-t-test.true c.subject-w.ensures.1
-
-pub loop-t-smaller : goal.loop-t-smaller
-loop-t-smaller c = omega arith
-
-pub loop-t-preserved : goal.loop-t-preserved
-loop-t-preserved c = reached_more c.loop-t.invariant c.loop-t-test.true c.subject-w.ensures.0 c.put_destroy.ensures
-
-pub shape_of-out : goal.shape_of-out
-shape_of-out c = reached_length c.loop-t.invariant
-
-pub returns : goal.returns
-returns c = reached_all c.loop-t.invariant c.loop-t-test.false
+pub loop-w-preserved : goal.loop-w-preserved
+loop-w-preserved c =
+    let a = c.args in
+    let i = c.loop-w.invariant in
+    let ws = take c.loop-w.w-index a.path.now in
+    record {
+      told =
+          rw add-one (tells_as (ap (λ (d : Fields). destroys_all a.v ws ++ (d ∷ [])) c.destroys.ensures ∙ destroys_more a.v a.path.now c.loop-w.w-index c.loop-w-test.true)
+          (tells_then i.told c.put-j.ensures));
+      number = omega (arith, c.put-j.ensures.next, i.number);
+    }

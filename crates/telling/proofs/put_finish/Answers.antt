@@ -1,21 +1,9 @@
--- `telling::put_finish` meets its contract: the three parts of the definition one after another.
-use Rattle.telling.specs.Tells.{tells_then}
-use mathlib.Core.Bool.{cond}
-use Rattle.telling.specs.Parts.{pair_over, creating_pair, after_again, after_creating, tells_again}
+-- `telling::put_finish` meets its contract: the parts of the definition one after another.
+use Rattle.telling.specs.Tells.{tells_as, tells_then}
+use Rattle.telling.specs.Parts.{finish_is}
 use Rattle.telling.proofs.put_finish.Goals as goal
 
-pub put_again-after-requires : goal.put_again-after-requires
-put_again-after-requires c = pair_over (cond c.args.again 2 0) (cond c.args.absent 2 1) c.requires c.column_of-o.ensures
-
-pub put_created-next-requires : goal.put_created-next-requires
-put_created-next-requires c =
-    let a = c.args in
-    creating_pair a.absent (after_again a.again a.absent c.column_of-o.result c.requires c.put_again-after.ensures)
-
-pub put_gift-requires : goal.put_gift-requires
-put_gift-requires c =
-    let a = c.args in
-    after_creating a.absent (after_again a.again a.absent c.column_of-o.result c.requires c.put_again-after.ensures) c.put_created-next.ensures
-
 pub returns : goal.returns
-returns c = let a = c.args in tells_then (tells_again a.again a.v c.column_of-o.ensures c.put_again-after.ensures) (tells_then c.put_created-next.ensures c.put_gift.ensures)
+returns c =
+    tells_as (finish_is c.args.t.x c.args.t.y c.args.absent c.args.again c.column_of-o.ensures c.destroys.ensures c.creates.ensures c.creates-2.ensures c.gives.ensures)
+    (tells_then (tells_then c.put_if-j.ensures c.put_if-j-2.ensures) (tells_then c.put_if-j-3.ensures c.put.ensures))

@@ -1,6 +1,0 @@
--- `telling::put_one` meets its contract.
-use Rattle.telling.specs.Tells.{tells_one}
-use Rattle.telling.proofs.put_one.Goals as goal
-
-pub returns : goal.returns
-returns c = tells_one c.put_command.ensures
