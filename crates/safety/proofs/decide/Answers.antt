@@ -27,9 +27,6 @@ pub returns-then-not-is_possible : goal.returns-then-not-is_possible
 returns-then-not-is_possible c =
     told_at (way_impossible _ _ _ _ _ c.requires.1 c.is_possible.ensures c.if-not-is_possible.true) (told_none _ _ _ _ _)
 
-pub by_star-requires : goal.by_star-requires
-by_star-requires c = (asks_at (star_way (goal.at.by_star-requires c).Then-i-r) c.requires.0, c.if-i-r.true)
-
 pub returns-then-i-r : goal.returns-then-i-r
 returns-then-i-r c = told_at (star_way (goal.at.returns-then-i-r c).Then-i-r) c.by_star.ensures
 
