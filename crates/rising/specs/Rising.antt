@@ -9,7 +9,7 @@ use Rattle.matrix.specs.State.{State}
 use Rattle.matrix.specs.Owners.{owner_of}
 use Rattle.route.specs.Rise.{Risen, meets_at, none, rise}
 use Rattle.chain.specs.Rising.{rise_in, rise_here, rise_up}
-use Rattle.rising.specs.Shut.{Shut, Next}
+use Rattle.rising.specs.Shut.{Next}
 
 -- The way up has come to subject `at`, has passed these, and may visit `left` subjects more.
 pub record Rising (S : State) (trusted : ℕ → Bool) (w at : ℕ) (passed : List ℕ) (left : ℕ) : Type 0 where
@@ -22,10 +22,6 @@ module _ {S : State} {trusted : ℕ → Bool} {w at : ℕ} {passed : List ℕ} {
   pub risen_out : left ≡ 0 → rise_in S trusted S.top w [] ≡ none
   unfolding rise
   risen_out z = sym h.rest ∙ rw z refl
-
-  -- the way up has come to a subject that is shut
-  pub risen_shut : Shut S trusted at → rise_in S trusted S.top w [] ≡ none
-  risen_shut s = sym h.rest ∙ s.never left passed
 
   module _ (more : 0 < left) where
     one_more : rise_in S trusted left at passed ≡ rise_in S trusted (suc (left - 1)) at passed

@@ -20,11 +20,10 @@ use Rattle.question.specs.Safety.{Leaks}
 use Rattle.question.specs.Asked.{list_room}
 use Rattle.route.specs.Parts.{creates, creates_name, held_by_own, finish, destroys_all, among, basic_number}
 use Rattle.finish.specs.Finish.{again_needed}
-use Rattle.finish.specs.Lists.{finish_length}
 use Rattle.ways.specs.Ways.{Way, held_now, by_star, by_creation, from_above, list_of, made_held, passes_right}
-use Rattle.writing.specs.Put.{put_all, put_list, HeadRoom}
+use Rattle.writing.specs.Put.{put_all, put_list}
 use Rattle.telling.specs.declared.target.Target.{Target}
-use Rattle.telling.specs.Tells.{Tells, Fits, tells_length}
+use Rattle.telling.specs.Tells.{Tells, Fits}
 use Rattle.telling.specs.Parts.{length_destroys}
 use Rattle.told.specs.Told.{Told}
 use Rattle.safety.specs.Asks.{Asks, Headed}
@@ -91,17 +90,6 @@ module _ {b : List ℕ} {f : Shape} {t : Target} {w : Way} {out : List ℕ} (q :
   pub room_for : (j k : ℕ) {mid : List ℕ} → j + k ≤ f.n + 2 → length mid ≡ length out → Fits mid j k
   room_for j k e h = let r : list_room (f.n + 2) ≤ length out = q.room in record { fits = omega arith }
 
-  pub head_of : {mid : List ℕ} {k : ℕ} → k ≤ f.n + 2 → length mid ≡ length out → HeadRoom mid k
-  head_of e h = let r : list_room (f.n + 2) ≤ length out = q.room in record { fits = omega arith; few = omega (arith, shape.high) }
-
-  -- room for the head of a list of the way that was written whole
-  pub head_by : {mid : List ℕ} {k : ℕ} {cs : List Fields} → cs ≡ list_of (state_of b) t.s t.x t.y w → Tells out mid 0 cs k → HeadRoom mid k
-  head_by {k = k} {cs = cs} e d =
-      let i : k ≡ 0 + length cs = d.next in
-      let g : length cs ≡ length (list_of (state_of b) t.s t.x t.y w) = ap length e in
-      let h : length (list_of (state_of b) t.s t.x t.y w) ≤ f.n + 2 = q.few in
-      head_of (omega arith) (tells_length d)
-
 module _ {b : List ℕ} {f : Shape} {t : Target} {v : ℕ} {ws : List ℕ} {out : List ℕ} (q : Asks b f t (from_above v ws) out) where
   -- room for a command about each subject of a path
   pub path_room : Fits out 0 (length ws)
@@ -109,18 +97,6 @@ module _ {b : List ℕ} {f : Shape} {t : Target} {v : ℕ} {ws : List ℕ} {out 
       let after : List Fields =
       cond (held_by_own t.y && eqb t.s v) [] (finish v t.s t.x t.y (not (exists (state_of b) t.s) || among t.s ws) (again_needed (state_of b) t.s t.x t.y)) in
       room_for q 0 (length ws) (omega (arith, q.few, length-append (destroys_all v ws) after, length_destroys v ws)) refl
-
-  -- room for the end of a list after the subjects of a path were destroyed
-  pub finish_room : {first : List ℕ} {j : ℕ} (absent again : Bool)
-      → (destroys_all v ws ++ finish v t.s t.x t.y absent again) ≡ list_of (state_of b) t.s t.x t.y (from_above v ws) → Tells out first 0 (destroys_all v ws) j
-      → Fits first j (cond again 2 0 + cond absent 2 1)
-  finish_room {j = j} absent again e d =
-      let i : j ≡ 0 + length (destroys_all v ws) = d.next in
-      let g : length (destroys_all v ws ++ finish v t.s t.x t.y absent again) ≡ length (list_of (state_of b) t.s t.x t.y (from_above v ws)) = ap length e in
-      let h : length (destroys_all v ws ++ finish v t.s t.x t.y absent again) ≡ length (destroys_all v ws) + length (finish v t.s t.x t.y absent again) = length-append (destroys_all v ws) (finish v t.s t.x t.y absent again) in
-      let k : length (finish v t.s t.x t.y absent again) ≡ cond again 2 0 + cond absent 2 1 = finish_length v t.s t.x t.y absent again in
-      let m : length (list_of (state_of b) t.s t.x t.y (from_above v ws)) ≤ f.n + 2 = q.few in
-      room_for q j (cond again 2 0 + cond absent 2 1) (omega arith) (tells_length d)
 
 -- a column of a record's name is a byte
 pub column_few : {f : Shape} (x : Name) → ShapeRight f → named f.n f.p x ≡ true → column_of x < 256

@@ -54,6 +54,3 @@ tells_more e a b = rw e (tells_then a b)
 -- writing keeps the buffer's length, so the room for the parts still to come stays
 pub tells_length : {out out' : List ℕ} {j r : ℕ} {cs : List Fields} → Tells out out' j cs r → length out' ≡ length out
 tells_length {out} {j = j} {cs = cs} a = ap length a.bytes ∙ length_put_all out j cs
-
-pub fits_after : {out out' : List ℕ} {j r : ℕ} {cs : List Fields} (k m : ℕ) → Fits out j (k + m) → length cs ≤ k → Tells out out' j cs r → Fits out' r m
-fits_after k m f few a = record { fits = omega (arith, f.fits, few, a.next, tells_length a) }

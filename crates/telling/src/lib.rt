@@ -37,30 +37,25 @@ fn put_if(wanted: bool, out: &mut [u8], j: usize, c: Fields) -> usize
     put(out, j, c)
 }
 
+// A command by its fields.
+fn fields(code: usize, i: usize, s: usize, o: usize, k: usize) -> Fields
+    ensures { result ≡ fields code i s o k }
+{
+    Fields { code, i, s, o, k }
+}
+
 // v destroys subject w.
 fn destroys(v: usize, w: usize) -> Fields
     ensures { result ≡ destroys v w }
 {
-    Fields {
-        code: 13,
-        i: v,
-        s: w,
-        o: 0,
-        k: 0,
-    }
+    fields(13, v, w, 0, 0)
 }
 
 // v creates subject w.
 fn creates(v: usize, w: usize) -> Fields
     ensures { result ≡ creates v w }
 {
-    Fields {
-        code: 12,
-        i: v,
-        s: w,
-        o: 0,
-        k: 0,
-    }
+    fields(12, v, w, 0, 0)
 }
 
 // v creates x.
@@ -69,13 +64,7 @@ fn creates_name(v: usize, x: Name) -> Fields
 {
     match x {
         Name::Subject(w) => creates(v, w),
-        Name::Plain(o) => Fields {
-            code: 10,
-            i: v,
-            s: 0,
-            o,
-            k: 0,
-        },
+        Name::Plain(o) => fields(10, v, 0, o, 0),
     }
 }
 
@@ -116,10 +105,7 @@ fn basic_number(y: Right) -> usize
 fn aimed(code: usize, i: usize, t: Target) -> Fields
     ensures { result ≡ fields code i t.s (column_of t.x) (basic_number t.y) }
 {
-    let s = t.s;
-    let o = states::column_of(t.x);
-    let k = basic_number(t.y);
-    Fields { code, i, s, o, k }
+    fields(code, i, t.s, states::column_of(t.x), basic_number(t.y))
 }
 
 // v, who owns the name, gives the right.
