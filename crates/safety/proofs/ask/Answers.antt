@@ -1,59 +1,52 @@
 -- `safety::ask` meets its contract.
 use native.Mathlib.Omega.{arith}
 use mathlib.Core.Path.{◌≡◌, refl, sym, ◌∙◌}
+use Rattle.std.proofs.lemmas.Result.{err_from_is_err_and}
+use Rattle.laws.specs.Refusals.{some_number}
 use Rattle.matrix.specs.Shape.{limits}
 use Rattle.matrix.specs.Record.{record_refusal}
-use Rattle.matrix.specs.Shaped.{Octets}
-use Rattle.cells.specs.Station.{Station, right_shape}
-use Rattle.opening.specs.Opened.{station_of, long_enough}
+use Rattle.cells.specs.Station.{right_shape}
 use Rattle.question.specs.Trust.{trusted_by}
 use Rattle.safety.specs.Turned.{turned_record}
 use Rattle.safety.specs.Whole.{unfit, no_room, Fitting, asked, bit_asked, subject_byte, column_byte, number_byte, asks_of, unheld, answered, answered_held}
 use Rattle.safety.proofs.ask.Goals as goal
-use Rattle.safety.proofs.ask.Goals.{After-shape-f, Else-out-f, Else-turned-ne0}
+use Rattle.safety.proofs.ask.Goals.{In_ok-f, Else-out-f}
+
+pub returns-in_err-f : goal.returns-in_err-f
+returns-in_err-f c =
+    let p = err_from_is_err_and c.from_residual.result c.from_residual.ensures.1 in
+    rw (p.1, p.2) (turned_record _ _ _ _ _ _ c.in_err-f.ensures.opened.number (some_number _))
 
 -- where the record is not turned down
-right : (c : Else-turned-ne0) → record_refusal limits c.args.b.now ≡ 0
-right c = sym c.refusal_with-turned.ensures.refusal ∙ c.if-turned-ne0.false
-
-octets : (c : Else-turned-ne0) → Octets c.args.b.now
-octets c = record { octet = λ j. (c.type_inv.b j).fits }
-
-opened : (c : After-shape-f) → Station c.args.b.now c.shape-f.result
-opened c = station_of ((record { octet = λ j. (c.type_inv.b j).fits })) ((sym c.refusal_with-turned.ensures.refusal ∙ c.if-turned-ne0.false)) c.shape-f.ensures
-
-pub returns-then-turned-ne0 : goal.returns-then-turned-ne0
-returns-then-turned-ne0 c = turned_record _ _ _ _ _ _ c.refusal_with-turned.ensures.refusal c.if-turned-ne0.true
-
-pub shape-f-requires : goal.shape-f-requires
-shape-f-requires c = long_enough _ (right c)
+right : (c : In_ok-f) → record_refusal limits c.args.b.now ≡ 0
+right c = sym c.in_ok-f.ensures.opened.number
 
 pub within_bounds-requires : goal.within_bounds-requires
-within_bounds-requires c = right_shape (opened c)
+within_bounds-requires c = right_shape c.in_ok-f.ensures.opened.station
 
 pub returns-then-not-within_bounds : goal.returns-then-not-within_bounds
 returns-then-not-within_bounds c =
     let a = c.args in
-    unfit (right (goal.at.returns-then-not-within_bounds c).Else-turned-ne0) (opened (goal.at.returns-then-not-within_bounds c).After-shape-f) a.trust a.s a.o a.right a.out.now c.within_bounds.ensures c.if-not-within_bounds.true
+    unfit (right (goal.at.returns-then-not-within_bounds c).In_ok-f) c.in_ok-f.ensures.opened.station a.trust a.s a.o a.right a.out.now c.within_bounds.ensures c.if-not-within_bounds.true
 
 pub overflow_add-f : goal.overflow_add-f
-overflow_add-f c = omega (arith, (right_shape (opened (goal.at.overflow_add-f c).After-shape-f)).high)
+overflow_add-f c = omega (arith, (right_shape c.in_ok-f.ensures.opened.station).high)
 
 pub overflow_mul-f : goal.overflow_mul-f
-overflow_mul-f c = omega (arith, (right_shape (opened (goal.at.overflow_mul-f c).After-shape-f)).high)
+overflow_mul-f c = omega (arith, (right_shape c.in_ok-f.ensures.opened.station).high)
 
 pub overflow_add-f-2 : goal.overflow_add-f-2
-overflow_add-f-2 c = omega (arith, (right_shape (opened (goal.at.overflow_add-f-2 c).After-shape-f)).high)
+overflow_add-f-2 c = omega (arith, (right_shape c.in_ok-f.ensures.opened.station).high)
 
 pub returns-then-out-f : goal.returns-then-out-f
 returns-then-out-f c =
     let a = c.args in
-    no_room (right (goal.at.returns-then-out-f c).Else-turned-ne0) (opened (goal.at.returns-then-out-f c).After-shape-f) a.trust a.s a.o a.right a.out.now c.within_bounds.ensures c.if-not-within_bounds.false c.if-out-f.true
+    no_room (right (goal.at.returns-then-out-f c).In_ok-f) c.in_ok-f.ensures.opened.station a.trust a.s a.o a.right a.out.now c.within_bounds.ensures c.if-not-within_bounds.false c.if-out-f.true
 
 fitting : (c : Else-out-f)
-    → Fitting c.args.b.now c.shape-f.result c.args.trust c.args.s c.args.o c.args.right c.args.out.now
+    → Fitting c.args.b.now c.in_ok-f.f c.args.trust c.args.s c.args.o c.args.right c.args.out.now
 fitting c =
-    record { valid = (sym c.refusal_with-turned.ensures.refusal ∙ c.if-turned-ne0.false); station = (station_of ((record { octet = λ j. (c.type_inv.b j).fits })) ((sym c.refusal_with-turned.ensures.refusal ∙ c.if-turned-ne0.false)) c.shape-f.ensures); fit = sym c.within_bounds.ensures ∙ c.if-not-within_bounds.false; room = c.if-out-f.false }
+    record { valid = sym c.in_ok-f.ensures.opened.number; station = c.in_ok-f.ensures.opened.station; fit = sym c.within_bounds.ensures ∙ c.if-not-within_bounds.false; room = c.if-out-f.false }
 
 pub is_held-requires : goal.is_held-requires
 is_held-requires c = asked (fitting c)
@@ -65,7 +58,7 @@ returns-then-is_held c =
 pub invariant_of-record : goal.invariant_of-record
 invariant_of-record c =
     let q = fitting (goal.at.invariant_of-record c).Else-out-f in
-    record { station = q.station; valid = q.valid; size = c.refusal_with-turned.ensures.table }
+    record { station = q.station; valid = q.valid; size = c.open_with.ensures.table }
 
 pub invariant_of-decide : goal.invariant_of-decide
 invariant_of-decide c =
