@@ -1,5 +1,5 @@
 // What is asked of a record: a command, whether a right is held, and the safety question. Each is printed as its numbers.
-use crate::answers::{Answered, Held, Told};
+use crate::answers::{Answered, Held, InNumbers, Told};
 use std::fmt;
 
 // A command: code, i, s, o and k.
@@ -7,7 +7,7 @@ use std::fmt;
 pub struct Command(pub u8, pub u8, pub u8, pub u8, pub u8);
 
 impl Command {
-    // Asks for the command on a record.
+    // Asks a record for the command, which changes it where it is accepted.
     pub fn ask(self, b: &mut [u8]) -> Answered {
         let Command(code, i, s, o, k) = self;
         Answered(station::command(b, code.into(), i.into(), s.into(), o.into(), k.into()))
@@ -19,10 +19,10 @@ impl Command {
         [1, 0, 0, 0, 6, 5, code, i, s, o, k]
     }
 
-    // The right of a code that the command's s may hold over its o.
-    pub fn right(self, code: u8) -> Right {
+    // Whether the command's s holds the right of a code over its o.
+    pub fn held_question(self, right: u8) -> HeldQuestion {
         let Command(_, _, s, o, _) = self;
-        Right(s, o, code)
+        HeldQuestion(s, o, right)
     }
 }
 
@@ -33,22 +33,27 @@ impl fmt::Display for Command {
     }
 }
 
-// The right that a subject may hold over a column: the subject, the column and the right's code.
+// Whether a right is held: the subject, the column and the right's code.
 #[derive(Clone, Copy)]
-pub struct Right(pub u8, pub u8, pub u8);
+pub struct HeldQuestion(pub u8, pub u8, pub u8);
 
-impl Right {
-    // Asks a record whether the right is held.
+impl HeldQuestion {
     pub fn ask(self, b: &[u8]) -> Held {
-        let Right(s, o, code) = self;
-        Held(station::held(b, s.into(), o.into(), code.into()))
+        let HeldQuestion(s, o, right) = self;
+        Held(station::held(b, s.into(), o.into(), right.into()))
+    }
+
+    // Asks after which command of a list the right is first held.
+    pub fn ask_first(self, b: &[u8], list: &[u8], copy: &mut [u8]) -> InNumbers {
+        let HeldQuestion(s, o, right) = self;
+        InNumbers(station::first_held(b, list, s.into(), o.into(), right.into(), copy))
     }
 }
 
-impl fmt::Display for Right {
+impl fmt::Display for HeldQuestion {
     fn fmt<W: fmt::Write>(&self, f: &mut fmt::Formatter<W>) -> fmt::Result {
-        let Right(s, o, code) = *self;
-        write!(f, "{s} {o} {code}")
+        let HeldQuestion(s, o, right) = *self;
+        write!(f, "{s} {o} {right}")
     }
 }
 
@@ -57,7 +62,7 @@ impl fmt::Display for Right {
 pub struct Question(pub u8, pub u8, pub u8, pub u8);
 
 impl Question {
-    // Asks the question of a record, with a buffer for the list that leaks.
+    // Asks the question of a record. A list that leaks is written into the buffer.
     pub fn ask(self, b: &[u8], out: &mut [u8]) -> Told {
         let Question(trust, s, o, right) = self;
         Told(station::safety(b, trust.into(), s.into(), o.into(), right.into(), out))

@@ -1,5 +1,5 @@
 // The bytes that are lent to the calls, in fixed memory: the first of an array, of which one may be replaced.
-ghost use Rattle.std.specs.Prelude.{◌<◌, ◌≤◌, length};
+ghost use Rattle.std.specs.Prelude.{◌≡◌, ◌<◌, ◌≤◌, length, take};
 
 use std::fmt;
 
@@ -15,6 +15,7 @@ impl<const N: usize> Buffer<N> {
     // The first bytes of an array.
     pub fn first(all: [u8; N], len: usize) -> Self
         requires { len ≤ N }
+        ensures { take result.len result.all ≡ take len all.entry }
     {
         Buffer { all, len }
     }
@@ -22,6 +23,7 @@ impl<const N: usize> Buffer<N> {
     // A copy of other bytes.
     pub fn copy_of(bytes: &[u8]) -> Self
         requires { length bytes.now ≤ N }
+        ensures { take result.len result.all ≡ bytes.now }
     {
         let len = bytes.len();
         let mut all = [0; N];
@@ -38,7 +40,9 @@ impl<const N: usize> Buffer<N> {
         buffer
     }
 
-    pub fn bytes(&self) -> &[u8] {
+    pub fn bytes(&self) -> &[u8]
+        ensures { result.now ≡ take self.now.len self.now.all }
+    {
         &self.all[..self.len]
     }
 

@@ -32,11 +32,11 @@ fn versions(rt: &impl Print) -> io::Result<()> {
     let mut back = [7u8; LARGEST];
     let mut short = [7u8; LARGEST_2 - 1];
     let there = Version::Two.ask(&b, &mut two);
-    let validity = validity(&two);
+    let valid = validity(&two);
     let and_back = Version::One.ask(&two, &mut back);
     let after = compared(&b, &back);
     let refused = Version::Two.ask(&b, &mut short);
-    println!(rt; "row 0: the largest record, {there}: {validity}, {and_back}, {after}")?;
+    println!(rt; "row 0: the largest record, {there}: {valid}, {and_back}, {after}")?;
     println!(rt; "row 15: the largest record, {refused}")
 }
 
@@ -46,12 +46,12 @@ fn question(rt: &impl Print) -> io::Result<()> {
     let mut out = [0u8; ROOM];
     let mut short = [0u8; ROOM - 1];
     let question = Question(0, 39, 159, 2);
-    let validity = validity(&b);
+    let valid = validity(&b);
     let answer = question.ask(&b, &mut out);
     let refused = question.ask(&b, &mut short);
     let room = out.len();
     println!(rt;
-        "row 0: the largest record: {validity}, safety {question}, buffer of {room} bytes: {answer}"
+        "row 0: the largest record: {valid}, safety {question}, buffer of {room} bytes: {answer}"
     )?;
     let room = short.len();
     println!(rt; "row 15: the largest record, safety {question}, buffer of {room} bytes: {refused}")

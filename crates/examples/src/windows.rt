@@ -2,7 +2,6 @@
 // several is the answer to the last of them.
 use crate::answers::InNumbers;
 use history::WINDOW_BYTES;
-use matrix::Numbers;
 use std::io;
 
 // An entry: the initiator of a command and its outcome.
@@ -10,9 +9,9 @@ use std::io;
 struct Entry(u8, u8);
 
 impl Entry {
-    fn put(self, w: &mut [u8]) -> Numbers {
+    fn put(self, w: &mut [u8]) -> InNumbers {
         let Entry(initiator, outcome) = self;
-        window::put(w, initiator.into(), outcome.into())
+        InNumbers(window::put(w, initiator.into(), outcome.into()))
     }
 
     // The entry goes in once and so many times more.
@@ -21,7 +20,7 @@ impl Entry {
         for _ in 0..more {
             last = self.put(w);
         }
-        InNumbers(last)
+        last
     }
 }
 
