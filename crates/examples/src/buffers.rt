@@ -31,13 +31,12 @@ impl<const N: usize> Buffer<N> {
         Buffer { all, len }
     }
 
-    // The same bytes, with one replaced if there is one to be replaced.
-    pub fn with(self, replaced: Option<Replaced<N>>) -> Self {
-        let mut buffer = self;
+    // The same bytes, but for the one that is replaced, if one is.
+    pub fn with(mut self, replaced: Option<Replaced<N>>) -> Self {
         if let Some(Replaced { at, byte }) = replaced {
-            buffer.all[at] = byte;
+            self.all[at] = byte;
         }
-        buffer
+        self
     }
 
     pub fn bytes(&self) -> &[u8]

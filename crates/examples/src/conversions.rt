@@ -26,9 +26,11 @@ fn becomes(
     for (to, from) in wanted.bytes_mut().iter_mut().zip(new.buffer().bytes()) {
         *to = *from;
     }
-    let converted = new.version().ask(record.buffer().bytes(), out.bytes_mut());
-    let compared = against(wanted.bytes(), out.bytes());
-    println!(rt; "row 0: {record}, {converted}, {compared}: {new}")
+    let converted = new
+        .version()
+        .convert(record.buffer().bytes(), out.bytes_mut());
+    let told = against(wanted.bytes(), out.bytes());
+    println!(rt; "row 0: {record}, {converted}, {told}: {new}")
 }
 
 // A conversion of a record is turned down.
@@ -40,7 +42,7 @@ fn refused(
     mut out: Buffer<MOST_BYTES>,
 ) -> io::Result<()> {
     let before = out;
-    let converted = wanted.ask(record.buffer().bytes(), out.bytes_mut());
+    let converted = wanted.convert(record.buffer().bytes(), out.bytes_mut());
     let after = compared(before.bytes(), out.bytes());
     println!(rt; "row {row}: {record}, {converted}, {after}")
 }
@@ -53,13 +55,11 @@ fn there_and_back(
     mut back: Buffer<MOST_BYTES>,
 ) -> io::Result<()> {
     let original = record.buffer();
-    let there = record
-        .version()
-        .other()
-        .ask(original.bytes(), other.bytes_mut());
-    let and_back = record.version().ask(other.bytes(), back.bytes_mut());
-    let compared = against(original.bytes(), back.bytes());
-    println!(rt; "row 0: {record}, {there}, {and_back}, {compared}: {record}")
+    let version = record.version();
+    let there = version.other().convert(original.bytes(), other.bytes_mut());
+    let and_back = version.convert(other.bytes(), back.bytes_mut());
+    let told = against(original.bytes(), back.bytes());
+    println!(rt; "row 0: {record}, {there}, {and_back}, {told}: {record}")
 }
 
 pub fn all(rt: &impl Print) -> io::Result<()> {

@@ -31,11 +31,11 @@ fn versions(rt: &impl Print) -> io::Result<()> {
     let mut two = [7u8; LARGEST_2];
     let mut back = [7u8; LARGEST];
     let mut short = [7u8; LARGEST_2 - 1];
-    let there = Version::Two.ask(&b, &mut two);
+    let there = Version::Two.convert(&b, &mut two);
     let valid = validity(&two);
-    let and_back = Version::One.ask(&two, &mut back);
+    let and_back = Version::One.convert(&two, &mut back);
     let after = compared(&b, &back);
-    let refused = Version::Two.ask(&b, &mut short);
+    let refused = Version::Two.convert(&b, &mut short);
     println!(rt; "row 0: the largest record, {there}: {valid}, {and_back}, {after}")?;
     println!(rt; "row 15: the largest record, {refused}")
 }

@@ -113,8 +113,8 @@ impl Record {
         requires { at < MOST_BYTES }
     {
         Record {
-            original: self.original,
             replaced: Some(Replaced::new(at, byte)),
+            ..self
         }
     }
 
@@ -129,13 +129,6 @@ impl Record {
     }
 }
 
-// An output, or a copy, of so many bytes that are 7.
-pub fn output(room: usize) -> Buffer<MOST_BYTES>
-    requires { room ≤ MOST_BYTES }
-{
-    Buffer::first([7; MOST_BYTES], room)
-}
-
 impl fmt::Display for Record {
     fn fmt<W: fmt::Write>(&self, f: &mut fmt::Formatter<W>) -> fmt::Result {
         let Record { original, replaced } = *self;
@@ -145,4 +138,11 @@ impl fmt::Display for Record {
         }
         Ok(())
     }
+}
+
+// An output, or a copy, of so many bytes that are 7.
+pub fn output(room: usize) -> Buffer<MOST_BYTES>
+    requires { room ≤ MOST_BYTES }
+{
+    Buffer::first([7; MOST_BYTES], room)
 }

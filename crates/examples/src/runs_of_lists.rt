@@ -47,8 +47,8 @@ impl List {
         let replaced = Some(Replaced::new(at, byte));
         List {
             buffer: self.buffer.with(replaced),
-            l: self.l,
             replaced,
+            ..self
         }
     }
 
@@ -108,7 +108,7 @@ fn kept(rt: &impl Print) -> io::Result<()> {
     let ran = Ran(station::run(by_list.bytes_mut(), list.bytes()));
     let to_first = first.ask(by_commands.bytes_mut());
     let to_second = second.ask(by_commands.bytes_mut());
-    let compared = if by_list.bytes() == by_commands.bytes() {
+    let told = if by_list.bytes() == by_commands.bytes() {
         "equal"
     } else {
         "differ"
@@ -116,7 +116,7 @@ fn kept(rt: &impl Print) -> io::Result<()> {
     print!(rt;
         "row 14: A, {list}: {ran}, command {first}: {to_first}, command {second}: {to_second}"
     )?;
-    println!(rt; ", bytes {compared}")
+    println!(rt; ", bytes {told}")
 }
 
 // Log 3 goes from 2 to 1, from 1 to 0 and back to 2.

@@ -17,7 +17,7 @@ impl Version {
     }
 
     // Converts a record into this version.
-    pub fn ask(self, b: &[u8], out: &mut [u8]) -> Converted {
+    pub fn convert(self, b: &[u8], out: &mut [u8]) -> Converted {
         let room = out.len();
         let answer = match self {
             Version::One => station::to_version_1(b, out),
