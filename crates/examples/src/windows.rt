@@ -2,7 +2,7 @@
 // several is the answer to the last of them.
 use crate::answers::InNumbers;
 use history::WINDOW_BYTES;
-use std::io;
+use std::{fmt, io};
 
 // An entry: the initiator of a command and its outcome.
 #[derive(Clone, Copy)]
@@ -24,10 +24,17 @@ impl Entry {
     }
 }
 
+impl fmt::Display for Entry {
+    fn fmt<W: fmt::Write>(&self, f: &mut fmt::Formatter<W>) -> fmt::Result {
+        let Entry(initiator, outcome) = *self;
+        write!(f, "{initiator} {outcome}")
+    }
+}
+
 pub fn all(rt: &impl Print) -> io::Result<()> {
     let mut w = [7u8; WINDOW_BYTES];
     window::empty(&mut w);
-    // Of each row the entry, how many times more it goes in, and then the number whose count is asked for.
+    // Each row has an entry, how many times more it goes in, and the number whose count is asked for then.
     for (row, entry, more, number) in [
         // an initiator and a number of 64
         (17u8, Entry(64, 12), 0, 63u8),
@@ -43,11 +50,10 @@ pub fn all(rt: &impl Print) -> io::Result<()> {
         (0, Entry(9, 0), 1, 5),
         (17, Entry(255, 12), 9, 5),
     ] {
-        let Entry(initiator, outcome) = entry;
         let times = u16::from(more) + 1;
         let put = entry.put_some(&mut w, more);
         let count = InNumbers(window::count(&w, number.into()));
-        print!(rt; "row {row}: window, put {initiator} {outcome}, times {times}: {put}")?;
+        print!(rt; "row {row}: window, put {entry}, times {times}: {put}")?;
         println!(rt; ", count {number}: {count}")?;
     }
     Ok(())
