@@ -2,9 +2,10 @@
 
 #![tactic(auto)]
 
+ghost use Rattle.question.specs.Safety.{safety_of};
 ghost use Rattle.asking.specs.Input.{AnswersInput};
 
-use question::Safety;
+use matrix::Refusal;
 
 // The most bytes of the input, and the bytes of the question at its end.
 pub const MOST_INPUT: usize = 65536;
@@ -12,15 +13,15 @@ pub const MOST_INPUT: usize = 65536;
 const QUESTION_BYTES: usize = 11;
 
 // The answer to the question in the input, with the list that leaks in `out`.
-pub fn ask(input: &[u8], out: &mut [u8]) -> Safety
-    ensures { AnswersInput input.now out.old out.new result }
+pub fn ask(input: &[u8], out: &mut [u8]) -> Result<Option<usize>, Refusal>
+    ensures { AnswersInput input.now out.old out.new (safety_of result) }
 {
     let size = input.len();
     if MOST_INPUT < size {
-        return Safety::Refused(4);
+        return Err(Refusal::RecordLength);
     }
     if size < QUESTION_BYTES {
-        return Safety::Refused(1);
+        return Err(Refusal::RecordShort);
     }
     let at = size - QUESTION_BYTES;
     let trust = octets::eight(input, at);

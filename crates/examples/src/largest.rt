@@ -1,7 +1,7 @@
 // The largest record, of 40 subject names and 120 plain names, in which U alone exists.
-use crate::conversions::ask_version;
-use crate::lines::{ask_valid, compare, say};
-use crate::questions::ask;
+use crate::answers::{compared, validity};
+use crate::asked::Question;
+use crate::versions::Version;
 use std::io;
 
 // The number of its bytes.
@@ -30,27 +30,31 @@ fn versions(rt: &impl Print) -> io::Result<()> {
     let b = largest();
     let mut two = [7u8; LARGEST_2];
     let mut back = [7u8; LARGEST];
-    say(rt, b"row 0: the largest record")?;
-    ask_version(rt, &b, 2, &mut two)?;
-    ask_valid(rt, &two)?;
-    ask_version(rt, &two, 1, &mut back)?;
-    compare(rt, &b, &back)?;
     let mut short = [7u8; LARGEST_2 - 1];
-    say(rt, b"\nrow 15: the largest record")?;
-    ask_version(rt, &b, 2, &mut short)?;
-    say(rt, b"\n")
+    let there = Version::Two.convert(&b, &mut two);
+    let valid = validity(&two);
+    let and_back = Version::One.convert(&two, &mut back);
+    let after = compared(&b, &back);
+    let refused = Version::Two.convert(&b, &mut short);
+    println!(rt; "row 0: the largest record, {there}: {valid}, {and_back}, {after}")?;
+    println!(rt; "row 15: the largest record, {refused}")
 }
 
 // Whether login 39 can come to hold basic right 0 over log 159, the last of its names, with nobody trusted.
 fn question(rt: &impl Print) -> io::Result<()> {
     let b = largest();
     let mut out = [0u8; ROOM];
-    say(rt, b"row 0: the largest record")?;
-    ask_valid(rt, &b)?;
-    ask(rt, &b, 0, 39, 159, 2, &mut out)?;
     let mut short = [0u8; ROOM - 1];
-    say(rt, b"row 15: the largest record")?;
-    ask(rt, &b, 0, 39, 159, 2, &mut short)
+    let question = Question(0, 39, 159, 2);
+    let valid = validity(&b);
+    let answer = question.ask(&b, &mut out);
+    let refused = question.ask(&b, &mut short);
+    let room = out.len();
+    println!(rt;
+        "row 0: the largest record: {valid}, safety {question}, buffer of {room} bytes: {answer}"
+    )?;
+    let room = short.len();
+    println!(rt; "row 15: the largest record, safety {question}, buffer of {room} bytes: {refused}")
 }
 
 pub fn all(rt: &impl Print) -> io::Result<()> {

@@ -6,14 +6,17 @@
 
 #![tactic(auto)]
 
+mod answers;
+mod asked;
+mod buffers;
 mod conversions;
 mod first_held;
 mod largest;
-mod lines;
 mod questions;
 mod records;
 mod rows;
 mod runs_of_lists;
+mod versions;
 mod windows;
 
 use std::io;

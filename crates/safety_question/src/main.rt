@@ -10,7 +10,6 @@ ghost use Rattle.std.specs.Io.KnownBytes.{Consumes, IsAtEnd};
 use asking::MOST_INPUT;
 use lists::List;
 use matrix::{Fields, LIST_HEAD, MOST_SUBJECTS, RECORD_BYTES};
-use question::Safety;
 use std::io::{self, Read};
 
 // The bytes of the longest list that leaks.
@@ -34,19 +33,10 @@ fn read_full<R: Read>(input: &mut R, buffer: &mut [u8]) -> io::Result<usize>
     Ok(size)
 }
 
-// A number, with one space before it.
-fn print_next(rt: &impl Print, x: usize) -> io::Result<()> {
-    print!(rt; " {x}")
-}
-
 // A command: code, i, s, o, k.
 fn print_command(rt: &impl Print, c: Fields) -> io::Result<()> {
-    print!(rt; "{}", c.code)?;
-    print_next(rt, c.i)?;
-    print_next(rt, c.s)?;
-    print_next(rt, c.o)?;
-    print_next(rt, c.k)?;
-    println!(rt; "")
+    let Fields { code, i, s, o, k } = c;
+    println!(rt; "{code} {i} {s} {o} {k}")
 }
 
 // The commands of a list, a line for each.
@@ -57,24 +47,17 @@ fn print_list(rt: &impl Print, list: List) -> io::Result<()> {
     Ok(())
 }
 
-// A word and a number.
-fn print_count(rt: &impl Print, word: &[u8], count: usize) -> io::Result<()> {
-    rt.write_all(word)?;
-    println!(rt; "{count}")
-}
-
 fn main(rt: HostRuntime) -> io::Result<()> {
     let mut input = [0u8; MOST_INPUT + 1];
     let size = read_full(&mut rt.stdin(), &mut input)?;
     let mut out = [0u8; LONGEST_LIST];
-    let r = asking::ask(&input[..size], &mut out);
-    match r {
-        Safety::Safe => println!(rt; "safe"),
-        Safety::Refused(number) => print_count(&rt, b"refused ", number),
-        Safety::Leaks(count) => {
-            print_count(&rt, b"leaks ", count)?;
+    match asking::ask(&input[..size], &mut out) {
+        Ok(None) => println!(rt; "safe"),
+        Ok(Some(count)) => {
+            println!(rt; "leaks {count}")?;
             let list = List::read(&out[..LIST_HEAD + RECORD_BYTES * count]).unwrap();
             print_list(&rt, list)
         }
+        Err(refusal) => println!(rt; "refused {}", refusal.number()),
     }
 }
