@@ -4,7 +4,7 @@ use Rattle.std.specs.Prelude.{ℕ, ◌+◌, ◌*◌, ◌≤◌, ◌<◌, ◌≡�
 use Rattle.matrix.specs.Bytes.{bit}
 use Rattle.matrix.specs.Shape.{most_subjects}
 use Rattle.lanes.specs.declared.Matrix.{Matrix}
-use Rattle.lanes.specs.Lanes.{merged, row_bytes, row_place, Laid}
+use Rattle.lanes.specs.Lanes.{merged, row_bytes, row_place}
 use Rattle.columns.specs.Cells.{OneOrTwo, most_counted, lanes_of, last_lane, bits_in, control_bit}
 
 -- subject s exists: its own cell has control
@@ -45,9 +45,8 @@ subject_at q b m seen tally odd s at =
 unfoldable pub subject_test : ℕ → List ℕ → Matrix → (ℕ → ℕ) → List ℕ → List ℕ → ℕ → Bool
 subject_test q b m seen tally odd s = subject_at q b (row_bytes m) seen tally odd s (row_place m s)
 
--- bytes that hold the lanes of a record's cells, q each: a row has a cell for each subject
-pub record Celled (q : ℕ) (b : List ℕ) (m : Matrix) : Type 0 where
-  pub laid : Laid b m
+-- lanes of a record's cells, q each: a row has a cell for each subject
+pub record Celled (q : ℕ) (m : Matrix) : Type 0 where
   pub cells : OneOrTwo q
   pub subjects : m.rows ≤ most_subjects
   pub inside : lanes_of q m.rows ≤ m.lanes

@@ -99,5 +99,5 @@ subjects_seen {q} h b m seen tally odd room s =
         bits_moved h (λ j. get_or seen j 0) (seen_at b m) 0 i m.rows l (λ j k. s.value j k ∙ ap (λ (x : ℕ). seen_at b m (x + j)) (sym z)) ∙ ap (bits_in q (seen_at b m)) e
 
 -- a row has the lanes of each subject's cell
-pub cell_inside : (q : ℕ) (b : List ℕ) (m : Matrix) (s : ℕ) → Celled q b m → s < m.rows → 2 * last_lane q s + 1 < row_bytes m
-cell_inside q b m s h l = omega (arith, h.inside, last_inside h.cells s m.rows l)
+pub cell_inside : (q : ℕ) (m : Matrix) (s : ℕ) → Celled q m → s < m.rows → 2 * last_lane q s + 1 < row_bytes m
+cell_inside q m s h l = omega (arith, h.inside, last_inside h.cells s m.rows l)

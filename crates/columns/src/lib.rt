@@ -11,7 +11,7 @@ ghost use Rattle.lanes.specs.Lists.{Stored};
 ghost use Rattle.columns.specs.Cells.{OneOrTwo, most_columns, most_counted, lanes_of, last_lane, bits_in};
 ghost use Rattle.columns.specs.Checks.{present, zero_from, root_counts, other_counts, counts, count_test, subject_at, subject_test, Celled, Placed, Lists};
 
-use lanes::Matrix;
+use lanes::Lanes;
 use matrix::MOST_SUBJECTS;
 
 // The most lanes of a cell, and so those of the most subjects' columns.
@@ -59,16 +59,16 @@ fn exists(b: &[u8], q: usize, s: usize, at: usize) -> bool
 }
 
 // Every subject exists. The byte of its own cell that has control is at `at`, and that of the next one a row and a cell further.
-pub fn all_present(b: &[u8], m: Matrix, q: usize) -> bool
-    requires { Celled q b.now m }
-    ensures { result ≡ all m.rows (present q b.now m) }
+pub fn all_present(m: Lanes, q: usize) -> bool
+    requires { Celled q m.matrix }
+    ensures { result ≡ all m.entry.matrix.rows (present q m.entry.bytes.now m.entry.matrix) }
 {
-    let rows = m.rows;
-    let step = 2 * m.lanes + 2 * q;
+    let rows = m.matrix.rows;
+    let step = 2 * m.matrix.lanes + 2 * q;
     let mut missing: u8 = 0;
-    let mut at = m.first + (2 * last_lane(q, 0) + 1);
+    let mut at = m.matrix.first + (2 * last_lane(q, 0) + 1);
     for s in 0..rows {
-        missing = missing | lanes::fault(controls(b[at]));
+        missing = missing | lanes::fault(controls(m.bytes[at]));
         at += step;
     }
     missing == 0
@@ -170,49 +170,48 @@ fn subject(
 
 // The subjects one after another, each with its row.
 fn each_subject(
-    b: &[u8],
     seen: &[u16; COUNTED],
     tally: &[u8; COUNTED],
     odd: &[u8; COUNTED],
-    m: Matrix,
+    m: Lanes,
     q: usize,
 ) -> bool
-    requires { Celled q b.now m × Lists tally.now odd.now × (length seen.now ≡ most_counted) }
-    ensures { result ≡ all m.rows (subject_test q b.now m (λ j. get_or seen.now j 0) tally.now odd.now) }
+    requires { Celled q m.matrix × Lists tally.now odd.now × (length seen.now ≡ most_counted) }
+    ensures { result ≡ all m.entry.matrix.rows (subject_test q m.entry.bytes.now m.entry.matrix (λ j. get_or seen.now j 0) tally.now odd.now) }
 {
-    let rows = m.rows;
-    let mut at = m.first;
+    let rows = m.matrix.rows;
+    let mut at = m.matrix.first;
     for s in 0..rows {
-        if !subject(b, seen, tally, odd, q, s, at, 2 * m.lanes) {
+        if !subject(m.bytes, seen, tally, odd, q, s, at, 2 * m.matrix.lanes) {
             return false;
         }
-        at += 2 * m.lanes;
+        at += 2 * m.matrix.lanes;
     }
     true
 }
 
 // The subjects where some are absent: what is seen in their columns is needed too.
-fn with_absent(b: &[u8], tally: &[u8; COUNTED], odd: &[u8; COUNTED], m: Matrix, q: usize) -> bool
-    requires { Celled q b.now m × Lists tally.now odd.now }
-    ensures { result ≡ all m.rows (subject_test q b.now m (seen_at b.now m) tally.now odd.now) }
+fn with_absent(tally: &[u8; COUNTED], odd: &[u8; COUNTED], m: Lanes, q: usize) -> bool
+    requires { Celled q m.matrix × Lists tally.now odd.now }
+    ensures { result ≡ all m.entry.matrix.rows (subject_test q m.entry.bytes.now m.entry.matrix (seen_at m.entry.bytes.now m.entry.matrix) tally.now odd.now) }
 {
     let mut seen = [0u16; COUNTED];
-    merging::merge(&mut seen, b, m, 0, lanes_of(q, m.rows));
-    each_subject(b, &seen, tally, odd, m, q)
+    merging::merge(&mut seen, m, 0, lanes_of(q, m.matrix.rows));
+    each_subject(&seen, tally, odd, m, q)
 }
 
 // The subjects. Where all exist, only their counts are to be tested. Each number of lanes has a call of its own, so that the compiler knows it.
-pub fn subjects(b: &[u8], tally: &[u8; COUNTED], odd: &[u8; COUNTED], m: Matrix, q: usize) -> bool
-    requires { Celled q b.now m × Lists tally.now odd.now }
-    ensures { result ≡ all m.rows (subject_test q b.now m (seen_at b.now m) tally.now odd.now) }
+pub fn subjects(tally: &[u8; COUNTED], odd: &[u8; COUNTED], m: Lanes, q: usize) -> bool
+    requires { Celled q m.matrix × Lists tally.now odd.now }
+    ensures { result ≡ all m.entry.matrix.rows (subject_test q m.entry.bytes.now m.entry.matrix (seen_at m.entry.bytes.now m.entry.matrix) tally.now odd.now) }
 {
-    if !all_present(b, m, q) {
-        return with_absent(b, tally, odd, m, q);
+    if !all_present(m, q) {
+        return with_absent(tally, odd, m, q);
     }
     if q == 1 {
-        counts_fit(tally, odd, 1, m.rows)
+        counts_fit(tally, odd, 1, m.matrix.rows)
     } else {
-        counts_fit(tally, odd, 2, m.rows)
+        counts_fit(tally, odd, 2, m.matrix.rows)
     }
 }
 

@@ -3,16 +3,16 @@
 #![tactic(auto)]
 
 ghost use Rattle.std.specs.Prelude.{◌≡◌, ◌*◌, ◌%◌, ◌≤◌, ◌<◌, length};
-ghost use Rattle.lanes.specs.Lanes.{Counted, Laid};
+ghost use Rattle.lanes.specs.Lanes.{Counted};
 ghost use Rattle.tallies.specs.Blocks.{at_once, Sized};
 
-use lanes::Matrix;
+use lanes::Lanes;
 use tallies::AT_ONCE;
 
 // The lanes below `upto`, where a row has as many as `pairs` counts.
-fn count_pairs(tally: &mut [u8], odd: &mut [u8], marks: &mut [u8], b: &[u8], m: Matrix, upto: usize)
-    requires { Laid b.now m × (3 * m.rows < 256) × (2 * at_once ≤ m.lanes) × (upto ≤ m.lanes) × (upto ≤ length tally.old) × (length tally.old % (2 * at_once) ≡ 0) × Sized (length tally.old) tally.old odd.old marks.old }
-    ensures { Counted (length tally.old) b.now m upto tally.new odd.new marks.new }
+fn count_pairs(tally: &mut [u8], odd: &mut [u8], marks: &mut [u8], m: Lanes, upto: usize)
+    requires { (3 * m.matrix.rows < 256) × (2 * at_once ≤ m.matrix.lanes) × (upto ≤ m.matrix.lanes) × (upto ≤ length tally.old) × (length tally.old % (2 * at_once) ≡ 0) × Sized (length tally.old) tally.old odd.old marks.old }
+    ensures { Counted (length tally.old) m.entry.bytes.now m.entry.matrix upto tally.new odd.new marks.new }
 {
     let mut c = 0;
     while c < upto {
@@ -20,34 +20,33 @@ fn count_pairs(tally: &mut [u8], odd: &mut [u8], marks: &mut [u8], b: &[u8], m: 
             tally,
             odd,
             marks,
-            b,
             m,
-            lanes::part(c, 2 * AT_ONCE, m.lanes),
+            lanes::part(c, 2 * AT_ONCE, m.matrix.lanes),
         );
         c += 2 * AT_ONCE;
     }
 }
 
 // The lanes below `upto`.
-pub fn count(tally: &mut [u8], odd: &mut [u8], marks: &mut [u8], b: &[u8], m: Matrix, upto: usize)
-    requires { Laid b.now m × (3 * m.rows < 256) × (upto ≤ m.lanes) × (upto ≤ length tally.old) × (length tally.old % (2 * at_once) ≡ 0) × Sized (length tally.old) tally.old odd.old marks.old }
-    ensures { Counted (length tally.old) b.now m upto tally.new odd.new marks.new }
+pub fn count(tally: &mut [u8], odd: &mut [u8], marks: &mut [u8], m: Lanes, upto: usize)
+    requires { (3 * m.matrix.rows < 256) × (upto ≤ m.matrix.lanes) × (upto ≤ length tally.old) × (length tally.old % (2 * at_once) ≡ 0) × Sized (length tally.old) tally.old odd.old marks.old }
+    ensures { Counted (length tally.old) m.entry.bytes.now m.entry.matrix upto tally.new odd.new marks.new }
 {
-    let lanes = m.lanes;
+    let lanes = m.matrix.lanes;
     let mut c = 0;
     if lanes < AT_ONCE {
         while c < upto {
-            tallies::one(tally, odd, marks, b, m, c);
+            tallies::one(tally, odd, marks, m, c);
             c += 1;
         }
         return;
     }
     if 2 * AT_ONCE <= lanes {
-        count_pairs(tally, odd, marks, b, m, upto);
+        count_pairs(tally, odd, marks, m, upto);
         return;
     }
     while c < upto {
-        tallies::several(tally, odd, marks, b, m, lanes::part(c, AT_ONCE, lanes));
+        tallies::several(tally, odd, marks, m, lanes::part(c, AT_ONCE, lanes));
         c += AT_ONCE;
     }
 }

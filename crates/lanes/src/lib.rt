@@ -4,7 +4,7 @@
 
 ghost use Rattle.std.specs.Prelude.{◌≡◌, ◌+◌, ◌/◌, ◌≤◌, ◌<◌, length, get_or};
 ghost use Rattle.lanes.specs.Lists.{Part};
-ghost use Rattle.lanes.specs.Lanes.{fault_of, lane_in};
+ghost use Rattle.lanes.specs.Lanes.{fault_of, lane_in, Laid};
 
 // What the upper byte of a lane counts.
 pub const UPPER: u16 = 256;
@@ -15,6 +15,14 @@ pub struct Matrix {
     pub first: usize,
     pub rows: usize,
     pub lanes: usize,
+}
+
+// Lent bytes that hold a row or more, and where the lanes lie in them.
+#[derive(Clone, Copy)]
+pub struct Lanes<'a> {
+    pub bytes: &'a [u8],
+    pub matrix: Matrix,
+    pub ghost laid: { Laid bytes.now matrix },
 }
 
 // The lane from byte `at` on. Its first byte is the lower one, so that the compiler may read both at once.

@@ -4,11 +4,11 @@
 
 ghost use Rattle.std.specs.Prelude.{◌≡◌, ℕ, ◌+◌, ◌-◌, ◌*◌, ◌≤◌, ◌<◌, length};
 ghost use Rattle.lanes.specs.Lists.{Filled};
-ghost use Rattle.lanes.specs.Lanes.{place_of, Laid};
+ghost use Rattle.lanes.specs.Lanes.{place_of};
 ghost use Rattle.tallies.specs.Blocks.{at_once, Sized, Joined, Filling};
 ghost use Rattle.pairs.specs.Pairs.{pair_in, pairs_from, own_both, PairRoom, taken};
 
-use lanes::{Matrix, UPPER};
+use lanes::{Lanes, UPPER};
 use tallies::AT_ONCE;
 
 // The two low bits of the upper bytes of two lanes that lie AT_ONCE lanes apart: those of the lane from byte `at` on in the lower half of the
@@ -61,18 +61,18 @@ pub fn put_places(list: &mut [u8], c: usize, counts: &[u16; AT_ONCE], unit: u16,
 }
 
 // Twice as many lanes from lane c on.
-pub fn pairs(tally: &mut [u8], odd: &mut [u8], marks: &mut [u8], b: &[u8], m: Matrix, c: usize)
-    requires { Laid b.now m × (3 * m.rows < 256) × (c + 2 * at_once ≤ m.lanes) × (c + 2 * at_once ≤ length tally.old) × Sized (length tally.old) tally.old odd.old marks.old }
-    ensures { Filling b.now m c (2 * at_once) tally.old odd.old marks.old tally.new odd.new marks.new }
+pub fn pairs(tally: &mut [u8], odd: &mut [u8], marks: &mut [u8], m: Lanes, c: usize)
+    requires { (3 * m.matrix.rows < 256) × (c + 2 * at_once ≤ m.matrix.lanes) × (c + 2 * at_once ≤ length tally.old) × Sized (length tally.old) tally.old odd.old marks.old }
+    ensures { Filling m.entry.bytes.now m.entry.matrix c (2 * at_once) tally.old odd.old marks.old tally.new odd.new marks.new }
 {
-    let rows = m.rows;
+    let rows = m.matrix.rows;
     let mut low = [0u16; AT_ONCE];
     let mut parity = [0u16; AT_ONCE];
     let mut since = [0u16; AT_ONCE];
-    let mut at = m.first + 2 * c;
+    let mut at = m.matrix.first + 2 * c;
     for r in 0..rows {
-        row_of_pairs(&mut low, &mut parity, &mut since, b, at);
-        at += 2 * m.lanes;
+        row_of_pairs(&mut low, &mut parity, &mut since, m.bytes, at);
+        at += 2 * m.matrix.lanes;
     }
     put(tally, c, &low, 1);
     put(tally, c + AT_ONCE, &low, UPPER);

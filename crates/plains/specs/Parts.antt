@@ -8,7 +8,7 @@ use Rattle.laws.specs.Tests.{way, same_test, and_left, and_right, and_both}
 use Rattle.laws.specs.Bounded.{all_each, each_all}
 use Rattle.lanes.specs.declared.Matrix.{Matrix}
 use Rattle.lanes.specs.Lists.{Part}
-use Rattle.lanes.specs.Lanes.{merged, seen_at, Seen, Laid}
+use Rattle.lanes.specs.Lanes.{merged, seen_at, Seen}
 use Rattle.lanes.specs.Zeros.{or_zero, merged_none, merged_more, merged_zero}
 use Rattle.columns.specs.Cells.{OneOrTwo, most_columns, lanes_of, last_lane, either_way, last_inside, last_added, bits_moved}
 use Rattle.plains.specs.Checks.{plain_test, plain_wrong, wrong_of, plain_right}
@@ -49,8 +49,7 @@ pub lanes_few : {lanes : ℕ} → SomeLanes lanes → lanes ≤ most_columns
 lanes_few l = by_lanes (λ k. k ≤ most_columns) l (omega arith) (omega arith) (omega arith) (omega arith)
 
 -- A part of a row: the columns from column a on, as many as have so many lanes, of which the first `from` are left out.
-pub record PartIn (b : List ℕ) (m : Matrix) (q lanes a from : ℕ) : Type 0 where
-  pub laid : Laid b m
+pub record PartIn (m : Matrix) (q lanes a from : ℕ) : Type 0 where
   pub number : OneOrTwo q
   pub first : a < most_columns
   pub few : lanes ≤ most_columns
@@ -58,8 +57,8 @@ pub record PartIn (b : List ℕ) (m : Matrix) (q lanes a from : ℕ) : Type 0 wh
   pub left : from ≤ lanes / q
 
 -- the same part by the number of lanes that it has
-pub part_of : {b : List ℕ} {m : Matrix} {q lanes a from : ℕ} (k : ℕ) → lanes ≡ k → PartIn b m q lanes a from → PartIn b m q k a from
-part_of {b} {m} {q} {lanes} {a} {from} k e = subst (λ (i : ℕ). PartIn b m q i a from) e
+pub part_of : {m : Matrix} {q lanes a from : ℕ} (k : ℕ) → lanes ≡ k → PartIn m q lanes a from → PartIn m q k a from
+part_of {m} {q} {lanes} {a} {from} k e = subst (λ (i : ℕ). PartIn m q i a from) e
 
 pub lanes_single : (k : ℕ) → lanes_of 1 k ≡ k
 unfolding lanes_of

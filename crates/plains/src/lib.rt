@@ -5,12 +5,12 @@
 ghost use Rattle.std.specs.Prelude.{◌≡◌, ◌+◌, ◌/◌, ◌≤◌, ◌<◌, length, replicate, get_or};
 ghost use Rattle.matrix.specs.Bounded.{all};
 ghost use Rattle.matrix.specs.Shape.{columns};
-ghost use Rattle.lanes.specs.Lanes.{seen_at, Laid};
+ghost use Rattle.lanes.specs.Lanes.{seen_at};
 ghost use Rattle.columns.specs.Cells.{OneOrTwo, most_columns, lanes_of, last_lane};
 ghost use Rattle.plains.specs.Checks.{plain_test, plain_wrong, wrong_of};
 ghost use Rattle.plains.specs.Parts.{at_once, SomeLanes, PartIn};
 
-use lanes::{Matrix, UPPER};
+use lanes::{Lanes, UPPER};
 use matrix::Shape;
 
 // The numbers of lanes that are merged at once.
@@ -69,41 +69,33 @@ fn list_wrong(seen: &[u16], q: usize, from: usize, lanes: usize) -> u16
 
 // What is wrong with the columns from column a on, as many as have so many lanes, without the first `from`. What is seen in the lanes is left in
 // a list of zeros.
-fn part_wrong(
-    seen: &mut [u16],
-    b: &[u8],
-    m: Matrix,
-    q: usize,
-    lanes: usize,
-    a: usize,
-    from: usize,
-) -> u16
-    requires { PartIn b.now m q lanes a from × (lanes ≤ length seen.old) × (seen.old ≡ replicate (length seen.old) 0) }
-    ensures { result ≡ wrong_of (λ i. plain_wrong q (seen_at b.now m) (a + i)) from (lanes / q) }
+fn part_wrong(seen: &mut [u16], m: Lanes, q: usize, lanes: usize, a: usize, from: usize) -> u16
+    requires { PartIn m.matrix q lanes a from × (lanes ≤ length seen.old) × (seen.old ≡ replicate (length seen.old) 0) }
+    ensures { result ≡ wrong_of (λ i. plain_wrong q (seen_at m.entry.bytes.now m.entry.matrix) (a + i)) from (lanes / q) }
 {
-    merging::merge(seen, b, m, columns::lanes_of(q, a), lanes);
+    merging::merge(seen, m, columns::lanes_of(q, a), lanes);
     list_wrong(seen, q, from, lanes)
 }
 
 // The same for each number of lanes. It has a call and a list of its own, so that the compiler knows it and holds the list in registers.
-fn known_wrong(b: &[u8], m: Matrix, q: usize, lanes: usize, a: usize, from: usize) -> u16
-    requires { PartIn b.now m q lanes a from × SomeLanes lanes }
-    ensures { result ≡ wrong_of (λ i. plain_wrong q (seen_at b.now m) (a + i)) from (lanes / q) }
+fn known_wrong(m: Lanes, q: usize, lanes: usize, a: usize, from: usize) -> u16
+    requires { PartIn m.matrix q lanes a from × SomeLanes lanes }
+    ensures { result ≡ wrong_of (λ i. plain_wrong q (seen_at m.entry.bytes.now m.entry.matrix) (a + i)) from (lanes / q) }
 {
     if lanes == MOST {
         let mut seen = [0u16; MOST];
-        return part_wrong(&mut seen, b, m, q, MOST, a, from);
+        return part_wrong(&mut seen, m, q, MOST, a, from);
     }
     if lanes == MANY {
         let mut seen = [0u16; MANY];
-        return part_wrong(&mut seen, b, m, q, MANY, a, from);
+        return part_wrong(&mut seen, m, q, MANY, a, from);
     }
     if lanes == SOME {
         let mut seen = [0u16; SOME];
-        return part_wrong(&mut seen, b, m, q, SOME, a, from);
+        return part_wrong(&mut seen, m, q, SOME, a, from);
     }
     let mut seen = [0u16; AT_ONCE];
-    part_wrong(&mut seen, b, m, q, AT_ONCE, a, from)
+    part_wrong(&mut seen, m, q, AT_ONCE, a, from)
 }
 
 // How many lanes the next part has, of a row of so many, where `left` are left: no part is larger than the row, and the last one repeats few.
@@ -134,46 +126,46 @@ fn lanes_for(left: usize, lanes: usize) -> usize
 }
 
 // The plain columns, part by part. A last part that would go beyond the row begins earlier, and what it repeats is left out.
-fn parts_right(b: &[u8], f: Shape, m: Matrix, q: usize) -> bool
-    requires { Laid b.now m × OneOrTwo q × (columns f ≤ most_columns) × (m.lanes ≡ lanes_of q (columns f)) × (at_once ≤ m.lanes) }
-    ensures { result ≡ all f.p (λ i. plain_test q (seen_at b.now m) (f.n + i)) }
+fn parts_right(f: Shape, m: Lanes, q: usize) -> bool
+    requires { OneOrTwo q × (columns f ≤ most_columns) × (m.matrix.lanes ≡ lanes_of q (columns f)) × (at_once ≤ m.matrix.lanes) }
+    ensures { result ≡ all f.p (λ i. plain_test q (seen_at m.entry.bytes.now m.entry.matrix) (f.n + i)) }
 {
     let n = f.n;
     let all = n + f.p;
     let mut wrong: u16 = 0;
     let mut c = n;
     while c < all {
-        let lanes = lanes_for(columns::lanes_of(q, all - c), m.lanes);
+        let lanes = lanes_for(columns::lanes_of(q, all - c), m.matrix.lanes);
         let step = cells_in(q, lanes);
         let a = lanes::part(c, step, all);
-        wrong = wrong | known_wrong(b, m, q, lanes, a, c - a);
+        wrong = wrong | known_wrong(m, q, lanes, a, c - a);
         c += step;
     }
     wrong == 0
 }
 
 // The plain columns where they are no more than one part. It ends with the row, and what it has of the subjects' columns is left out.
-pub fn one_part(b: &[u8], f: Shape, m: Matrix, q: usize) -> bool
-    requires { Laid b.now m × OneOrTwo q × (columns f ≤ most_columns) × (m.lanes ≡ lanes_of q (columns f)) × (at_once ≤ m.lanes) × (lanes_of q (f.p) ≤ at_once) }
-    ensures { result ≡ all f.p (λ i. plain_test q (seen_at b.now m) (f.n + i)) }
+pub fn one_part(f: Shape, m: Lanes, q: usize) -> bool
+    requires { OneOrTwo q × (columns f ≤ most_columns) × (m.matrix.lanes ≡ lanes_of q (columns f)) × (at_once ≤ m.matrix.lanes) × (lanes_of q (f.p) ≤ at_once) }
+    ensures { result ≡ all f.p (λ i. plain_test q (seen_at m.entry.bytes.now m.entry.matrix) (f.n + i)) }
 {
     let n = f.n;
     let a = n + f.p - cells_in(q, AT_ONCE);
     let mut seen = [0u16; AT_ONCE];
-    part_wrong(&mut seen, b, m, q, AT_ONCE, a, n - a) == 0
+    part_wrong(&mut seen, m, q, AT_ONCE, a, n - a) == 0
 }
 
 // The plain columns, which come after those of the subjects. Where a row has fewer lanes than a part, all of it is merged.
-pub fn plains(b: &[u8], f: Shape, m: Matrix, q: usize) -> bool
-    requires { Laid b.now m × OneOrTwo q × (columns f ≤ most_columns) × (m.lanes ≡ lanes_of q (columns f)) }
-    ensures { result ≡ all f.p (λ i. plain_test q (seen_at b.now m) (f.n + i)) }
+pub fn plains(f: Shape, m: Lanes, q: usize) -> bool
+    requires { OneOrTwo q × (columns f ≤ most_columns) × (m.matrix.lanes ≡ lanes_of q (columns f)) }
+    ensures { result ≡ all f.p (λ i. plain_test q (seen_at m.entry.bytes.now m.entry.matrix) (f.n + i)) }
 {
-    if m.lanes < AT_ONCE {
+    if m.matrix.lanes < AT_ONCE {
         let mut seen = [0u16; AT_ONCE];
-        return part_wrong(&mut seen, b, m, q, m.lanes, 0, f.n) == 0;
+        return part_wrong(&mut seen, m, q, m.matrix.lanes, 0, f.n) == 0;
     }
     if columns::lanes_of(q, f.p) <= AT_ONCE {
-        return one_part(b, f, m, q);
+        return one_part(f, m, q);
     }
-    parts_right(b, f, m, q)
+    parts_right(f, m, q)
 }

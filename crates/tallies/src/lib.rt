@@ -3,10 +3,11 @@
 #![tactic(auto)]
 
 ghost use Rattle.std.specs.Prelude.{◌≡◌, ◌+◌, ◌*◌, ◌≤◌, ◌<◌, length};
-ghost use Rattle.lanes.specs.Lanes.{place_of, Laid};
+ghost use Rattle.matrix.specs.Shaped.{Octets};
+ghost use Rattle.lanes.specs.Lanes.{place_of};
 ghost use Rattle.tallies.specs.Blocks.{at_once, Several, Sized, Room, Joined, low_bits, lanes_from, own_upper, Filling};
 
-use lanes::{Matrix, UPPER};
+use lanes::{Lanes, UPPER};
 
 // The lanes that are counted at once, one in each number; `pairs` counts twice as many, two in each number.
 pub const AT_ONCE: usize = 8;
@@ -21,7 +22,8 @@ fn row(
     at: usize,
 )
     requires { Room b.now at low.old odd.old since.old }
-    ensures { Joined (low_bits b.now at) (lanes_from b.now at) own_upper at_once low.old odd.old since.old low.new odd.new since.new }
+    ensures bytes { Octets b.now }
+    ensures joined { Joined (low_bits b.now at) (lanes_from b.now at) own_upper at_once low.old odd.old since.old low.new odd.new since.new }
 {
     for j in 0..AT_ONCE {
         let v = lanes::lane(b, at + 2 * j);
@@ -36,18 +38,17 @@ pub fn rows_of(
     low: &mut [u16; AT_ONCE],
     odd: &mut [u16; AT_ONCE],
     since: &mut [u16; AT_ONCE],
-    b: &[u8],
-    m: Matrix,
+    m: Lanes,
     c: usize,
 )
-    requires { Laid b.now m × (3 * m.rows < 256) × (c + at_once ≤ m.lanes) × Several b.now m c 0 low.old odd.old since.old }
-    ensures { Several b.now m c (m.rows) low.new odd.new since.new }
+    requires { (3 * m.matrix.rows < 256) × (c + at_once ≤ m.matrix.lanes) × Several m.bytes.now m.matrix c 0 low.old odd.old since.old }
+    ensures { Several m.entry.bytes.now m.entry.matrix c (m.entry.matrix.rows) low.new odd.new since.new }
 {
-    let rows = m.rows;
-    let mut at = m.first + 2 * c;
+    let rows = m.matrix.rows;
+    let mut at = m.matrix.first + 2 * c;
     for r in 0..rows {
-        row(low, odd, since, b, at);
-        at += 2 * m.lanes;
+        row(low, odd, since, m.bytes, at);
+        at += 2 * m.matrix.lanes;
     }
 }
 
@@ -60,37 +61,37 @@ pub fn place(rows: usize, a: u8) -> u8
 }
 
 // So many lanes from lane c on, where a row has fewer than `pairs` counts.
-pub fn several(tally: &mut [u8], odd: &mut [u8], marks: &mut [u8], b: &[u8], m: Matrix, c: usize)
-    requires { Laid b.now m × (3 * m.rows < 256) × (c + at_once ≤ m.lanes) × (c + at_once ≤ length tally.old) × Sized (length tally.old) tally.old odd.old marks.old }
-    ensures { Filling b.now m c at_once tally.old odd.old marks.old tally.new odd.new marks.new }
+pub fn several(tally: &mut [u8], odd: &mut [u8], marks: &mut [u8], m: Lanes, c: usize)
+    requires { (3 * m.matrix.rows < 256) × (c + at_once ≤ m.matrix.lanes) × (c + at_once ≤ length tally.old) × Sized (length tally.old) tally.old odd.old marks.old }
+    ensures { Filling m.entry.bytes.now m.entry.matrix c at_once tally.old odd.old marks.old tally.new odd.new marks.new }
 {
     let mut low = [0u16; AT_ONCE];
     let mut parity = [0u16; AT_ONCE];
     let mut since = [0u16; AT_ONCE];
-    rows_of(&mut low, &mut parity, &mut since, b, m, c);
+    rows_of(&mut low, &mut parity, &mut since, m, c);
     for j in 0..AT_ONCE {
         tally[c + j] = (low[j] / UPPER) as u8;
         odd[c + j] = (parity[j] / UPPER % 4) as u8;
-        marks[c + j] = place(m.rows, (since[j] / UPPER) as u8);
+        marks[c + j] = place(m.matrix.rows, (since[j] / UPPER) as u8);
     }
 }
 
 // One lane, where a row has fewer than are counted at once.
-pub fn one(tally: &mut [u8], odd: &mut [u8], marks: &mut [u8], b: &[u8], m: Matrix, c: usize)
-    requires { Laid b.now m × (3 * m.rows < 256) × (c < m.lanes) × (c < length tally.old) × Sized (length tally.old) tally.old odd.old marks.old }
-    ensures { Filling b.now m c 1 tally.old odd.old marks.old tally.new odd.new marks.new }
+pub fn one(tally: &mut [u8], odd: &mut [u8], marks: &mut [u8], m: Lanes, c: usize)
+    requires { (3 * m.matrix.rows < 256) × (c < m.matrix.lanes) × (c < length tally.old) × Sized (length tally.old) tally.old odd.old marks.old }
+    ensures { Filling m.entry.bytes.now m.entry.matrix c 1 tally.old odd.old marks.old tally.new odd.new marks.new }
 {
-    let rows = m.rows;
+    let rows = m.matrix.rows;
     let mut low: u8 = 0;
     let mut parity: u8 = 0;
     let mut since: u8 = 0;
-    let mut at = m.first + (2 * c + 1);
+    let mut at = m.matrix.first + (2 * c + 1);
     for r in 0..rows {
-        let v = b[at];
+        let v = m.bytes[at];
         low += v % 4;
         parity = parity ^ v;
         since += parity % 2;
-        at += 2 * m.lanes;
+        at += 2 * m.matrix.lanes;
     }
     tally[c] = low;
     odd[c] = parity % 4;

@@ -11,21 +11,26 @@ use Rattle.matrix.specs.Record.{valid_matrix, record_refusal}
 use Rattle.codec.proofs.ShapeRight.{two_or_four}
 use Rattle.cells.specs.Station.{Station, right_shape}
 use Rattle.lanes.specs.declared.Matrix.{Matrix}
-use Rattle.lanes.specs.Lanes.{row_place}
+use Rattle.lanes.specs.Lanes.{row_place, Laid}
 use Rattle.columns.specs.Cells.{cell_lanes, lanes_of, matrix_of, rows_size, lanes_more, lanes_of_width}
 use Rattle.columns.specs.Checks.{Celled}
 
 -- the lanes of the cells of a record's bytes
-pub lanes_celled : (b : List ℕ) (f : Shape) (m : Matrix) → Station b f → m ≡ matrix_of f → Celled (cell_lanes f) b m
-lanes_celled b f m s e =
+pub lanes_laid : (b : List ℕ) (f : Shape) (m : Matrix) → Station b f → m ≡ matrix_of f → Laid b m
+lanes_laid b f m s e =
     let h = right_shape s in
     let size : row_place m m.rows ≡ length b =
     ap (λ (x : Matrix). row_place x x.rows) (e ∙ ap matrix_of s.shape) ∙ sym (rows_size b) ∙ sym s.shaped.size in
     let rows : m.rows ≡ f.n = ap (λ (x : Matrix). x.rows) e in
+    record { some = omega (arith, h.low); holds = omega arith }
+
+pub lanes_celled : (b : List ℕ) (f : Shape) (m : Matrix) → Station b f → m ≡ matrix_of f → Celled (cell_lanes f) m
+lanes_celled b f m s e =
+    let h = right_shape s in
+    let rows : m.rows ≡ f.n = ap (λ (x : Matrix). x.rows) e in
     let cells = (lanes_of_width f (two_or_four f h)).0 in
     let width : m.lanes ≡ lanes_of (cell_lanes f) (columns f) = ap (λ (x : Matrix). x.lanes) e in
     record {
-      laid = record { some = omega (arith, h.low); holds = omega arith };
       cells = cells;
       subjects = omega (arith, h.high);
       inside = rw width (lanes_more cells m.rows (columns f) (omega arith));

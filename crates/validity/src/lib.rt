@@ -11,7 +11,7 @@ ghost use Rattle.codec.specs.ShapeRight.{ShapeRight};
 ghost use Rattle.validity.specs.Few.{FewColumns};
 
 use columns::COUNTED;
-use lanes::{Matrix, UPPER};
+use lanes::{Lanes, Matrix, UPPER};
 use matrix::{HEADER_BYTES, MOST_SUBJECTS, Shape};
 use tallies::AT_ONCE;
 
@@ -24,26 +24,22 @@ fn tested(b: &[u8], f: Shape, owners: &mut [u8; MOST_SUBJECTS]) -> bool
 {
     let n = f.n;
     let q = f.width / 2;
-    let m = Matrix {
-        first: f.first,
-        rows: n,
-        lanes: columns::lanes_of(q, n + f.p),
+    let m = Lanes {
+        bytes: b,
+        matrix: Matrix {
+            first: f.first,
+            rows: n,
+            lanes: columns::lanes_of(q, n + f.p),
+        },
     };
     let mut tally = [0u8; COUNTED];
     let mut odd = [0u8; COUNTED];
     let mut marks = [0u8; COUNTED];
-    counting::count(
-        &mut tally,
-        &mut odd,
-        &mut marks,
-        b,
-        m,
-        columns::lanes_of(q, n),
-    );
-    if !columns::subjects(b, &tally, &odd, m, q) {
+    counting::count(&mut tally, &mut odd, &mut marks, m, columns::lanes_of(q, n));
+    if !columns::subjects(&tally, &odd, m, q) {
         return false;
     }
-    if !plains::plains(b, f, m, q) {
+    if !plains::plains(f, m, q) {
         return false;
     }
     columns::owners(owners, &marks, q, n);
@@ -76,22 +72,25 @@ fn few_valid(b: &[u8], f: Shape, owners: &mut [u8; MOST_SUBJECTS]) -> bool
     ensures table { length owners.new ≡ most_subjects }
 {
     let n = f.n;
-    let m = Matrix {
-        first: f.first,
-        rows: n,
-        lanes: columns::lanes_of(1, n + f.p),
+    let m = Lanes {
+        bytes: b,
+        matrix: Matrix {
+            first: f.first,
+            rows: n,
+            lanes: columns::lanes_of(1, n + f.p),
+        },
     };
     let mut low = [0u16; AT_ONCE];
     let mut odd = [0u16; AT_ONCE];
     let mut since = [0u16; AT_ONCE];
-    tallies::rows_of(&mut low, &mut odd, &mut since, b, m, 0);
-    if !columns::all_present(b, m, 1) {
+    tallies::rows_of(&mut low, &mut odd, &mut since, m, 0);
+    if !columns::all_present(m, 1) {
         return false;
     }
     if !few_subjects::counts_fit(&low, &odd, n) {
         return false;
     }
-    if !plains::one_part(b, f, m, 1) {
+    if !plains::one_part(f, m, 1) {
         return false;
     }
     pairs::put_places(owners, 0, &since, UPPER, n);

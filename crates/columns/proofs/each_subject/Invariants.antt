@@ -9,7 +9,7 @@ use Rattle.columns.specs.Checks.{subject_test}
 use Rattle.columns.proofs.each_subject.Given as goal
 
 abbrev pub invariant-loop-s : goal.invariant-loop-s
-invariant-loop-s l = (l.s ≤ l.rows) × (l.at ≡ row_place l.m l.s) × (all l.s (subject_test l.q l.b l.m (λ j. get_or l.seen j 0) l.tally l.odd) ≡ true)
+invariant-loop-s l = (l.s ≤ l.rows) × (l.at ≡ row_place l.m.matrix l.s) × (all l.s (subject_test l.q l.m.bytes.now l.m.matrix (λ j. get_or l.seen j 0) l.tally l.odd) ≡ true)
 
 abbrev pub decreases-loop-s : goal.decreases-loop-s
 decreases-loop-s l = l.rows - l.s

@@ -1,12 +1,12 @@
 -- `columns::put_owners` meets its contract.
 use borrow.Author.Rules.{rules}
-use Prim.Native.Nat.{ℕ, ◌-◌, ◌<◌}
+use Prim.Native.Nat.{ℕ, ◌<◌}
 use native.Mathlib.Omega.{arith}
 use mathlib.Core.Path.{ap}
 use lib.ListN.{get_or}
 use Rattle.matrix.specs.Shape.{most_subjects}
 use Rattle.lanes.specs.Lists.{stored_none, stored_step, stored_done}
-use Rattle.columns.specs.Cells.{last_lane, last_counted}
+use Rattle.columns.specs.Cells.{last_counted}
 use Rattle.columns.proofs.put_owners.Goals as goal
 use Rattle.columns.proofs.put_owners.Goals.{After-last_lane}
 

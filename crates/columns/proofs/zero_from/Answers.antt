@@ -1,6 +1,6 @@
 -- `columns::zero_from` meets its contract.
 use borrow.Author.Rules.{rules}
-use Prim.Native.Nat.{◌+◌, ◌-◌}
+use Prim.Native.Nat.{◌+◌}
 use lib.ListN.{get_or}
 use Rattle.lanes.specs.Zeros.{merged_none, merged_more, merged_done}
 use Rattle.columns.proofs.zero_from.Goals as goal

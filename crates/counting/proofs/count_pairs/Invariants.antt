@@ -6,7 +6,7 @@ use Rattle.tallies.specs.Blocks.{at_once, Below}
 use Rattle.counting.proofs.count_pairs.Given as goal
 
 abbrev pub invariant-loop-c : goal.invariant-loop-c
-invariant-loop-c l = (l.c % (2 * at_once) ≡ 0) × Below (length l.initial.tally) l.b l.m l.c l.tally l.odd l.marks
+invariant-loop-c l = (l.c % (2 * at_once) ≡ 0) × Below (length l.initial.tally) l.m.bytes.now l.m.matrix l.c l.tally l.odd l.marks
 
 abbrev pub decreases-loop-c : goal.decreases-loop-c
 decreases-loop-c l = l.upto - l.c

@@ -1,6 +1,6 @@
 -- `merging::merge` meets its contract.
 use borrow.Author.Rules.{rules}
-use Prim.Native.Nat.{ℕ, ◌+◌, ◌*◌, ◌-◌, ◌<◌}
+use Prim.Native.Nat.{ℕ, ◌+◌, ◌*◌, ◌<◌}
 use native.Mathlib.Omega.{arith}
 use mathlib.Core.Path.{refl, ◌∙◌, ap}
 use lib.ListN.{length}
@@ -11,24 +11,24 @@ use Rattle.merging.proofs.merge.Goals as goal
 use Rattle.merging.proofs.merge.Goals.{After-slice_known-in-loop-j-1}
 
 pub overflow_mul-at : goal.overflow_mul-at
-overflow_mul-at c = record { fits = omega (arith, c.requires.1, first_room _ c.args.m c.requires.0) }
+overflow_mul-at c = record { fits = omega (arith, c.requires.0, first_room _ c.args.m.matrix c.args.m.laid) }
 
 pub overflow_add-at : goal.overflow_add-at
-overflow_add-at c = record { fits = omega (arith, c.requires.1, first_room _ c.args.m c.requires.0) }
+overflow_add-at c = record { fits = omega (arith, c.requires.0, first_room _ c.args.m.matrix c.args.m.laid) }
 
 pub loop-r-init : goal.loop-r-init
 loop-r-init c =
-    (search rules, ap (λ (i : ℕ). i + 2 * c.args.c) (first_place c.args.m), joined_first _ _ _ _ refl c.requires.2 c.requires.3)
+    (search rules, ap (λ (i : ℕ). i + 2 * c.args.c) (first_place c.args.m.matrix), joined_first _ _ _ _ refl c.requires.1 c.requires.2)
 
 pub loop-j-init : goal.loop-j-init
 loop-j-init c = let o = c.loop-r.invariant in joined_none _ _ _ _ _ refl o.2.left
 
 -- the lane that is read lies in the bytes
 inside : (c : After-slice_known-in-loop-j-1)
-    → c.loop-r.at + 2 * c.loop-j.j + 1 < length c.args.b.now
+    → c.loop-r.at + 2 * c.loop-j.j + 1 < length c.args.m.bytes.now
 inside c =
     let o = c.loop-r in
-    omega (arith, o.invariant.1, c.requires.1, c.loop-j-test.true, row_room c.args.b.now c.args.m o.r c.requires.0 c.loop-r-test.true)
+    omega (arith, o.invariant.1, c.requires.0, c.loop-j-test.true, row_room c.args.m.bytes.now c.args.m.matrix o.r c.args.m.laid c.loop-r-test.true)
 
 pub overflow_mul-j : goal.overflow_mul-j
 overflow_mul-j c = record { fits = omega (arith, inside (goal.at.overflow_mul-j c).After-slice_known-in-loop-j-1) }
@@ -43,23 +43,23 @@ pub loop-j-preserved : goal.loop-j-preserved
 loop-j-preserved c =
     let o = c.loop-r in
     let l = c.loop-j in
-    joined_step _ _ _ _ _ _ _ l.invariant c.loop-j-test.true (omega (arith, o.invariant.2.size, c.requires.2))
-    (c.lane.ensures.word ∙ ap (λ (i : ℕ). lane_in c.args.b.now i) (omega (arith, o.invariant.1)))
+    joined_step _ _ _ _ _ _ _ l.invariant c.loop-j-test.true (omega (arith, o.invariant.2.size, c.requires.1))
+    (c.lane.ensures.word ∙ ap (λ (i : ℕ). lane_in c.args.m.bytes.now i) (omega (arith, o.invariant.1)))
 
 pub overflow_mul-at-in-loop-r : goal.overflow_mul-at-in-loop-r
 overflow_mul-at-in-loop-r c =
-    record { fits = omega (arith, first_room _ c.args.m c.requires.0) }
+    record { fits = omega (arith, first_room _ c.args.m.matrix c.args.m.laid) }
 
 pub overflow_add-at-in-loop-r : goal.overflow_add-at-in-loop-r
 overflow_add-at-in-loop-r c =
     let o = c.loop-r in
-    record { fits = omega (arith, o.invariant.1, c.requires.1, row_room c.args.b.now c.args.m o.r c.requires.0 c.loop-r-test.true) }
+    record { fits = omega (arith, o.invariant.1, c.requires.0, row_room c.args.m.bytes.now c.args.m.matrix o.r c.args.m.laid c.loop-r-test.true) }
 
 pub loop-r-preserved : goal.loop-r-preserved
 loop-r-preserved c =
     let o = c.loop-r in (
       search rules,
-      omega (arith, o.invariant.1, next_place c.args.m o.r (row_place c.args.m o.r) refl),
+      omega (arith, o.invariant.1, next_place c.args.m.matrix o.r (row_place c.args.m.matrix o.r) refl),
       joined_row _ _ _ _ _ _ _ o.invariant.2.size c.loop-j.invariant c.loop-j-test.false,
     )
 

@@ -1,6 +1,6 @@
 -- `pairs::put_places` meets its contract.
 use borrow.Author.Rules.{rules}
-use Prim.Native.Nat.{ℕ, ◌-◌}
+use Prim.Native.Nat.{ℕ}
 use native.Mathlib.Omega.{arith}
 use mathlib.Core.Path.{◌∙◌, ap}
 use Rattle.lanes.specs.Lists.{filled_none, filled_step, filled_done}

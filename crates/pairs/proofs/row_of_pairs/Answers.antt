@@ -1,6 +1,5 @@
 -- `pairs::row_of_pairs` meets its contract.
 use borrow.Author.Rules.{rules}
-use Prim.Native.Nat.{◌-◌}
 use native.Mathlib.Nat.{le_refl}
 use native.Mathlib.Omega.{arith}
 use Rattle.tallies.specs.Blocks.{joined_none, joined_step, joined_done}

@@ -17,28 +17,28 @@ past : {w k c a : ℕ} → Part w k c a → c < k → 1 ≤ w → c - a ≤ w
 past {c = c} p l some = omega (arith, p.far c (omega arith) l)
 
 pub overflow_add-all : goal.overflow_add-all
-overflow_add-all c = record { fits = omega (arith, c.requires.2) }
+overflow_add-all c = record { fits = omega (arith, c.requires.1) }
 
 pub loop-c-init : goal.loop-c-init
 loop-c-init c = (search rules, tested_none _ _ _)
 
 pub lanes_of-requires : goal.lanes_of-requires
-lanes_of-requires c = (c.requires.1, omega (arith, c.requires.2))
+lanes_of-requires c = (c.requires.0, omega (arith, c.requires.1))
 
 pub lanes_for-lanes-requires : goal.lanes_for-lanes-requires
-lanes_for-lanes-requires c = c.requires.4
+lanes_for-lanes-requires c = c.requires.3
 
 pub cells_in-step-requires : goal.cells_in-step-requires
-cells_in-step-requires c = c.requires.1
+cells_in-step-requires c = c.requires.0
 
 -- a part has some columns, which are so many lanes, and no more than the row has
 step_is : (c : After-cells_in-step) → (lanes_of c.args.q c.cells_in-step.result ≡ c.lanes_for-lanes.result) × (1 ≤ c.cells_in-step.result)
 step_is c =
-    subst (λ (k : ℕ). (lanes_of c.args.q k ≡ c.lanes_for-lanes.result) × (1 ≤ k)) (sym c.cells_in-step.ensures) (whole_cells c.requires.1 c.lanes_for-lanes.ensures.some)
+    subst (λ (k : ℕ). (lanes_of c.args.q k ≡ c.lanes_for-lanes.result) × (1 ≤ k)) (sym c.cells_in-step.ensures) (whole_cells c.requires.0 c.lanes_for-lanes.ensures.some)
 
 step_fits : (c : After-cells_in-step) → let f = c.args.f in c.cells_in-step.result ≤ f.n + f.p
 step_fits c =
-    cells_fewer c.requires.1 _ _ (omega (arith, (step_is c).0, c.lanes_for-lanes.ensures.inside, c.requires.3))
+    cells_fewer c.requires.0 _ _ (omega (arith, (step_is c).0, c.lanes_for-lanes.ensures.inside, c.requires.2))
 
 pub part-a-requires : goal.part-a-requires
 part-a-requires c = step_fits c
@@ -49,13 +49,12 @@ overflow_sub-c c = c.part-a.ensures.near
 pub known_wrong-wrong-requires : goal.known_wrong-wrong-requires
 known_wrong-wrong-requires c =
     let p = c.part-a.ensures in
-    let h = c.requires.1 in (
+    let h = c.requires.0 in (
       record {
-        laid = c.requires.0;
         number = h;
-        first = omega (arith, p.within, (step_is (goal.at.known_wrong-wrong-requires c).After-cells_in-step).1, c.requires.2);
+        first = omega (arith, p.within, (step_is (goal.at.known_wrong-wrong-requires c).After-cells_in-step).1, c.requires.1);
         few = lanes_few c.lanes_for-lanes.ensures.some;
-        inside = omega (arith, lanes_added h c.part-a.result c.cells_in-step.result, lanes_more h _ _ p.within, (step_is (goal.at.known_wrong-wrong-requires c).After-cells_in-step).0, c.requires.3);
+        inside = omega (arith, lanes_added h c.part-a.result c.cells_in-step.result, lanes_more h _ _ p.within, (step_is (goal.at.known_wrong-wrong-requires c).After-cells_in-step).0, c.requires.2);
         left = omega (arith, c.cells_in-step.ensures, past p c.loop-c-test.true (step_is (goal.at.known_wrong-wrong-requires c).After-cells_in-step).1);
       },
       c.lanes_for-lanes.ensures.some,
@@ -63,7 +62,7 @@ known_wrong-wrong-requires c =
 
 pub overflow_add-c : goal.overflow_add-c
 overflow_add-c c =
-    record { fits = omega (arith, c.requires.2, step_fits (goal.at.overflow_add-c c).After-cells_in-step, c.loop-c-test.true) }
+    record { fits = omega (arith, c.requires.1, step_fits (goal.at.overflow_add-c c).After-cells_in-step, c.loop-c-test.true) }
 
 pub loop-c-smaller : goal.loop-c-smaller
 loop-c-smaller c = omega (arith, (step_is (goal.at.loop-c-smaller c).After-cells_in-step).1, c.loop-c-test.true)
@@ -73,9 +72,9 @@ loop-c-preserved c =
     let p = c.part-a.ensures in
     let a = c.part-a.result in
     let step = c.cells_in-step in
-    let wrong : ℕ → ℕ = wrong_of (λ i. plain_wrong c.args.q (seen_at c.args.b.now c.args.m) (a + i)) (c.loop-c.c - a) in (
+    let wrong : ℕ → ℕ = wrong_of (λ i. plain_wrong c.args.q (seen_at c.args.m.bytes.now c.args.m.matrix) (a + i)) (c.loop-c.c - a) in (
       omega (arith, c.loop-c.invariant.0),
-      subst (λ (v : ℕ). Tested (plain_test c.args.q (seen_at c.args.b.now c.args.m)) c.args.f.n (c.args.f.n + c.args.f.p) (c.loop-c.c + step.result) (bit_or c.loop-c.wrong v))
+      subst (λ (v : ℕ). Tested (plain_test c.args.q (seen_at c.args.m.bytes.now c.args.m.matrix)) c.args.f.n (c.args.f.n + c.args.f.p) (c.loop-c.c + step.result) (bit_or c.loop-c.wrong v))
           (sym (c.known_wrong-wrong.ensures ∙ ap wrong (sym step.ensures)))
           (tested_part c.args.q _ _ _ _ _ a (c.loop-c.c - a) _ c.loop-c.invariant.1 p (omega (arith, c.loop-c.invariant.0, p.near)) (omega (arith, p.near))),
     )

@@ -6,7 +6,7 @@ use Rattle.plains.specs.Parts.{Tested}
 use Rattle.plains.proofs.parts_right.Given as goal
 
 abbrev pub invariant-loop-c : goal.invariant-loop-c
-invariant-loop-c l = (l.n ≤ l.c) × Tested (plain_test l.q (seen_at l.b l.m)) l.n l.all l.c l.wrong
+invariant-loop-c l = (l.n ≤ l.c) × Tested (plain_test l.q (seen_at l.m.bytes.now l.m.matrix)) l.n l.all l.c l.wrong
 
 abbrev pub decreases-loop-c : goal.decreases-loop-c
 decreases-loop-c l = l.all - l.c

@@ -8,18 +8,17 @@ use Rattle.plains.proofs.plains.Goals as goal
 use Rattle.plains.proofs.plains.Goals.{Start}
 
 -- a row's lanes are its columns
-cells_whole : (s : Start) → s.args.m.lanes / s.args.q ≡ s.args.f.n + s.args.f.p
-cells_whole s = ap (λ (i : ℕ). i / s.args.q) s.requires.3 ∙ cells_of s.requires.1 _
+cells_whole : (s : Start) → s.args.m.matrix.lanes / s.args.q ≡ s.args.f.n + s.args.f.p
+cells_whole s = ap (λ (i : ℕ). i / s.args.q) s.requires.2 ∙ cells_of s.requires.0 _
 
 pub part_wrong-requires : goal.part_wrong-requires
 part_wrong-requires c =
     let few = c.if-m-lt-AT_ONCE.true in (
       record {
-        laid = c.requires.0;
-        number = c.requires.1;
+        number = c.requires.0;
         first = omega arith;
         few = omega (arith, few);
-        inside = omega (arith, lanes_none c.requires.1);
+        inside = omega (arith, lanes_none c.requires.0);
         left = omega (arith, cells_whole (goal.at.part_wrong-requires c).Start);
       },
       omega (arith, few),

@@ -1,6 +1,6 @@
 -- `tallies::row` meets its contract.
 use borrow.Author.Rules.{rules}
-use Prim.Native.Nat.{ℕ, ◌-◌, ◌*◌, ◌%◌}
+use Prim.Native.Nat.{ℕ, ◌*◌, ◌%◌}
 use native.Mathlib.Nat.{le_refl}
 use native.Mathlib.Omega.{arith}
 use mathlib.Core.Path.{ap}
@@ -25,5 +25,8 @@ loop-j-preserved c =
     let l = c.loop-j in
     (search rules, joined_step _ _ _ _ _ _ _ _ _ _ _ _ l.invariant.1 c.requires.sized c.loop-j-test.true (ap (λ (x : ℕ). x % 4 * 256) c.lane-v.ensures.low) c.lane-v.ensures.word)
 
-pub returns : goal.returns
-returns c = let l = c.loop-j in joined_done _ _ _ _ _ _ _ _ _ _ _ l.invariant.0 c.loop-j-test.false l.invariant.1
+pub returns-clause-joined : goal.returns-clause-joined
+returns-clause-joined c = let l = c.loop-j in joined_done _ _ _ _ _ _ _ _ _ _ _ l.invariant.0 c.loop-j-test.false l.invariant.1
+
+pub returns-clause-bytes : goal.returns-clause-bytes
+returns-clause-bytes c = record { octet = λ j. (c.type_inv.b j).fits }

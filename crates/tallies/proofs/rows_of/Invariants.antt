@@ -6,7 +6,7 @@ use Rattle.tallies.specs.Blocks.{Several}
 use Rattle.tallies.proofs.rows_of.Given as goal
 
 abbrev pub invariant-loop-r : goal.invariant-loop-r
-invariant-loop-r l = (l.r ≤ l.rows) × (l.at ≡ row_place l.m l.r + 2 * l.c) × Several l.b l.m l.c l.r l.low l.odd l.since
+invariant-loop-r l = (l.r ≤ l.rows) × (l.at ≡ row_place l.m.matrix l.r + 2 * l.c) × Several l.m.bytes.now l.m.matrix l.c l.r l.low l.odd l.since
 
 abbrev pub decreases-loop-r : goal.decreases-loop-r
 decreases-loop-r l = l.rows - l.r

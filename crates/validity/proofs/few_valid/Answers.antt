@@ -13,7 +13,7 @@ use Rattle.columns.specs.Cells.{lanes_of, matrix_of}
 use Rattle.columns.specs.Checks.{Celled}
 use Rattle.plains.specs.Parts.{lanes_single}
 use Rattle.few_subjects.specs.Counts.{since_few}
-use Rattle.validity.specs.Header.{lanes_celled}
+use Rattle.validity.specs.Header.{lanes_laid, lanes_celled}
 use Rattle.validity.specs.Few.{surely}
 use Rattle.validity.proofs.few_valid.Goals as goal
 use Rattle.validity.proofs.few_valid.Goals.{After-lanes_of}
@@ -32,15 +32,18 @@ same c = λ i. record {
   lanes = (c.lanes_of.ensures ∙ ap (λ (w : ℕ). lanes_of (w / 2) (c.args.f.n + c.args.f.p)) (sym c.requires.1.width)) i;
 }
 
-celled : (c : After-lanes_of) → Celled 1 c.args.b.now (laned c.args.f c.lanes_of.result)
-celled c = subst (λ (q : ℕ). Celled q c.args.b.now (laned c.args.f c.lanes_of.result)) (ap (λ (w : ℕ). w / 2) c.requires.1.width) (lanes_celled _ c.args.f (laned c.args.f c.lanes_of.result) c.requires.0 (same c))
+celled : (c : After-lanes_of) → Celled 1 (laned c.args.f c.lanes_of.result)
+celled c = subst (λ (q : ℕ). Celled q (laned c.args.f c.lanes_of.result)) (ap (λ (w : ℕ). w / 2) c.requires.1.width) (lanes_celled _ c.args.f (laned c.args.f c.lanes_of.result) c.requires.0 (same c))
 
 pub lanes_of-requires : goal.lanes_of-requires
 lanes_of-requires c = let h = right_shape c.requires.0 in (inl refl, omega (arith, h.high, h.plain))
 
+pub invariant_of-m : goal.invariant_of-m
+invariant_of-m c = record { laid = lanes_laid _ c.args.f (laned c.args.f c.lanes_of.result) c.requires.0 (same (goal.at.invariant_of-m c).After-lanes_of) }
+
 pub rows_of-requires : goal.rows_of-requires
 rows_of-requires c =
-    ((celled (goal.at.rows_of-requires c).After-lanes_of).laid, omega (arith, c.requires.1.subjects), omega (arith, c.lanes_of.ensures, lanes_single (c.args.f.n + c.args.f.p), c.requires.1.enough), several_none _ _ _)
+    (omega (arith, c.requires.1.subjects), omega (arith, c.lanes_of.ensures, lanes_single (c.args.f.n + c.args.f.p), c.requires.1.enough), several_none _ _ _)
 
 pub all_present-requires : goal.all_present-requires
 all_present-requires c = celled (goal.at.all_present-requires c).After-lanes_of
@@ -55,7 +58,6 @@ pub one_part-requires : goal.one_part-requires
 one_part-requires c =
     let h = right (goal.at.one_part-requires c).After-lanes_of in
     let f = c.args.f in (
-      (celled (goal.at.one_part-requires c).After-lanes_of).laid,
       inl refl,
       omega (arith, h.high, h.plain),
       c.lanes_of.ensures,

@@ -13,7 +13,7 @@ use Rattle.lanes.specs.Lanes.{seen_at, Counted}
 use Rattle.columns.specs.Cells.{OneOrTwo, most_counted, matrix_of, counted_most, lanes_of_width}
 use Rattle.columns.specs.Checks.{subject_test, Celled}
 use Rattle.plains.specs.Checks.{plain_test}
-use Rattle.validity.specs.Header.{lanes_celled}
+use Rattle.validity.specs.Header.{lanes_laid, lanes_celled}
 use Rattle.validity.specs.Whole.{Scanned, table_size, table_inside, subjects_wrong, plain_wrong, owners_left}
 use Rattle.validity.proofs.tested.Goals as goal
 use Rattle.validity.proofs.tested.Goals.{After-count, After-lanes_of, Else-not-plains, Else-not-subjects, Start}
@@ -32,7 +32,7 @@ laned f l = record { first = f.first; rows = f.n; lanes = l }
 same : (c : After-lanes_of) → laned c.args.f c.lanes_of.result ≡ matrix_of c.args.f
 same c = λ i. record { first = c.args.f.first; rows = c.args.f.n; lanes = c.lanes_of.ensures i }
 
-celled : (c : After-lanes_of) → Celled (c.args.f.width / 2) c.args.b.now (laned c.args.f c.lanes_of.result)
+celled : (c : After-lanes_of) → Celled (c.args.f.width / 2) (laned c.args.f c.lanes_of.result)
 celled c = lanes_celled _ c.args.f (laned c.args.f c.lanes_of.result) c.requires.0 (same c)
 
 pub overflow_add-n : goal.overflow_add-n
@@ -44,10 +44,12 @@ lanes_of-requires c = let h = right (goal.at.lanes_of-requires c).Start in (cell
 pub lanes_of-requires-2 : goal.lanes_of-requires-2
 lanes_of-requires-2 c = let h = right (goal.at.lanes_of-requires-2 c).Start in (cells (goal.at.lanes_of-requires-2 c).Start, omega (arith, h.high))
 
+pub invariant_of-m : goal.invariant_of-m
+invariant_of-m c = record { laid = lanes_laid _ c.args.f (laned c.args.f c.lanes_of.result) c.requires.0 (same (goal.at.invariant_of-m c).After-lanes_of) }
+
 pub count-requires : goal.count-requires
 count-requires c =
     let h = right (goal.at.count-requires c).Start in (
-      (celled (goal.at.count-requires c).After-lanes_of).laid,
       omega (arith, h.high),
       omega (arith, c.lanes_of-2.ensures, (celled (goal.at.count-requires c).After-lanes_of).inside),
       omega (arith, c.lanes_of-2.ensures, counted_most (cells (goal.at.count-requires c).Start) _ h.high),
@@ -81,7 +83,7 @@ returns-then-not-subjects c =
 pub plains-requires : goal.plains-requires
 plains-requires c =
     let h = right (goal.at.plains-requires c).Start in
-    ((celled (goal.at.plains-requires c).After-lanes_of).laid, cells (goal.at.plains-requires c).Start, omega (arith, h.high, h.plain), c.lanes_of.ensures)
+    (cells (goal.at.plains-requires c).Start, omega (arith, h.high, h.plain), c.lanes_of.ensures)
 
 -- where the tests of the subjects, and of the plain columns, pass
 subjects_pass : (c : Else-not-subjects) →
