@@ -2,7 +2,8 @@
 
 #![tactic(auto)]
 
-ghost use Rattle.std.specs.Prelude.{◌≡◌, ◌+◌, ◌/◌, ◌≤◌, ◌<◌, length, get_or};
+ghost use Rattle.std.specs.Prelude.{◌≡◌, ◌+◌, ◌/◌, ◌≤◌, ◌<◌, eqb, length, get_or};
+ghost use Rattle.matrix.specs.Bounded.{all};
 ghost use Rattle.lanes.specs.Lists.{Part};
 ghost use Rattle.lanes.specs.Lanes.{fault_of, lane_in, Laid};
 
@@ -47,4 +48,11 @@ pub fn fault(passes: bool) -> u8
     ensures { result ≡ fault_of passes }
 {
     if passes { 0 } else { 1 }
+}
+
+// All bytes are zero. All of them are looked at, so that the compiler may take many at once.
+pub fn all_zero(b: &[u8]) -> bool
+    ensures { result ≡ all (length b.now) (λ j. eqb (get_or b.now j 0) 0) }
+{
+    b.iter().fold(0, |any, byte| any | byte) == 0
 }

@@ -34,13 +34,6 @@ fn double(t: &[u8], u: &mut [u8])
     }
 }
 
-// The entries are all U. All of them are looked at, so that the compiler may take many at once.
-fn all_root(t: &[u8]) -> bool
-    ensures { result ≡ all (length t.now) (λ s. eqb (owner_in t.now s) 0) }
-{
-    t.iter().fold(0, |any, owner| any | owner) == 0
-}
-
 // Following owners from any subject comes to U: it does where each owner has a lower number than what it owns, and else after six doublings
 // each entry has followed 64 owners, and there are fewer subjects. Where all have come to U before, the rest of the doublings is left out.
 pub fn rooted(owners: &[u8]) -> bool
@@ -59,7 +52,7 @@ pub fn rooted(owners: &[u8]) -> bool
     for pass in 0..3usize {
         double(v, u);
         double(u, v);
-        if all_root(v) {
+        if lanes::all_zero(v) {
             return true;
         }
     }
