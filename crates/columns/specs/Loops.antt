@@ -64,25 +64,20 @@ subjects_seen {q} h b m seen tally odd room s =
 pub cell_inside : {q : ℕ} → OneOrTwo q → (plain : ℕ) (m : Matrix) (s : ℕ) → Celled q plain m → s < m.rows → 2 * last_lane q s + 1 < row_bytes m
 cell_inside h plain m s c l = omega (arith, c.width, last_inside h s m.rows l, lanes_more h m.rows (m.rows + plain) (omega arith))
 
--- subject s, by the bytes of its row: one that exists, an absent one
-module _ (q : ℕ) (b : List ℕ) (m : Matrix) (seen : ℕ → ℕ) (tally odd : List ℕ) (s : ℕ) (row : List ℕ) (read : IsRow b m s row)
-    (inside : 2 * last_lane q s + 1 < row_bytes m) where
-  pub own_read : bit 1 (get_or row (2 * last_lane q s + 1) 0) ≡ present q b m s
-  own_read = ap (bit 1) (read.value _ inside)
+-- subject s: one that exists; an absent one, by the bytes of its row
+module _ (q : ℕ) (b : List ℕ) (m : Matrix) (seen : ℕ → ℕ) (tally odd : List ℕ) (s : ℕ) where
+  pub subject_here : (r : Bool) (j : ℕ) → j ≡ last_lane q s → present q b m s ≡ true → r ≡ counts s (get_or tally j 0) (get_or odd j 0)
+      → r ≡ subject_test q b m seen tally odd s
+  unfolding subject_test
+  subject_here r j p h k = rw h (k ∙ ap (λ (i : ℕ). counts s (get_or tally i 0) (get_or odd i 0)) p)
 
-  zero_read : all (length row) (λ j. eqb (get_or row j 0) 0) ≡ zero_from b (row_place m s) (row_bytes m)
-  zero_read =
-      ap (λ (k : ℕ). all k (λ j. eqb (get_or row j 0) 0)) read.size ∙ all_same _ _ _ (λ j l. ap (λ (x : ℕ). eqb x 0) (read.value j l))
-      ∙ sym (merged_zero (row_bytes m) (λ j. byte_at b m s j))
+  pub subject_absent : present q b m s ≡ false → (not (eqb s 0) && (unseen q seen s && zero_from b (row_place m s) (row_bytes m))) ≡ subject_test q b m seen tally odd s
+  unfolding subject_test
+  subject_absent h = rw h refl
 
-  module _ (r : Bool) where
-    pub subject_here : (j : ℕ) → j ≡ last_lane q s → present q b m s ≡ true → r ≡ counts s (get_or tally j 0) (get_or odd j 0)
-        → r ≡ subject_test q b m seen tally odd s
-    unfolding subject_test
-    subject_here j p h k = rw h (k ∙ ap (λ (i : ℕ). counts s (get_or tally i 0) (get_or odd i 0)) p)
-
-    pub subject_absent : present q b m s ≡ false
-        → r ≡ (not (eqb s 0) && (unseen q seen s && all (length row) (λ j. eqb (get_or row j 0) 0)))
-        → r ≡ subject_test q b m seen tally odd s
-    unfolding subject_test
-    subject_absent h k = rw h (k ∙ ap (λ (z : Bool). not (eqb s 0) && (unseen q seen s && z)) zero_read)
+-- the row is zero where its bytes are
+pub row_zeros : (b : List ℕ) (m : Matrix) (s : ℕ) (row : List ℕ) → IsRow b m s row
+    → all (length row) (λ j. eqb (get_or row j 0) 0) ≡ zero_from b (row_place m s) (row_bytes m)
+row_zeros b m s row read =
+    ap (λ (k : ℕ). all k (λ j. eqb (get_or row j 0) 0)) read.size ∙ all_same _ _ _ (λ j l. ap (λ (x : ℕ). eqb x 0) (read.value j l))
+    ∙ sym (merged_zero (row_bytes m) (λ j. byte_at b m s j))

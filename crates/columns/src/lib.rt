@@ -83,14 +83,6 @@ fn controls(upper: u8) -> bool
     upper / 2 % 2 == 1
 }
 
-// Subject s, whose row this is, exists: its own cell has control.
-fn exists<W: Width>(row: &[u8], s: usize) -> bool
-    requires { (s < most_columns) × (2 * last_lane W.LANES s + 1 < length row.now) }
-    ensures { result ≡ bit 1 (get_or row.now (2 * last_lane W.LANES s + 1) 0) }
-{
-    controls(row[2 * last_lane::<W>(s) + 1])
-}
-
 // U has no owner, and nobody else controls it: of a tally of 2, which is the number of owners and twice that of those that control, an odd
 // number control.
 fn root_counts(tally: u8, odd: u8) -> bool
@@ -161,13 +153,21 @@ impl<'a, W: Width> Cells<'a, W> {
         &self.lanes.bytes[at..at + 2 * m.lanes]
     }
 
+    // Subject s exists: its own cell has control.
+    fn exists(&self, s: usize) -> bool
+        requires { s < self.now.lanes.matrix.rows }
+        ensures { result ≡ present W.LANES self.now.lanes.bytes.now self.now.lanes.matrix s }
+    {
+        controls(self.lanes.upper(s, last_lane::<W>(s)))
+    }
+
     // Every subject exists. All of them are looked at.
     pub fn all_present(&self) -> bool
         ensures { result ≡ all self.now.lanes.matrix.rows (present W.LANES self.now.lanes.bytes.now self.now.lanes.matrix) }
     {
         let mut missing = 0;
         for s in 0..self.lanes.matrix.rows {
-            missing |= lanes::fault(exists::<W>(self.row(s), s));
+            missing |= lanes::fault(self.exists(s));
         }
         missing == 0
     }
@@ -183,12 +183,11 @@ impl<'a, W: Width> Cells<'a, W> {
         requires { s < self.now.lanes.matrix.rows }
         ensures { result ≡ subject_test W.LANES self.now.lanes.bytes.now self.now.lanes.matrix (λ j. get_or seen.now j 0) tally.now odd.now s }
     {
-        let row = self.row(s);
-        if exists::<W>(row, s) {
+        if self.exists(s) {
             let j = last_lane::<W>(s);
             counts(s, tally[j], odd[j])
         } else {
-            s != 0 && bits_of::<W>(seen, s) == 0 && lanes::all_zero(row)
+            s != 0 && bits_of::<W>(seen, s) == 0 && lanes::all_zero(self.row(s))
         }
     }
 

@@ -13,12 +13,9 @@ pub fn merge(seen: &mut [u16], m: Lanes, c: usize, k: usize)
     requires { (c + k ≤ m.matrix.lanes) × (k ≤ length seen.old) × (seen.old ≡ replicate (length seen.old) 0) }
     ensures { Seen m.entry.bytes.now m.entry.matrix c k (length seen.old) seen.new }
 {
-    let rows = m.matrix.rows;
-    let mut at = m.matrix.first + 2 * c;
-    for r in 0..rows {
+    for r in 0..m.matrix.rows {
         for j in 0..k {
-            seen[j] = seen[j] | lanes::lane(m.bytes, at + 2 * j);
+            seen[j] |= m.lane(r, c + j);
         }
-        at += 2 * m.matrix.lanes;
     }
 }

@@ -10,18 +10,11 @@ use Rattle.columns.proofs.Cells.all_present.Goals as goal
 pub loop-s-init : goal.loop-s-init
 loop-s-init g c = merged_none _
 
-pub exists-requires : goal.exists-requires
-exists-requires g c =
-    let h = c.args.self.now.celled in
-    (omega (arith, h.few), omega (arith, c.row.ensures.size, cell_inside g.W.Width.one_or_two _ _ c.loop-s.s h c.loop-s-test.true))
-
 pub loop-s-preserved : goal.loop-s-preserved
 loop-s-preserved g c =
     let l = c.loop-s in
     let m = c.args.self.now.lanes in
-    let inside = cell_inside g.W.Width.one_or_two _ _ l.s c.args.self.now.celled c.loop-s-test.true in
-    ap (λ (x : ℕ). bit_or l.missing x)
-    (c.fault-missing.ensures ∙ ap fault_of (c.exists.ensures ∙ ap (bit 1) (c.row.ensures.value _ inside)))
+    ap (λ (x : ℕ). bit_or l.missing x) (c.fault-missing.ensures ∙ ap fault_of c.exists.ensures)
     ∙ merged_more l.s (λ i. fault_of (present g.W.Width.LANES m.bytes.now m.matrix i)) l.missing l.invariant
 
 pub returns : goal.returns
