@@ -2,17 +2,17 @@
 
 #![tactic(auto)]
 
-ghost use Rattle.std.specs.Prelude.{◌≡◌, ℕ, ◌+◌, ◌*◌, ◌≤◌, ◌<◌, length, get_or, refl};
+ghost use Rattle.std.specs.Prelude.{◌≡◌, ℕ, ◌/◌, ◌≤◌, ◌<◌, length, get_or, refl};
 ghost use Rattle.std.proofs.Common.{inl, inr};
 ghost use Rattle.matrix.specs.Bounded.{all};
 ghost use Rattle.matrix.specs.Bytes.{bit};
 ghost use Rattle.matrix.specs.Shape.{most_subjects};
-ghost use Rattle.lanes.specs.Lanes.{seen_at};
+ghost use Rattle.lanes.specs.Lanes.{lane_at, upper_at, seen_at};
 ghost use Rattle.lanes.specs.Lists.{Stored};
 ghost use Rattle.columns.specs.Cells.{OneOrTwo, most_columns, lanes_of, last_lane, bits_in};
 ghost use Rattle.columns.specs.Checks.{present, root_counts, other_counts, counts, count_test, subject_test, Celled, IsRow};
 
-use lanes::Lanes;
+use lanes::{Lanes, UPPER};
 use matrix::MOST_SUBJECTS;
 use std::marker::PhantomData;
 
@@ -76,7 +76,7 @@ pub fn bits_of<W: Width>(seen: &[u16], c: usize) -> u16
     seen[lanes_of::<W>(c)] | seen[last_lane::<W>(c)]
 }
 
-// The upper byte of a cell's last lane has control.
+// The upper byte of a cell's last lane has control, or an odd number of them have.
 fn controls(upper: u8) -> bool
     ensures { result ≡ bit 1 upper }
 {
@@ -95,7 +95,11 @@ fn root_counts(tally: u8, odd: u8) -> bool
 fn other_counts(tally: u8, odd: u8) -> bool
     ensures { result ≡ other_counts tally odd }
 {
-    tally == if controls(odd) { 3 } else { 5 }
+    if controls(odd) {
+        tally == 3
+    } else {
+        tally == 5
+    }
 }
 
 // The counts of subject s, which exists.
@@ -148,17 +152,17 @@ impl<'a, W: Width> Cells<'a, W> {
         requires { s < self.now.lanes.matrix.rows }
         ensures { IsRow self.now.lanes.bytes.now self.now.lanes.matrix s result.now }
     {
-        let m = self.lanes.matrix;
-        let at = m.first + s * (2 * m.lanes);
-        &self.lanes.bytes[at..at + 2 * m.lanes]
+        let at = self.lanes.place(s, 0);
+        &self.lanes.bytes[at..at + 2 * self.lanes.matrix.lanes]
     }
 
-    // Subject s exists: its own cell has control.
-    fn exists(&self, s: usize) -> bool
+    // The last lane of the own cell of subject s, which exists where the lane has control.
+    fn own(&self, s: usize) -> u16
         requires { s < self.now.lanes.matrix.rows }
-        ensures { result ≡ present W.LANES self.now.lanes.bytes.now self.now.lanes.matrix s }
+        ensures lane { result ≡ lane_at self.now.lanes.bytes.now self.now.lanes.matrix s (last_lane W.LANES s) }
+        ensures upper { result / 256 ≡ upper_at self.now.lanes.bytes.now self.now.lanes.matrix s (last_lane W.LANES s) }
     {
-        controls(self.lanes.upper(s, last_lane::<W>(s)))
+        lanes::lane(self.lanes.bytes, self.lanes.place(s, last_lane::<W>(s)))
     }
 
     // Every subject exists. All of them are looked at.
@@ -167,7 +171,7 @@ impl<'a, W: Width> Cells<'a, W> {
     {
         let mut missing = 0;
         for s in 0..self.lanes.matrix.rows {
-            missing |= lanes::fault(self.exists(s));
+            missing |= lanes::fault(controls((self.own(s) / UPPER) as u8));
         }
         missing == 0
     }
@@ -183,7 +187,7 @@ impl<'a, W: Width> Cells<'a, W> {
         requires { s < self.now.lanes.matrix.rows }
         ensures { result ≡ subject_test W.LANES self.now.lanes.bytes.now self.now.lanes.matrix (λ j. get_or seen.now j 0) tally.now odd.now s }
     {
-        if self.exists(s) {
+        if controls((self.own(s) / UPPER) as u8) {
             let j = last_lane::<W>(s);
             counts(s, tally[j], odd[j])
         } else {
