@@ -1,5 +1,5 @@
 -- Records with few columns, whose subjects are counted in a few numbers.
-use Rattle.std.specs.Prelude.{ℕ, zero, suc, ◌+◌, ◌-◌, ◌*◌, ◌/◌, ◌%◌, ◌≤◌, ◌<◌, ◌≡◌, refl, true, List, length, get_or, set, replicate}
+use Rattle.std.specs.Prelude.{ℕ, zero, suc, ◌+◌, ◌-◌, ◌*◌, ◌/◌, ◌%◌, ◌≤◌, ◌<◌, ◌≡◌, refl, true, false, List, length, get_or, set, replicate}
 use Rattle.std.proofs.Common.{arith, ◌∙◌, ap, subst}
 use Rattle.std.proofs.Math.Path.{sym, ap₂}
 use Rattle.std.proofs.lemmas.List.{length-replicate}
@@ -13,8 +13,9 @@ use Rattle.cells.specs.Station.{Station}
 use Rattle.lanes.specs.declared.Matrix.{Matrix}
 use Rattle.lanes.specs.Lists.{Holds, Stored, stored_none, stored_step, Filled}
 use Rattle.lanes.specs.Lanes.{lows, paired, mark_of, place_of, upper_at, bit_in, seen_at}
-use Rattle.tallies.specs.Blocks.{at_once, Several}
-use Rattle.pairs.specs.Pairs.{taken}
+use Rattle.tallies.specs.declared.Counts.{Counts}
+use Rattle.tallies.specs.Blocks.{at_once}
+use Rattle.tallies.specs.Halves.{added, taken, Halves}
 use Rattle.columns.specs.Cells.{most_counted, lanes_of, last_lane, matrix_of}
 use Rattle.columns.specs.Checks.{present, counts, count_test, subject_test}
 use Rattle.columns.specs.Loops.{counts_test}
@@ -54,7 +55,7 @@ unfolding last_lane
 single s = omega arith
 
 -- Such a record, whose lanes are counted over all rows.
-module _ (b : List ℕ) (f : Shape) (m : Matrix) (station : Station b f) (few : FewColumns f) (lanes : m ≡ matrix_of f) (low odd owned : List ℕ) (k : Several b m 0 m.rows low odd owned) where
+module _ (b : List ℕ) (f : Shape) (m : Matrix) (station : Station b f) (few : FewColumns f) (lanes : m ≡ matrix_of f) (counted : Counts) (k : Halves (added false b m 0) m.rows counted) where
   abbrev n : ℕ
   n = m.rows
 
@@ -93,30 +94,30 @@ module _ (b : List ℕ) (f : Shape) (m : Matrix) (station : Station b f) (few : 
       }
 
   -- the counts of a subject are those of the lists
-  counts_same : (s : ℕ) → s < n → count_test 1 tally parity s ≡ few_test low odd s
+  counts_same : (s : ℕ) → s < n → count_test 1 tally parity s ≡ few_test counted s
   unfolding count_test few_test
   counts_same s l =
-      ap₂ (λ (x y : ℕ). counts s x y) (filled_at _ s l ∙ sym (tally_is b m low odd owned k small s (omega (arith, subjects_few))))
-      (filled_at _ s l ∙ sym (odd_is b m low odd owned k small s (omega (arith, subjects_few))))
+      ap₂ (λ (x y : ℕ). counts s x y) (filled_at _ s l ∙ sym (tally_is b m counted k small s (omega (arith, subjects_few))))
+      (filled_at _ s l ∙ sym (odd_is b m counted k small s (omega (arith, subjects_few))))
 
   -- where all subjects exist and their counts fit, they pass their tests
-  subjects_pass : all n (present 1 b m) ≡ true → all n (few_test low odd) ≡ true → all n (subject_test 1 b m (seen_at b m) tally parity) ≡ true
+  subjects_pass : all n (present 1 b m) ≡ true → all n (few_test counted) ≡ true → all n (subject_test 1 b m (seen_at b m) tally parity) ≡ true
   subjects_pass p c = sym (counts_test 1 b m (seen_at b m) tally parity p) ∙ all_same n _ _ counts_same ∙ c
 
   -- the owners are put at their subjects' places
-  owners_put : (owners table : List ℕ) → Filled 0 at_once (λ x. place_of n (taken owned 256 (x - 0))) owners table → Stored n (owner_at 1 marks) table table
+  owners_put : (owners table : List ℕ) → Filled 0 at_once (λ x. place_of n (taken counted.since 256 (x - 0))) owners table → Stored n (owner_at 1 marks) table table
   owners_put owners table put =
       record {
         size = refl;
         below =
-            λ s l. put.inside s (omega arith) (omega (arith, subjects_few)) ∙ ap (λ (i : ℕ). place_of n (taken owned 256 i)) (omega arith)
-            ∙ ap (place_of n) (since_is b m low odd owned k small s (omega (arith, subjects_few))) ∙ sym (filled_at _ s l);
+            λ s l. put.inside s (omega arith) (omega (arith, subjects_few)) ∙ ap (λ (i : ℕ). place_of n (taken counted.since 256 i)) (omega arith)
+            ∙ ap (place_of n) (since_is b m counted k small s (omega (arith, subjects_few))) ∙ sym (filled_at _ s l);
         above = λ s l. refl;
       }
 
   -- where the plain columns pass too, and each owner has a lower number, the matrix is valid
-  pub surely : (owners table : List ℕ) → length table ≡ most_subjects → Filled 0 at_once (λ x. place_of n (taken owned 256 (x - 0))) owners table
-      → all n (present 1 b m) ≡ true → all n (few_test low odd) ≡ true → all f.p (λ i. plain_test 1 (seen_at b m) (n + i)) ≡ true → all n (lower_test table) ≡ true
+  pub surely : (owners table : List ℕ) → length table ≡ most_subjects → Filled 0 at_once (λ x. place_of n (taken counted.since 256 (x - 0))) owners table
+      → all n (present 1 b m) ≡ true → all n (few_test counted) ≡ true → all f.p (λ i. plain_test 1 (seen_at b m) (n + i)) ≡ true → all n (lower_test table) ≡ true
       → true ≡ valid_matrix (shape_of b) (state_of b)
   surely owners table size put p c plain lower =
       (owners_left b f 1 m tally parity marks scanned table size table (subjects_pass p c) plain (owners_put owners table put) true

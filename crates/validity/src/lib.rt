@@ -80,20 +80,17 @@ fn few_valid(b: &[u8], f: Shape, owners: &mut [u8; MOST_SUBJECTS]) -> bool
             lanes: columns::lanes_of(1, n + f.p),
         },
     };
-    let mut low = [0u16; AT_ONCE];
-    let mut odd = [0u16; AT_ONCE];
-    let mut since = [0u16; AT_ONCE];
-    tallies::rows_of(&mut low, &mut odd, &mut since, m, 0);
+    let counts = tallies::rows(m, 0, false);
     if !columns::all_present(m, 1) {
         return false;
     }
-    if !few_subjects::counts_fit(&low, &odd, n) {
+    if !few_subjects::counts_fit(&counts, n) {
         return false;
     }
     if !plains::one_part(f, m, 1) {
         return false;
     }
-    pairs::put_places(owners, 0, &since, UPPER, n);
+    tallies::put_places(owners, 0, &counts.since, UPPER, n);
     owner_table::descends(owners, n)
 }
 

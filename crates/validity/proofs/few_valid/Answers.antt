@@ -8,7 +8,6 @@ use Rattle.matrix.specs.declared.Shape.{Shape}
 use Rattle.codec.specs.ShapeRight.{ShapeRight}
 use Rattle.cells.specs.Station.{right_shape}
 use Rattle.lanes.specs.declared.Matrix.{Matrix}
-use Rattle.tallies.specs.Blocks.{several_none}
 use Rattle.columns.specs.Cells.{lanes_of, matrix_of}
 use Rattle.columns.specs.Checks.{Celled}
 use Rattle.plains.specs.Parts.{lanes_single}
@@ -41,9 +40,9 @@ lanes_of-requires c = let h = right_shape c.requires.0 in (inl refl, omega (arit
 pub invariant_of-m : goal.invariant_of-m
 invariant_of-m c = record { laid = lanes_laid _ c.args.f (laned c.args.f c.lanes_of.result) c.requires.0 (same (goal.at.invariant_of-m c).After-lanes_of) }
 
-pub rows_of-requires : goal.rows_of-requires
-rows_of-requires c =
-    (omega (arith, c.requires.1.subjects), omega (arith, c.lanes_of.ensures, lanes_single (c.args.f.n + c.args.f.p), c.requires.1.enough), several_none _ _ _)
+pub rows-counts-requires : goal.rows-counts-requires
+rows-counts-requires c =
+    (omega (arith, c.requires.1.subjects), omega (arith, c.lanes_of.ensures, lanes_single (c.args.f.n + c.args.f.p), c.requires.1.enough))
 
 pub all_present-requires : goal.all_present-requires
 all_present-requires c = celled (goal.at.all_present-requires c).After-lanes_of
@@ -74,7 +73,7 @@ put_places-requires c =
       omega arith,
       omega (arith, c.requires.2),
       omega (arith, few),
-      λ j below. since_few _ (laned c.args.f c.lanes_of.result) _ _ _ c.rows_of.ensures (omega (arith, few)) j below,
+      λ j below. since_few _ (laned c.args.f c.lanes_of.result) _ c.rows-counts.ensures (omega (arith, few)) j below,
     )
 
 pub descends-requires : goal.descends-requires
@@ -84,7 +83,7 @@ pub returns : goal.returns
 returns c =
     let put = c.put_places.ensures in
     let size = put.size ∙ c.requires.2 in record {
-      verdict = λ e. surely _ c.args.f (laned c.args.f c.lanes_of.result) c.requires.0 c.requires.1 (same (goal.at.returns c).After-lanes_of) _ _ _ c.rows_of.ensures _ _ size put
+      verdict = λ e. surely _ c.args.f (laned c.args.f c.lanes_of.result) c.requires.0 c.requires.1 (same (goal.at.returns c).After-lanes_of) _ c.rows-counts.ensures _ _ size put
           (sym c.all_present.ensures ∙ c.if-not-all_present.false)
           (sym c.counts_fit.ensures ∙ c.if-not-counts_fit.false)
           (sym c.one_part.ensures ∙ c.if-not-one_part.false)
