@@ -22,7 +22,7 @@ const MOST_LANES: usize = 2;
 pub const COUNTED: usize = MOST_LANES * MOST_SUBJECTS;
 
 // How many lanes a cell has: a type, so that the compiler knows the number in every loop over cells.
-pub trait Width {
+pub trait Width: Drop {
     ghost LANES: { ℕ };
 
     const LANES: usize;
@@ -31,6 +31,7 @@ pub trait Width {
 }
 
 // The cells of version 1.
+#[derive(Drop)]
 pub struct OneLane;
 
 impl Width for OneLane {
@@ -42,6 +43,7 @@ impl Width for OneLane {
 }
 
 // The cells of version 2.
+#[derive(Drop)]
 pub struct TwoLanes;
 
 impl Width for TwoLanes {
@@ -139,6 +141,7 @@ pub fn owners<W: Width>(owners: &mut [u8], marks: &[u8; COUNTED])
 
 // The lanes of a record's cells. A row has a cell for each subject, and there are as many rows; after them it has a cell for each of so many
 // plain names.
+#[derive(Drop)]
 pub struct Cells<'a, W: Width> {
     pub lanes: Lanes<'a>,
     pub plain: usize,

@@ -22,7 +22,7 @@ use Rattle.columns.specs.Loops.{counts_test}
 use Rattle.plains.specs.Checks.{plain_test}
 use Rattle.plains.specs.Parts.{lanes_single}
 use Rattle.few_subjects.specs.Counts.{few_test, tally_is, odd_is, since_is}
-use Rattle.owner_table.specs.Table.{lower_test, lower_rooted}
+use Rattle.owner_table.specs.Table.{owner_in, lower_test, lower_rooted}
 use Rattle.validity.specs.Passed.{owner_at}
 use Rattle.validity.specs.Whole.{Scanned, owners_left}
 
@@ -104,21 +104,16 @@ module _ (b : List ℕ) (f : Shape) (m : Matrix) (station : Station b f) (few : 
   subjects_pass : all n (present 1 b m) ≡ true → all n (few_test counted) ≡ true → all n (subject_test 1 b m (seen_at b m) tally parity) ≡ true
   subjects_pass p c = sym (counts_test 1 b m (seen_at b m) tally parity p) ∙ all_same n _ _ counts_same ∙ c
 
-  -- the owners are put at their subjects' places
-  owners_put : (owners table : List ℕ) → Filled 0 at_once (λ x. place_of n (taken counted.since 256 (x - 0))) owners table → Stored n (owner_at 1 marks) table table
-  owners_put owners table put =
-      record {
-        size = refl;
-        below =
-            λ s l. put.inside s (omega arith) (omega (arith, subjects_few)) ∙ ap (λ (i : ℕ). place_of n (taken counted.since 256 i)) (omega arith)
-            ∙ ap (place_of n) (since_is b m counted k small s (omega (arith, subjects_few))) ∙ sym (filled_at _ s l);
-        above = λ s l. refl;
-      }
-
-  -- where the plain columns pass too, and each owner has a lower number, the matrix is valid
-  pub surely : (owners table : List ℕ) → length table ≡ most_subjects → Filled 0 at_once (λ x. place_of n (taken counted.since 256 (x - 0))) owners table
-      → all n (present 1 b m) ≡ true → all n (few_test counted) ≡ true → all f.p (λ i. plain_test 1 (seen_at b m) (n + i)) ≡ true → all n (lower_test table) ≡ true
-      → true ≡ valid_matrix (shape_of b) (state_of b)
-  surely owners table size put p c plain lower =
-      (owners_left b f 1 m tally parity marks scanned table size table (subjects_pass p c) plain (owners_put owners table put) true
-      (sym (lower_rooted n table (omega (arith, subjects_few)) lower))).0
+  -- where the owners are put at their subjects' places, the plain columns pass too, and each owner has a lower number, the matrix is valid
+  pub surely : (owners left table : List ℕ) → Filled 0 at_once (λ x. place_of n (taken counted.since 256 (x - 0))) owners left
+      → length table ≡ n → ((s : ℕ) → s < n → owner_in table s ≡ get_or left s 0)
+      → all n (present 1 b m) ≡ true → all n (few_test counted) ≡ true → all f.p (λ i. plain_test 1 (seen_at b m) (n + i)) ≡ true
+      → all (length table) (lower_test table) ≡ true → true ≡ valid_matrix (shape_of b) (state_of b)
+  surely owners left table put size same p c plain lower =
+      owners_left b f 1 m tally parity marks scanned table (subjects_pass p c) plain size (λ s l. same s l ∙ put_at s l) true
+      (sym (lower_rooted (length table) table (omega (arith, size, subjects_few)) lower))
+    where
+      put_at : (s : ℕ) → s < n → get_or left s 0 ≡ owner_at 1 marks s
+      put_at s l =
+          put.inside s (omega arith) (omega (arith, subjects_few)) ∙ ap (λ (i : ℕ). place_of n (taken counted.since 256 i)) (omega arith)
+          ∙ ap (place_of n) (since_is b m counted k small s (omega (arith, subjects_few))) ∙ sym (filled_at _ s l)

@@ -1,5 +1,5 @@
 -- `plains::one_part` meets its contract.
-use Rattle.std.proofs.Common.{ℕ, ◌/◌, ◌≡◌, ◌∙◌, ap, eqb}
+use Rattle.std.proofs.Common.{arith, ℕ, ◌/◌, ◌≡◌, ◌∙◌, ap, eqb}
 use Rattle.lanes.specs.Lanes.{seen_at}
 use Rattle.plains.specs.Parts.{at_once, once_fits, once_before, once_in, once_tested}
 use Rattle.plains.proofs.one_part.Goals as goal
@@ -17,7 +17,7 @@ overflow_sub-a g c =
 pub overflow_sub-n : goal.overflow_sub-n
 overflow_sub-n g c =
     let a = c.args.cells.now in
-    once_before g.W.Width.one_or_two a.plain a.lanes.matrix a.celled c.requires.0 c.requires.1 _ (cells g (goal.at.overflow_sub-n g c).After-LANES)
+    omega (arith, once_before g.W.Width.one_or_two a.plain a.lanes.matrix a.celled c.requires.0 c.requires.1 _ (cells g (goal.at.overflow_sub-n g c).After-LANES))
 
 pub part_wrong-requires : goal.part_wrong-requires
 part_wrong-requires g c =
