@@ -5,7 +5,7 @@ use Rattle.std.proofs.Math.Path.{sym, ap₂}
 use Rattle.std.proofs.lemmas.List.{length-replicate}
 use Rattle.matrix.specs.Bounded.{all}
 use Rattle.matrix.specs.declared.Shape.{Shape}
-use Rattle.matrix.specs.Shape.{most_subjects, shape_of}
+use Rattle.matrix.specs.Shape.{shape_of}
 use Rattle.matrix.specs.Reading.{state_of}
 use Rattle.matrix.specs.Record.{valid_matrix}
 use Rattle.laws.specs.Bounded.{all_same}

@@ -4,7 +4,7 @@ use Rattle.std.proofs.Common.{arith, sym, ◌∙◌, ap, le-leb}
 use Rattle.std.proofs.Math.Path.{refl}
 use Rattle.std.proofs.lemmas.Bool.{lt-leb}
 use Rattle.matrix.specs.declared.Shape.{Shape}
-use Rattle.matrix.specs.Shape.{limits, header_bytes, shape_of, known_version, columns, in_range, sized}
+use Rattle.matrix.specs.Shape.{limits, header_bytes, shape_of, known_version, in_range, sized}
 use Rattle.matrix.specs.Reading.{state_of}
 use Rattle.matrix.specs.Tests.{first_failed}
 use Rattle.matrix.specs.Record.{valid_matrix, record_refusal}

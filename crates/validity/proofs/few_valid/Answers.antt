@@ -1,10 +1,10 @@
 -- `validity::few_valid` meets its contract.
-use Rattle.std.proofs.Common.{arith, ℕ, ◌≡◌, ◌+◌, ◌/◌, ◌<◌, ◌*◌, ◌∙◌, ◌≤◌, sym, ap, subst, true, List, length, take}
+use Rattle.std.proofs.Common.{arith, ℕ, ◌≡◌, ◌+◌, ◌/◌, ◌∙◌, ◌≤◌, sym, ap, subst, true, List, length, take}
 use Rattle.std.proofs.lemmas.List.{length-take-le, get_or-take}
 use Rattle.matrix.specs.Shape.{shape_of}
 use Rattle.matrix.specs.Reading.{state_of}
 use Rattle.matrix.specs.Record.{valid_matrix}
-use Rattle.cells.specs.Station.{Station, right_shape}
+use Rattle.cells.specs.Station.{Station}
 use Rattle.lanes.specs.declared.Matrix.{Matrix}
 use Rattle.columns.specs.Cells.{lanes_of}
 use Rattle.tallies.specs.Blocks.{at_once}

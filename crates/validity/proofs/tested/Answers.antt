@@ -1,6 +1,5 @@
 -- `validity::tested` meets its contract.
-use Rattle.std.proofs.Common.{arith, ℕ, ◌≡◌, ◌+◌, ◌/◌, ◌*◌, ◌≤◌, ◌∙◌, sym, refl, ap, subst, ⊎_elim}
-use Rattle.codec.specs.ShapeRight.{ShapeRight}
+use Rattle.std.proofs.Common.{arith, ◌≡◌, ◌+◌, ◌/◌, ◌*◌, ◌≤◌, refl, ap, ⊎_elim}
 use Rattle.codec.proofs.ShapeRight.{two_or_four}
 use Rattle.cells.specs.Station.{right_shape}
 use Rattle.lanes.specs.declared.Matrix.{Matrix}
