@@ -213,7 +213,7 @@ impl<'a, W: Width> Cells<'a, W> {
         true
     }
 
-    // The subjects. Where all exist, only their counts are to be tested.
+    // The subjects. Where all exist, only their counts are to be tested. The two lists are no struct, since `counting` fills each as a slice.
     pub fn subjects(&self, tally: &[u8; COUNTED], odd: &[u8; COUNTED]) -> bool
         ensures { result ≡ all self.now.lanes.matrix.rows (subject_test W.LANES self.now.lanes.bytes.now self.now.lanes.matrix (seen_at self.now.lanes.bytes.now self.now.lanes.matrix) tally.now odd.now) }
     {
