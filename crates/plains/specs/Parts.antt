@@ -52,10 +52,6 @@ pub record PartIn (m : Matrix) (q lanes a from : ℕ) : Type 0 where
   pub inside : lanes_of q a + lanes ≤ m.lanes
   pub left : from ≤ lanes / q
 
--- the same part by the number of lanes that it has
-pub part_of : {m : Matrix} {q lanes a from : ℕ} (k : ℕ) → lanes ≡ k → PartIn m q lanes a from → PartIn m q k a from
-part_of {m} {q} {lanes} {a} {from} k e = subst (λ (i : ℕ). PartIn m q i a from) e
-
 pub lanes_single : (k : ℕ) → lanes_of 1 k ≡ k
 unfolding lanes_of
 lanes_single k = omega arith
@@ -69,10 +65,6 @@ module _ {q : ℕ} (h : OneOrTwo q) where
   pub cells_fewer : (i k : ℕ) → lanes_of q i ≤ lanes_of q k → i ≤ k
   unfolding lanes_of
   cells_fewer i k = either_way h (λ u. u * i ≤ u * k → i ≤ k) (λ l. omega arith) (λ l. omega arith)
-
-  pub cells_of : (k : ℕ) → lanes_of q k / q ≡ k
-  unfolding lanes_of
-  cells_of k = either_way h (λ u. u * k / u ≡ k) (omega arith) (omega arith)
 
   pub lanes_none : lanes_of q 0 ≡ 0
   unfolding lanes_of
@@ -95,11 +87,6 @@ wrong_more wrong from c v l e =
     let d : from + (c - from) ≡ c = omega arith in
     let n : c - from + 1 ≡ c + 1 - from = omega arith in
     ap (λ (i : ℕ). bit_or v (wrong i)) (sym d) ∙ merged_more (c - from) (λ i. wrong (from + i)) v e ∙ ap (λ (i : ℕ). merged i (λ i. wrong (from + i))) n
-
--- what is wrong with a part, by the number of lanes that it has
-pub of_lanes : (b : List ℕ) (m : Matrix) (q a from v : ℕ) {lanes : ℕ} (k : ℕ) → lanes ≡ k → v ≡ wrong_of (λ i. plain_wrong q (seen_at b m) (a + i)) from (k / q)
-    → v ≡ wrong_of (λ i. plain_wrong q (seen_at b m) (a + i)) from (lanes / q)
-of_lanes b m q a from v k e h = h ∙ ap (λ (j : ℕ). wrong_of (λ i. plain_wrong q (seen_at b m) (a + i)) from (j / q)) (sym e)
 
 -- what is wrong with the cells of a list that has what is seen in the lanes from column a on
 pub part_wrong : {q : ℕ} → OneOrTwo q → (b : List ℕ) (m : Matrix) (seen : List ℕ) (a from k lanes room : ℕ) → Seen b m (lanes_of q a) lanes room seen → lanes_of q k ≤ lanes
