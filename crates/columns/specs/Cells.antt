@@ -36,10 +36,6 @@ most_lanes = 2
 pub either_way : {q : ℕ} → OneOrTwo q → (P : ℕ → Type 0) → P 1 → P 2 → P q
 either_way {q} h P one two = ⊎_elim (λ (e : q ≡ 1). subst P (sym e) one) (λ (e : q ≡ 2). subst P (sym e) two) h
 
--- a cell that has not one lane has two
-pub not_one : {q : ℕ} → OneOrTwo q → (q ≡ 1 → ⊥) → q ≡ 2
-not_one {q} h ne = ⊎_elim (λ (e : q ≡ 1). absurd (ne e)) (λ (e : q ≡ 2). e) h
-
 -- the lanes of a cell of this shape
 abbrev pub cell_lanes : Shape → ℕ
 cell_lanes f = f.width / 2

@@ -4,8 +4,8 @@ use Rattle.std.specs.Prelude.{ℕ, ◌+◌, ◌*◌, ◌≤◌, ◌<◌, ◌≡�
 use Rattle.matrix.specs.Bytes.{bit}
 use Rattle.matrix.specs.Shape.{most_subjects}
 use Rattle.lanes.specs.declared.Matrix.{Matrix}
-use Rattle.lanes.specs.Lanes.{merged, row_bytes, row_place, Laid}
-use Rattle.columns.specs.Cells.{OneOrTwo, most_counted, lanes_of, last_lane, bits_in, control_bit}
+use Rattle.lanes.specs.Lanes.{merged, row_bytes, row_place, byte_at}
+use Rattle.columns.specs.Cells.{most_columns, lanes_of, last_lane, bits_in, control_bit}
 
 -- subject s exists: its own cell has control
 abbrev pub present : ℕ → List ℕ → Matrix → ℕ → Bool
@@ -45,22 +45,13 @@ subject_at q b m seen tally odd s at =
 unfoldable pub subject_test : ℕ → List ℕ → Matrix → (ℕ → ℕ) → List ℕ → List ℕ → ℕ → Bool
 subject_test q b m seen tally odd s = subject_at q b (row_bytes m) seen tally odd s (row_place m s)
 
--- bytes that hold the lanes of a record's cells, q each: a row has a cell for each subject
-pub record Celled (q : ℕ) (b : List ℕ) (m : Matrix) : Type 0 where
-  pub laid : Laid b m
-  pub cells : OneOrTwo q
+-- lanes of a record's cells, q each: a row has a cell for each subject, and for each of so many plain names
+pub record Celled (q plain : ℕ) (m : Matrix) : Type 0 where
   pub subjects : m.rows ≤ most_subjects
-  pub inside : lanes_of q m.rows ≤ m.lanes
+  pub few : m.rows + plain ≤ most_columns
+  pub width : m.lanes ≡ lanes_of q (m.rows + plain)
 
--- subject s, whose row of m bytes begins at `at`, with a list of what is seen in the subjects' lanes
-pub record Placed (q : ℕ) (b seen : List ℕ) (s at m : ℕ) : Type 0 where
-  pub cells : OneOrTwo q
-  pub subject : s < most_subjects
-  pub column : 2 * last_lane q s + 1 < m
-  pub row : at + m ≤ length b
-  pub room : length seen ≡ most_counted
-
--- the lengths of the lists
-pub record Lists (tally odd : List ℕ) : Type 0 where
-  pub sums : length tally ≡ most_counted
-  pub parity : length odd ≡ most_counted
+-- the bytes of row s
+pub record IsRow (b : List ℕ) (m : Matrix) (s : ℕ) (row : List ℕ) : Type 0 where
+  pub size : length row ≡ row_bytes m
+  pub value : (j : ℕ) → j < row_bytes m → get_or row j 0 ≡ byte_at b m s j

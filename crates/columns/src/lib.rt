@@ -1,89 +1,88 @@
-// Tests of each column of a record. Its cells are lanes, q each: one in version 1, two in version 2.
+// Tests of each column of a record. Its cells are lanes: one each in version 1, two each in version 2.
 
 #![tactic(auto)]
 
-ghost use Rattle.std.specs.Prelude.{◌≡◌, not, ◌&&◌, ◌+◌, ◌*◌, ◌≤◌, ◌<◌, eqb, length, get_or};
+ghost use Rattle.std.specs.Prelude.{◌≡◌, ℕ, ◌/◌, ◌≤◌, ◌<◌, length, get_or, refl};
+ghost use Rattle.std.proofs.Common.{inl, inr};
 ghost use Rattle.matrix.specs.Bounded.{all};
 ghost use Rattle.matrix.specs.Bytes.{bit};
 ghost use Rattle.matrix.specs.Shape.{most_subjects};
-ghost use Rattle.lanes.specs.Lanes.{seen_at};
+ghost use Rattle.lanes.specs.Lanes.{lane_at, upper_at, seen_at};
 ghost use Rattle.lanes.specs.Lists.{Stored};
-ghost use Rattle.columns.specs.Cells.{OneOrTwo, most_columns, most_counted, lanes_of, last_lane, bits_in};
-ghost use Rattle.columns.specs.Checks.{present, zero_from, root_counts, other_counts, counts, count_test, subject_at, subject_test, Celled, Placed, Lists};
+ghost use Rattle.columns.specs.Cells.{OneOrTwo, most_columns, lanes_of, last_lane, bits_in};
+ghost use Rattle.columns.specs.Checks.{present, root_counts, other_counts, counts, count_test, subject_test, Celled, IsRow};
 
-use lanes::Matrix;
+use lanes::{Lanes, UPPER};
 use matrix::MOST_SUBJECTS;
+use std::marker::PhantomData;
 
 // The most lanes of a cell, and so those of the most subjects' columns.
 const MOST_LANES: usize = 2;
 
 pub const COUNTED: usize = MOST_LANES * MOST_SUBJECTS;
 
+// How many lanes a cell has: a type, so that the compiler knows the number in every loop over cells.
+pub trait Width: Drop {
+    ghost LANES: { ℕ };
+
+    const LANES: usize;
+
+    ghost one_or_two: { OneOrTwo LANES };
+}
+
+// The cells of version 1.
+#[derive(Drop)]
+pub struct OneLane;
+
+impl Width for OneLane {
+    ghost LANES = { 1 };
+
+    const LANES: usize = 1;
+
+    ghost one_or_two = { inl refl };
+}
+
+// The cells of version 2.
+#[derive(Drop)]
+pub struct TwoLanes;
+
+impl Width for TwoLanes {
+    ghost LANES = { 2 };
+
+    const LANES: usize = 2;
+
+    ghost one_or_two = { inr refl };
+}
+
 // The lanes of k cells.
-pub fn lanes_of(q: usize, k: usize) -> usize
-    requires { OneOrTwo q × (k ≤ most_columns) }
-    ensures { result ≡ lanes_of q k }
+pub fn lanes_of<W: Width>(k: usize) -> usize
+    requires { k ≤ most_columns }
+    ensures { result ≡ lanes_of W.LANES k }
 {
-    q * k
+    W::LANES * k
 }
 
 // The last lane of cell c, which has own and control.
-pub fn last_lane(q: usize, c: usize) -> usize
-    requires { OneOrTwo q × (c < most_columns) }
-    ensures { result ≡ last_lane q c }
+pub fn last_lane<W: Width>(c: usize) -> usize
+    requires { c < most_columns }
+    ensures { result ≡ last_lane W.LANES c }
 {
-    q * c + (q - 1)
+    W::LANES * c + (W::LANES - 1)
 }
 
 // The bits that are seen in cell c: those of its first lane and of its last, which may be the same one.
-pub fn bits_of(seen: &[u16], q: usize, c: usize) -> u16
-    requires { OneOrTwo q × (c < most_columns) × (last_lane q c < length seen.now) }
-    ensures { result ≡ bits_in q (λ j. get_or seen.now j 0) c }
+pub fn bits_of<W: Width>(seen: &[u16], c: usize) -> u16
+    requires { (c < most_columns) × (last_lane W.LANES c < length seen.now) }
+    ensures { result ≡ bits_in W.LANES (λ j. get_or seen.now j 0) c }
 {
-    seen[lanes_of(q, c)] | seen[last_lane(q, c)]
+    seen[lanes_of::<W>(c)] | seen[last_lane::<W>(c)]
 }
 
-// The upper byte of a cell's last lane has control.
+// The upper byte of a cell's last lane has control, or an odd number of them have.
 fn controls(upper: u8) -> bool
     ensures { result ≡ bit 1 upper }
 {
-    (upper >> 1) % 2 == 1
-}
-
-// Subject s, whose row begins at `at`, exists: its own cell has control.
-fn exists(b: &[u8], q: usize, s: usize, at: usize) -> bool
-    requires { OneOrTwo q × (s < most_subjects) × (at + (2 * last_lane q s + 1) < length b.now) }
-    ensures { result ≡ bit 1 (get_or b.now (at + (2 * last_lane q s + 1)) 0) }
-{
-    controls(b[at + (2 * last_lane(q, s) + 1)])
-}
-
-// Every subject exists. The byte of its own cell that has control is at `at`, and that of the next one a row and a cell further.
-pub fn all_present(b: &[u8], m: Matrix, q: usize) -> bool
-    requires { Celled q b.now m }
-    ensures { result ≡ all m.rows (present q b.now m) }
-{
-    let rows = m.rows;
-    let step = 2 * m.lanes + 2 * q;
-    let mut missing: u8 = 0;
-    let mut at = m.first + (2 * last_lane(q, 0) + 1);
-    for s in 0..rows {
-        missing = missing | lanes::fault(controls(b[at]));
-        at += step;
-    }
-    missing == 0
-}
-
-// The `bytes` bytes from `at` on are all zero. All of them are looked at, so that the compiler may take many at once.
-fn zero_from(b: &[u8], at: usize, bytes: usize) -> bool
-    requires { at + bytes ≤ length b.now }
-    ensures { result ≡ zero_from b.now at bytes }
-{
-    let mut any: u8 = 0;
-    for j in 0..bytes {
-        any = any | b[at + j];
-    }
-    any == 0
+    upper / 2 % 2 == 1
 }
 
 // U has no owner, and nobody else controls it: of a tally of 2, which is the number of owners and twice that of those that control, an odd
@@ -91,7 +90,7 @@ fn zero_from(b: &[u8], at: usize, bytes: usize) -> bool
 fn root_counts(tally: u8, odd: u8) -> bool
     ensures { result ≡ root_counts tally odd }
 {
-    if tally == 2 { controls(odd) } else { false }
+    tally == 2 && controls(odd)
 }
 
 // Any other subject has one owner, and at most one besides itself controls it: 3 where an odd number control it, and 5 where an even number do.
@@ -110,129 +109,118 @@ pub fn counts(s: usize, tally: u8, odd: u8) -> bool
     ensures { result ≡ counts s tally odd }
 {
     if s == 0 {
-        return root_counts(tally, odd);
+        root_counts(tally, odd)
+    } else {
+        other_counts(tally, odd)
     }
-    other_counts(tally, odd)
 }
 
-// The counts of the n subjects, where all exist. Those after U are all looked at, so that the compiler may take many at once.
-fn counts_fit(tally: &[u8; COUNTED], odd: &[u8; COUNTED], q: usize, n: usize) -> bool
-    requires { OneOrTwo q × (1 ≤ n) × (n ≤ most_subjects) × (length tally.now ≡ most_counted) × (length odd.now ≡ most_counted) }
-    ensures { result ≡ all n (count_test q tally.now odd.now) }
+// The counts of the n subjects, where all exist. All of them are looked at, so that the compiler may take many at once.
+fn counts_fit<W: Width>(tally: &[u8; COUNTED], odd: &[u8; COUNTED], n: usize) -> bool
+    requires { (1 ≤ n) × (n ≤ most_subjects) }
+    ensures { result ≡ all n (count_test W.LANES tally.now odd.now) }
 {
-    let root = last_lane(q, 0);
-    if !root_counts(tally[root], odd[root]) {
-        return false;
-    }
-    let mut wrong: u8 = 0;
+    let root = last_lane::<W>(0);
+    let mut wrong = lanes::fault(root_counts(tally[root], odd[root]));
     for s in 1..n {
-        let j = last_lane(q, s);
-        wrong = wrong | lanes::fault(other_counts(tally[j], odd[j]));
+        let j = last_lane::<W>(s);
+        wrong |= lanes::fault(other_counts(tally[j], odd[j]));
     }
     wrong == 0
 }
 
-// An absent subject is not U, and its column and row are zero.
-fn absent(b: &[u8], seen: &[u16; COUNTED], q: usize, s: usize, at: usize, bytes: usize) -> bool
-    requires { Placed q b.now seen.now s at bytes }
-    ensures { result ≡ (not (eqb s 0) && (eqb (bits_in q (λ j. get_or seen.now j 0) s) 0 && zero_from b.now at bytes)) }
+// Puts the owner of each subject, which stands at the last lane of its column, at the subject's own place.
+pub fn owners<W: Width>(owners: &mut [u8], marks: &[u8; COUNTED])
+    requires { length owners.old ≤ most_subjects }
+    ensures { Stored (length owners.old) (λ s. get_or marks.now (last_lane W.LANES s) 0) owners.old owners.new }
 {
-    if s == 0 {
-        return false;
-    }
-    if bits_of(seen, q, s) == 0 {
-        zero_from(b, at, bytes)
-    } else {
-        false
+    for (s, owner) in owners.iter_mut().enumerate() {
+        *owner = marks[last_lane::<W>(s)];
     }
 }
 
-// Subject s, whose row of `bytes` bytes begins at `at`.
-fn subject(
-    b: &[u8],
-    seen: &[u16; COUNTED],
-    tally: &[u8; COUNTED],
-    odd: &[u8; COUNTED],
-    q: usize,
-    s: usize,
-    at: usize,
-    bytes: usize,
-) -> bool
-    requires { Placed q b.now seen.now s at bytes × (length tally.now ≡ most_counted) × (length odd.now ≡ most_counted) }
-    ensures { result ≡ subject_at q b.now bytes (λ j. get_or seen.now j 0) tally.now odd.now s at }
-{
-    if !exists(b, q, s, at) {
-        return absent(b, seen, q, s, at, bytes);
-    }
-    let j = last_lane(q, s);
-    counts(s, tally[j], odd[j])
+// The lanes of a record's cells. A row has a cell for each subject, and there are as many rows; after them it has a cell for each of so many
+// plain names.
+#[derive(Drop)]
+pub struct Cells<'a, W: Width> {
+    pub lanes: Lanes<'a>,
+    pub plain: usize,
+    pub width: PhantomData<W>,
+    pub ghost celled: { Celled W.LANES plain lanes.matrix },
 }
 
-// The subjects one after another, each with its row.
-fn each_subject(
-    b: &[u8],
-    seen: &[u16; COUNTED],
-    tally: &[u8; COUNTED],
-    odd: &[u8; COUNTED],
-    m: Matrix,
-    q: usize,
-) -> bool
-    requires { Celled q b.now m × Lists tally.now odd.now × (length seen.now ≡ most_counted) }
-    ensures { result ≡ all m.rows (subject_test q b.now m (λ j. get_or seen.now j 0) tally.now odd.now) }
-{
-    let rows = m.rows;
-    let mut at = m.first;
-    for s in 0..rows {
-        if !subject(b, seen, tally, odd, q, s, at, 2 * m.lanes) {
-            return false;
+impl<'a, W: Width> Cells<'a, W> {
+    // The row of subject s.
+    fn row(&self, s: usize) -> &'a [u8]
+        requires { s < self.now.lanes.matrix.rows }
+        ensures { IsRow self.now.lanes.bytes.now self.now.lanes.matrix s result.now }
+    {
+        let at = self.lanes.place(s, 0);
+        &self.lanes.bytes[at..at + 2 * self.lanes.matrix.lanes]
+    }
+
+    // The last lane of the own cell of subject s, which exists where the lane has control.
+    fn own(&self, s: usize) -> u16
+        requires { s < self.now.lanes.matrix.rows }
+        ensures lane { result ≡ lane_at self.now.lanes.bytes.now self.now.lanes.matrix s (last_lane W.LANES s) }
+        ensures upper { result / 256 ≡ upper_at self.now.lanes.bytes.now self.now.lanes.matrix s (last_lane W.LANES s) }
+    {
+        lanes::lane(self.lanes.bytes, self.lanes.place(s, last_lane::<W>(s)))
+    }
+
+    // Every subject exists. All of them are looked at.
+    pub fn all_present(&self) -> bool
+        ensures { result ≡ all self.now.lanes.matrix.rows (present W.LANES self.now.lanes.bytes.now self.now.lanes.matrix) }
+    {
+        let mut missing = 0;
+        for s in 0..self.lanes.matrix.rows {
+            missing |= lanes::fault(controls((self.own(s) / UPPER) as u8));
         }
-        at += 2 * m.lanes;
+        missing == 0
     }
-    true
-}
 
-// The subjects where some are absent: what is seen in their columns is needed too.
-fn with_absent(b: &[u8], tally: &[u8; COUNTED], odd: &[u8; COUNTED], m: Matrix, q: usize) -> bool
-    requires { Celled q b.now m × Lists tally.now odd.now }
-    ensures { result ≡ all m.rows (subject_test q b.now m (seen_at b.now m) tally.now odd.now) }
-{
-    let mut seen = [0u16; COUNTED];
-    merging::merge(&mut seen, b, m, 0, lanes_of(q, m.rows));
-    each_subject(b, &seen, tally, odd, m, q)
-}
-
-// The subjects. Where all exist, only their counts are to be tested. Each number of lanes has a call of its own, so that the compiler knows it.
-pub fn subjects(b: &[u8], tally: &[u8; COUNTED], odd: &[u8; COUNTED], m: Matrix, q: usize) -> bool
-    requires { Celled q b.now m × Lists tally.now odd.now }
-    ensures { result ≡ all m.rows (subject_test q b.now m (seen_at b.now m) tally.now odd.now) }
-{
-    if !all_present(b, m, q) {
-        return with_absent(b, tally, odd, m, q);
+    // Subject s: its counts where it exists. An absent one is not U, and its column and row are zero.
+    fn subject(
+        &self,
+        seen: &[u16; COUNTED],
+        tally: &[u8; COUNTED],
+        odd: &[u8; COUNTED],
+        s: usize,
+    ) -> bool
+        requires { s < self.now.lanes.matrix.rows }
+        ensures { result ≡ subject_test W.LANES self.now.lanes.bytes.now self.now.lanes.matrix (λ j. get_or seen.now j 0) tally.now odd.now s }
+    {
+        if controls((self.own(s) / UPPER) as u8) {
+            let j = last_lane::<W>(s);
+            counts(s, tally[j], odd[j])
+        } else {
+            s != 0 && bits_of::<W>(seen, s) == 0 && lanes::all_zero(self.row(s))
+        }
     }
-    if q == 1 {
-        counts_fit(tally, odd, 1, m.rows)
-    } else {
-        counts_fit(tally, odd, 2, m.rows)
-    }
-}
 
-// The owner of each of the n subjects, which stands at the last lane of its column, at the subject's own place.
-fn put_owners(owners: &mut [u8; MOST_SUBJECTS], marks: &[u8; COUNTED], q: usize, n: usize)
-    requires { OneOrTwo q × (n ≤ most_subjects) × (length owners.old ≡ most_subjects) × (length marks.now ≡ most_counted) }
-    ensures { Stored n (λ s. get_or marks.now (last_lane q s) 0) owners.old owners.new }
-{
-    for s in 0..n {
-        owners[s] = marks[last_lane(q, s)];
+    // The subjects where some are absent: what is seen in their columns is needed too.
+    fn with_absent(&self, tally: &[u8; COUNTED], odd: &[u8; COUNTED]) -> bool
+        ensures { result ≡ all self.now.lanes.matrix.rows (subject_test W.LANES self.now.lanes.bytes.now self.now.lanes.matrix (seen_at self.now.lanes.bytes.now self.now.lanes.matrix) tally.now odd.now) }
+    {
+        let rows = self.lanes.matrix.rows;
+        let mut seen = [0u16; COUNTED];
+        merging::merge(&mut seen, self.lanes, 0, lanes_of::<W>(rows));
+        for s in 0..rows {
+            if !self.subject(&seen, tally, odd, s) {
+                return false;
+            }
+        }
+        true
     }
-}
 
-pub fn owners(owners: &mut [u8; MOST_SUBJECTS], marks: &[u8; COUNTED], q: usize, n: usize)
-    requires { OneOrTwo q × (n ≤ most_subjects) × (length owners.old ≡ most_subjects) × (length marks.now ≡ most_counted) }
-    ensures { Stored n (λ s. get_or marks.now (last_lane q s) 0) owners.old owners.new }
-{
-    if q == 1 {
-        put_owners(owners, marks, 1, n);
-    } else {
-        put_owners(owners, marks, 2, n);
+    // The subjects. Where all exist, only their counts are to be tested. The two lists are no struct, since `counting` fills each as a slice.
+    pub fn subjects(&self, tally: &[u8; COUNTED], odd: &[u8; COUNTED]) -> bool
+        ensures { result ≡ all self.now.lanes.matrix.rows (subject_test W.LANES self.now.lanes.bytes.now self.now.lanes.matrix (seen_at self.now.lanes.bytes.now self.now.lanes.matrix) tally.now odd.now) }
+    {
+        if self.all_present() {
+            counts_fit::<W>(tally, odd, self.lanes.matrix.rows)
+        } else {
+            self.with_absent(tally, odd)
+        }
     }
 }

@@ -13,21 +13,14 @@ use matrix::{MOST_PLAIN, MOST_SUBJECTS, Shape};
 pub fn known_version(version: usize) -> bool
     ensures { result ≡ known_version version }
 {
-    if version == 1 { true } else { version == 2 }
+    matches!(version, 1 | 2)
 }
 
 // n and p are within the limits.
 pub fn in_range(f: Shape) -> bool
     ensures { result ≡ in_range limits f }
 {
-    let n = f.n;
-    if n < 1 {
-        return false;
-    }
-    if n > MOST_SUBJECTS {
-        return false;
-    }
-    f.p <= MOST_PLAIN
+    (1..=MOST_SUBJECTS).contains(&f.n) && f.p <= MOST_PLAIN
 }
 
 // The four bytes of L.
@@ -35,7 +28,7 @@ fn count(b: &[u8]) -> usize
     requires { header_bytes ≤ length b.now }
     ensures { result ≡ number_at b.now 1 4 }
 {
-    ((b[1] as usize * 256 + b[2] as usize) * 256 + b[3] as usize) * 256 + b[4] as usize
+    u32::from_be_bytes([b[1], b[2], b[3], b[4]]) as usize
 }
 
 // L, which counts the bytes from byte 5 on, and the true length are those of the shape.
@@ -44,9 +37,5 @@ pub fn right_size(b: &[u8], f: Shape) -> bool
     ensures { result ≡ sized b.now }
 {
     let size = f.first + f.width * (f.n * (f.n + f.p));
-    if count(b) == size - 5 {
-        b.len() == size
-    } else {
-        false
-    }
+    count(b) == size - 5 && b.len() == size
 }

@@ -1,3 +1,4 @@
+pub mod Folded
 pub mod Lists
 pub mod Lanes
 pub mod LaneLaws

@@ -1,7 +1,7 @@
 -- Numbers merged one after another, and where they are zero.
 use Rattle.std.specs.Prelude.{ℕ, zero, suc, ◌+◌, ◌*◌, ◌/◌, ◌%◌, ◌≤◌, ◌<◌, ◌≡◌, refl, ◌⊎◌, Bool, true, false, ◌&&◌, List, eqb}
-use Rattle.std.proofs.Common.{arith, ◌∙◌, ap, subst, inl, inr, eqb-true, eq-eqb}
-use Rattle.std.specs.Int.Bits.{bit_or, bit_and, or_add_and}
+use Rattle.std.proofs.Common.{arith, sym, ◌∙◌, ap, subst, inl, inr, eqb-true, eq-eqb}
+use Rattle.std.specs.Int.Bits.{bit_or, bit_and, or_add_and, or_zero_l}
 use Rattle.std.proofs.lemmas.Nat.{and_le_l, and_le_r}
 use Rattle.std.proofs.lemmas.Bool.{eqb-false}
 use Rattle.matrix.specs.Bounded.{all}
@@ -45,10 +45,10 @@ unfolding merged all
 merged_zero zero f = refl
 merged_zero (suc n) f = or_zero (merged n f) (f n) ∙ ap (λ (t : Bool). t && eqb (f n) 0) (merged_zero n f)
 
--- where the first test passes, there is no fault yet
-pub first_fault : (f : ℕ → Bool) → f 0 ≡ true → 0 ≡ merged 1 (λ i. fault_of (f i))
+-- the fault of the first test
+pub first_fault : (f : ℕ → Bool) (t : Bool) → t ≡ f 0 → fault_of t ≡ merged 1 (λ i. fault_of (f i))
 unfolding merged
-first_fault f e = rw e refl
+first_fault f t e = ap fault_of e ∙ sym (or_zero_l (fault_of (f 0)))
 
 -- no test has a fault
 pub no_fault : (n : ℕ) (f : ℕ → Bool) → eqb (merged n (λ i. fault_of (f i))) 0 ≡ all n f

@@ -1,6 +1,6 @@
 -- Laws of a list that rows join lane by lane.
 use Rattle.std.specs.Prelude.{ℕ, ◌+◌, ◌≤◌, ◌<◌, ◌≡◌, length, set}
-use Rattle.std.proofs.Common.{le_refl, arith, ◌∙◌, subst, length-set, get_or-set_other}
+use Rattle.std.proofs.Common.{le_refl, arith, ◌∙◌, length-set, get_or-set_other}
 use Rattle.std.proofs.Math.Path.{ap}
 use mathlib.Core.List.{List}
 use Rattle.std.specs.Int.Bits.{bit_or}
@@ -37,11 +37,3 @@ module _ (room k : ℕ) (w : ℕ → ℕ → ℕ) where
             (ap (λ (x : ℕ). bit_or (get_or l m 0) x) e ∙ merged_more r (λ v. w v m) _ (s.left m (le_refl m) h)) j (omega arith) b;
         left = λ j a b. get_or-set_other l m j _ 0 (omega arith) ∙ s.left j (omega arith) b;
       }
-
-  -- the row has joined, and the next one begins
-  pub joined_row : (size r m : ℕ) (l : List ℕ) → size ≡ room → Joined size k w r m l → k ≤ m → Joined room k w (r + 1) 0 l
-  joined_row size r m l e s h = joined_none (r + 1) l (s.size ∙ e) (λ j a b. s.done j (omega arith))
-
-  -- all n rows have joined
-  pub joined_all : (r n : ℕ) (l : List ℕ) → r ≤ n → n ≤ r → Joined room k w r 0 l → (j : ℕ) → j < k → get_or l j 0 ≡ merged n (λ v. w v j)
-  joined_all r n l a b s j h = let q : r ≡ n = omega arith in (subst (λ (i : ℕ). Joined room k w i 0 l) q s).left j (omega arith) h

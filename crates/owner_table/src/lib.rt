@@ -1,77 +1,60 @@
-// The table of owners: whether following it from every subject comes to U.
+// Tables of owners: whether following them from every subject comes to U. A table has an entry for each subject.
 
 #![tactic(auto)]
 
-ghost use Rattle.std.specs.Prelude.{◌≡◌, ℕ, ◌≤◌, ◌<◌, eqb, length, get_or};
+ghost use Rattle.std.specs.Prelude.{◌≡◌, ◌≤◌, eqb, length};
 ghost use Rattle.matrix.specs.Bounded.{all};
 ghost use Rattle.matrix.specs.Shape.{most_subjects};
-ghost use Rattle.lanes.specs.Lists.{Stored};
 ghost use Rattle.owner_table.specs.Followed.{followed};
-ghost use Rattle.owner_table.specs.Table.{reach, owner_in, lower_test, Inside};
+ghost use Rattle.owner_table.specs.Table.{reach, owner_in, lower_test, Inside, Doubled};
 
 use matrix::MOST_SUBJECTS;
 
-// U's entry is U, and that of any other subject has a lower number than the subject. Those after U are all looked at, so that the compiler
-// may take many at once.
-pub fn descends(t: &[u8; MOST_SUBJECTS], n: usize) -> bool
-    requires { (1 ≤ n) × (n ≤ most_subjects) × (length t.now ≡ most_subjects) }
-    ensures { result ≡ all n (lower_test t.now) }
+// U's entry is U, and that of any other subject has a lower number than the subject. All of them are looked at, so that the compiler may take
+// many at once.
+pub fn descends(owners: &[u8]) -> bool
+    requires { length owners.now ≤ most_subjects }
+    ensures { result ≡ all (length owners.now) (lower_test owners.now) }
 {
-    if t[0] != 0 {
-        return false;
-    }
-    let mut wrong: u8 = 0;
-    for s in 1..n {
-        wrong = wrong | lanes::fault(t[s] < s as u8);
+    let mut wrong = 0;
+    for (s, owner) in owners.iter().enumerate() {
+        wrong |= lanes::fault(*owner < (s as u8).max(1));
     }
     wrong == 0
 }
 
-// A table that follows t twice.
-fn double(t: &[u8; MOST_SUBJECTS], u: &mut [u8; MOST_SUBJECTS], n: usize)
-    requires { (n ≤ most_subjects) × (length t.now ≡ most_subjects) × (length u.old ≡ most_subjects) × ((s : ℕ) → s < n → get_or t.now s 0 < n) }
-    ensures { Stored n (λ s. get_or t.now (get_or t.now s 0) 0) u.old u.new }
+// Fills u with a table that follows t twice.
+fn double(t: &[u8], u: &mut [u8])
+    requires same { length u.old ≡ length t.now }
+    requires inside { Inside (length t.now) (owner_in t.now) }
+    ensures { Doubled t.now u.new }
 {
-    for s in 0..n {
-        u[s] = t[t[s] as usize];
+    for (s, to) in u.iter_mut().enumerate() {
+        *to = t[t[s] as usize];
     }
 }
 
-// The first n entries are all U. All of them are looked at, so that the compiler may take many at once.
-fn all_root(t: &[u8; MOST_SUBJECTS], n: usize) -> bool
-    requires { (n ≤ most_subjects) × (length t.now ≡ most_subjects) }
-    ensures { result ≡ all n (λ s. eqb (get_or t.now s 0) 0) }
+// Following owners from any subject comes to U: it does where each owner has a lower number than what it owns, and else after six doublings
+// each entry has followed 64 owners, and there are fewer subjects. Where all have come to U before, the rest of the doublings is left out.
+pub fn rooted(owners: &[u8]) -> bool
+    requires few { length owners.now ≤ most_subjects }
+    requires inside { Inside (length owners.now) (owner_in owners.now) }
+    ensures { result ≡ all (length owners.now) (λ s. eqb (followed (owner_in owners.now) reach s) 0) }
 {
-    let mut any: u8 = 0;
-    for s in 0..n {
-        any = any | t[s];
-    }
-    any == 0
-}
-
-// Following owners from any of the n subjects comes to U: it does where each owner has a lower number than what it owns, and else after six
-// doublings each entry has followed 64 owners, and there are fewer subjects. Where all have come to U before, the rest of the doublings is
-// left out.
-pub fn rooted(t: &[u8; MOST_SUBJECTS], n: usize) -> bool
-    requires { (1 ≤ n) × (n ≤ most_subjects) × (length t.now ≡ most_subjects) × Inside n (owner_in t.now) }
-    ensures { result ≡ all n (λ s. eqb (followed (owner_in t.now) reach s) 0) }
-{
-    if descends(t, n) {
+    if descends(owners) {
         return true;
     }
     let mut u = [0u8; MOST_SUBJECTS];
     let mut v = [0u8; MOST_SUBJECTS];
-    double(t, &mut u, n);
-    double(&u, &mut v, n);
-    if all_root(&v, n) {
-        return true;
+    let u = &mut u[..owners.len()];
+    let v = &mut v[..owners.len()];
+    v.copy_from_slice(owners);
+    for pass in 0..3usize {
+        double(v, u);
+        double(u, v);
+        if lanes::all_zero(v) {
+            return true;
+        }
     }
-    double(&v, &mut u, n);
-    double(&u, &mut v, n);
-    if all_root(&v, n) {
-        return true;
-    }
-    double(&v, &mut u, n);
-    double(&u, &mut v, n);
-    all_root(&v, n)
+    false
 }

@@ -1,6 +1,6 @@
 -- Plain columns are merged and tested part by part: what is wrong with a part, and with all parts so far.
 use Rattle.std.specs.Prelude.{ℕ, zero, suc, ◌+◌, ◌-◌, ◌*◌, ◌/◌, ◌%◌, ◌≤◌, ◌<◌, ◌≡◌, ◌⊎◌, Bool, true, false, cond, ◌&&◌, List, eqb, ltb, get_or}
-use Rattle.std.proofs.Common.{arith, sym, ◌∙◌, ap, ap₂, subst, ⊎_elim, eqb-true, eq-eqb, ltb-true, ltb-false}
+use Rattle.std.proofs.Common.{arith, sym, ◌∙◌, ap, ap₂, subst, inl, ⊎_elim, eqb-true, eq-eqb, ltb-true, ltb-false}
 use Rattle.std.proofs.Math.Path.{refl}
 use Rattle.std.specs.Int.Bits.{bit_or}
 use Rattle.matrix.specs.Bounded.{all}
@@ -8,9 +8,10 @@ use Rattle.laws.specs.Tests.{way, same_test, and_left, and_right, and_both}
 use Rattle.laws.specs.Bounded.{all_each, each_all}
 use Rattle.lanes.specs.declared.Matrix.{Matrix}
 use Rattle.lanes.specs.Lists.{Part}
-use Rattle.lanes.specs.Lanes.{merged, seen_at, Seen, Laid}
+use Rattle.lanes.specs.Lanes.{merged, seen_at, Seen}
 use Rattle.lanes.specs.Zeros.{or_zero, merged_none, merged_more, merged_zero}
-use Rattle.columns.specs.Cells.{OneOrTwo, most_columns, lanes_of, last_lane, either_way, last_inside, last_added, bits_moved}
+use Rattle.columns.specs.Cells.{OneOrTwo, most_columns, lanes_of, last_lane, either_way, last_inside, lanes_added, last_added, bits_moved}
+use Rattle.columns.specs.Checks.{Celled}
 use Rattle.plains.specs.Checks.{plain_test, plain_wrong, wrong_of, plain_right}
 
 -- the numbers of lanes that are merged at once
@@ -34,10 +35,6 @@ pub by_lanes : {lanes : ℕ} (T : ℕ → Type 0) → SomeLanes lanes → T at_o
 by_lanes T l x y z w =
     ⊎_elim (λ e. subst T (sym e) x) (⊎_elim (λ e. subst T (sym e) y) (⊎_elim (λ e. subst T (sym e) z) (λ e. subst T (sym e) w))) l
 
--- the number that is left
-pub last_lanes : {lanes : ℕ} → SomeLanes lanes → (lanes ≡ most → ⊥) → (lanes ≡ many → ⊥) → (lanes ≡ some → ⊥) → lanes ≡ at_once
-last_lanes l x y z = ⊎_elim (λ e. e) (⊎_elim (λ e. absurd (z e)) (⊎_elim (λ e. absurd (y e)) (λ e. absurd (x e)))) l
-
 -- so many lanes are whole cells, and some
 pub whole_cells : {q lanes : ℕ} → OneOrTwo q → SomeLanes lanes → (lanes_of q (lanes / q) ≡ lanes) × (1 ≤ lanes / q)
 unfolding lanes_of
@@ -49,17 +46,11 @@ pub lanes_few : {lanes : ℕ} → SomeLanes lanes → lanes ≤ most_columns
 lanes_few l = by_lanes (λ k. k ≤ most_columns) l (omega arith) (omega arith) (omega arith) (omega arith)
 
 -- A part of a row: the columns from column a on, as many as have so many lanes, of which the first `from` are left out.
-pub record PartIn (b : List ℕ) (m : Matrix) (q lanes a from : ℕ) : Type 0 where
-  pub laid : Laid b m
-  pub number : OneOrTwo q
+pub record PartIn (m : Matrix) (q lanes a from : ℕ) : Type 0 where
   pub first : a < most_columns
   pub few : lanes ≤ most_columns
   pub inside : lanes_of q a + lanes ≤ m.lanes
   pub left : from ≤ lanes / q
-
--- the same part by the number of lanes that it has
-pub part_of : {b : List ℕ} {m : Matrix} {q lanes a from : ℕ} (k : ℕ) → lanes ≡ k → PartIn b m q lanes a from → PartIn b m q k a from
-part_of {b} {m} {q} {lanes} {a} {from} k e = subst (λ (i : ℕ). PartIn b m q i a from) e
 
 pub lanes_single : (k : ℕ) → lanes_of 1 k ≡ k
 unfolding lanes_of
@@ -75,13 +66,12 @@ module _ {q : ℕ} (h : OneOrTwo q) where
   unfolding lanes_of
   cells_fewer i k = either_way h (λ u. u * i ≤ u * k → i ≤ k) (λ l. omega arith) (λ l. omega arith)
 
-  pub cells_of : (k : ℕ) → lanes_of q k / q ≡ k
-  unfolding lanes_of
-  cells_of k = either_way h (λ u. u * k / u ≡ k) (omega arith) (omega arith)
-
   pub lanes_none : lanes_of q 0 ≡ 0
   unfolding lanes_of
   lanes_none = either_way h (λ u. u * 0 ≡ 0) refl refl
+
+  pub cells_few : (lanes : ℕ) → lanes / q ≤ lanes
+  cells_few lanes = either_way h (λ u. lanes / u ≤ lanes) (omega arith) (omega arith)
 
 merged_same : (n : ℕ) (f g : ℕ → ℕ) → ((i : ℕ) → i < n → f i ≡ g i) → merged n f ≡ merged n g
 unfolding merged
@@ -97,11 +87,6 @@ wrong_more wrong from c v l e =
     let d : from + (c - from) ≡ c = omega arith in
     let n : c - from + 1 ≡ c + 1 - from = omega arith in
     ap (λ (i : ℕ). bit_or v (wrong i)) (sym d) ∙ merged_more (c - from) (λ i. wrong (from + i)) v e ∙ ap (λ (i : ℕ). merged i (λ i. wrong (from + i))) n
-
--- what is wrong with a part, by the number of lanes that it has
-pub of_lanes : (b : List ℕ) (m : Matrix) (q a from v : ℕ) {lanes : ℕ} (k : ℕ) → lanes ≡ k → v ≡ wrong_of (λ i. plain_wrong q (seen_at b m) (a + i)) from (k / q)
-    → v ≡ wrong_of (λ i. plain_wrong q (seen_at b m) (a + i)) from (lanes / q)
-of_lanes b m q a from v k e h = h ∙ ap (λ (j : ℕ). wrong_of (λ i. plain_wrong q (seen_at b m) (a + i)) from (j / q)) (sym e)
 
 -- what is wrong with the cells of a list that has what is seen in the lanes from column a on
 pub part_wrong : {q : ℕ} → OneOrTwo q → (b : List ℕ) (m : Matrix) (seen : List ℕ) (a from k lanes room : ℕ) → Seen b m (lanes_of q a) lanes room seen → lanes_of q k ≤ lanes
@@ -169,3 +154,34 @@ pub tested_once : (q : ℕ) (seen : ℕ → ℕ) (n p a w skip : ℕ) → n ≡ 
 tested_once q seen n p a w skip e d =
     tested_all (plain_test q seen) n p (n + p) (n + w) _ refl (omega arith)
     (tested_part q seen n (n + p) n w a skip 0 (tested_none _ _ _) (record { within = omega arith; near = omega arith; far = λ x l b. omega arith }) (omega arith) (omega arith))
+
+-- One part that ends with the row: s columns, which are as many lanes as are merged at once. A row has as many, and no more are plain.
+module _ {q : ℕ} (h : OneOrTwo q) (plain : ℕ) (m : Matrix) (celled : Celled q plain m) (enough : at_once ≤ m.lanes) (few : lanes_of q plain ≤ at_once)
+    (s : ℕ) (e : s ≡ at_once / q) where
+  whole : (lanes_of q s ≡ at_once) × (1 ≤ s)
+  whole = subst (λ (k : ℕ). (lanes_of q k ≡ at_once) × (1 ≤ k)) (sym e) (whole_cells h (inl refl))
+
+  pub once_fits : s ≤ m.rows + plain
+  once_fits = cells_fewer h s (m.rows + plain) (omega (arith, whole.0, enough, celled.width))
+
+  once_enough : plain ≤ s
+  once_enough = cells_fewer h plain s (omega (arith, whole.0, few))
+
+  pub once_before : m.rows + plain - s ≤ m.rows
+  once_before = omega (arith, once_enough)
+
+  pub once_in : PartIn m q at_once (m.rows + plain - s) (m.rows - (m.rows + plain - s))
+  once_in =
+      let fits : s ≤ m.rows + plain = once_fits in
+      let back : m.rows + plain - s + s ≡ m.rows + plain = omega arith in
+      record {
+        first = omega (arith, whole.1, celled.few);
+        few = omega arith;
+        inside = omega (arith, lanes_added h (m.rows + plain - s) s, ap (lanes_of q) back, whole.0, celled.width);
+        left = omega (arith, e, once_enough);
+      }
+
+  pub once_tested : (seen : ℕ → ℕ) → eqb (wrong_of (λ i. plain_wrong q seen (m.rows + plain - s + i)) (m.rows - (m.rows + plain - s)) (at_once / q)) 0
+      ≡ all plain (λ i. plain_test q seen (m.rows + i))
+  once_tested seen =
+      tested_once q seen m.rows plain (m.rows + plain - s) (at_once / q) (m.rows - (m.rows + plain - s)) (omega (arith, once_enough, once_fits)) (omega (arith, e, once_fits))

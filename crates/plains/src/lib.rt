@@ -1,17 +1,16 @@
-// The plain columns of a record, whose cells are lanes, q each. They are merged and tested part by part, so that no list of a whole row is needed.
+// The plain columns of a record. They are merged and tested part by part, so that no list of a whole row is needed.
 
 #![tactic(auto)]
 
-ghost use Rattle.std.specs.Prelude.{◌≡◌, ◌+◌, ◌/◌, ◌≤◌, ◌<◌, length, replicate, get_or};
+ghost use Rattle.std.specs.Prelude.{◌≡◌, ◌+◌, ◌/◌, ◌≤◌, ◌<◌, length, get_or};
 ghost use Rattle.matrix.specs.Bounded.{all};
-ghost use Rattle.matrix.specs.Shape.{columns};
-ghost use Rattle.lanes.specs.Lanes.{seen_at, Laid};
-ghost use Rattle.columns.specs.Cells.{OneOrTwo, most_columns, lanes_of, last_lane};
+ghost use Rattle.lanes.specs.Lanes.{seen_at};
+ghost use Rattle.columns.specs.Cells.{most_columns, lanes_of, last_lane};
 ghost use Rattle.plains.specs.Checks.{plain_test, plain_wrong, wrong_of};
 ghost use Rattle.plains.specs.Parts.{at_once, SomeLanes, PartIn};
 
-use lanes::{Matrix, UPPER};
-use matrix::Shape;
+use columns::{Cells, Width};
+use lanes::UPPER;
 
 // The numbers of lanes that are merged at once.
 const AT_ONCE: usize = 8;
@@ -23,87 +22,51 @@ const MANY: usize = 48;
 const MOST: usize = 96;
 
 // What is wrong with cell c of a list of what is seen in lanes: nothing where it is owned and nobody controls it, else its bits.
-fn plain_wrong(seen: &[u16], q: usize, c: usize) -> u16
-    requires { OneOrTwo q × (c < most_columns) × (last_lane q c < length seen.now) }
-    ensures { result ≡ plain_wrong q (λ j. get_or seen.now j 0) c }
+fn plain_wrong<W: Width>(seen: &[u16], c: usize) -> u16
+    requires { (c < most_columns) × (last_lane W.LANES c < length seen.now) }
+    ensures { result ≡ plain_wrong W.LANES (λ j. get_or seen.now j 0) c }
 {
-    if seen[columns::last_lane(q, c)] / UPPER % 4 == 1 {
+    if seen[columns::last_lane::<W>(c)] / UPPER % 4 == 1 {
         0
     } else {
-        columns::bits_of(seen, q, c)
+        columns::bits_of::<W>(seen, c)
     }
 }
 
 // What is wrong with the cells of a list from cell `from` on below k. All of them are looked at, so that the compiler may take many at once.
-fn cells_wrong(seen: &[u16], q: usize, from: usize, k: usize) -> u16
-    requires { OneOrTwo q × (k ≤ most_columns) × (lanes_of q k ≤ length seen.now) × (from ≤ k) }
-    ensures { result ≡ wrong_of (plain_wrong q (λ j. get_or seen.now j 0)) from k }
+fn cells_wrong<W: Width>(seen: &[u16], from: usize, k: usize) -> u16
+    requires { (k ≤ most_columns) × (lanes_of W.LANES k ≤ length seen.now) × (from ≤ k) }
+    ensures { result ≡ wrong_of (plain_wrong W.LANES (λ j. get_or seen.now j 0)) from k }
 {
-    let mut wrong: u16 = 0;
+    let mut wrong = 0;
     for c in from..k {
-        wrong = wrong | plain_wrong(seen, q, c);
+        wrong |= plain_wrong::<W>(seen, c);
     }
     wrong
 }
 
-// The cells that so many lanes are.
-fn cells_in(q: usize, lanes: usize) -> usize
-    requires { OneOrTwo q }
-    ensures { result ≡ lanes / q }
+// What is wrong with the columns from column a on, as many as have PART lanes, without the first `from`. The compiler knows the number of lanes,
+// so that it holds the list of what is seen in them in registers.
+fn part_wrong<W: Width, const PART: usize>(cells: &Cells<W>, a: usize, from: usize) -> u16
+    requires { PartIn cells.now.lanes.matrix W.LANES PART a from }
+    ensures { result ≡ wrong_of (λ i. plain_wrong W.LANES (seen_at cells.now.lanes.bytes.now cells.now.lanes.matrix) (a + i)) from (PART / W.LANES) }
 {
-    if q == 1 { lanes } else { lanes / 2 }
+    let mut seen = [0u16; PART];
+    merging::merge(&mut seen, cells.lanes, columns::lanes_of::<W>(a), PART);
+    cells_wrong::<W>(&seen, from, PART / W::LANES)
 }
 
-// What is wrong with the cells of so many lanes of a list, from cell `from` on. Each number of a cell's lanes has a call of its own, so that the
-// compiler knows it.
-fn list_wrong(seen: &[u16], q: usize, from: usize, lanes: usize) -> u16
-    requires { OneOrTwo q × (lanes ≤ most_columns) × (lanes ≤ length seen.now) × (from ≤ lanes / q) }
-    ensures { result ≡ wrong_of (plain_wrong q (λ j. get_or seen.now j 0)) from (lanes / q) }
+// The same for a part of so many lanes, which are one of four numbers.
+fn known_wrong<W: Width>(cells: &Cells<W>, lanes: usize, a: usize, from: usize) -> u16
+    requires { PartIn cells.now.lanes.matrix W.LANES lanes a from × SomeLanes lanes }
+    ensures { result ≡ wrong_of (λ i. plain_wrong W.LANES (seen_at cells.now.lanes.bytes.now cells.now.lanes.matrix) (a + i)) from (lanes / W.LANES) }
 {
-    if q == 1 {
-        cells_wrong(seen, 1, from, lanes)
-    } else {
-        cells_wrong(seen, 2, from, lanes / 2)
+    match lanes {
+        MOST => part_wrong::<W, MOST>(cells, a, from),
+        MANY => part_wrong::<W, MANY>(cells, a, from),
+        SOME => part_wrong::<W, SOME>(cells, a, from),
+        _ => part_wrong::<W, AT_ONCE>(cells, a, from),
     }
-}
-
-// What is wrong with the columns from column a on, as many as have so many lanes, without the first `from`. What is seen in the lanes is left in
-// a list of zeros.
-fn part_wrong(
-    seen: &mut [u16],
-    b: &[u8],
-    m: Matrix,
-    q: usize,
-    lanes: usize,
-    a: usize,
-    from: usize,
-) -> u16
-    requires { PartIn b.now m q lanes a from × (lanes ≤ length seen.old) × (seen.old ≡ replicate (length seen.old) 0) }
-    ensures { result ≡ wrong_of (λ i. plain_wrong q (seen_at b.now m) (a + i)) from (lanes / q) }
-{
-    merging::merge(seen, b, m, columns::lanes_of(q, a), lanes);
-    list_wrong(seen, q, from, lanes)
-}
-
-// The same for each number of lanes. It has a call and a list of its own, so that the compiler knows it and holds the list in registers.
-fn known_wrong(b: &[u8], m: Matrix, q: usize, lanes: usize, a: usize, from: usize) -> u16
-    requires { PartIn b.now m q lanes a from × SomeLanes lanes }
-    ensures { result ≡ wrong_of (λ i. plain_wrong q (seen_at b.now m) (a + i)) from (lanes / q) }
-{
-    if lanes == MOST {
-        let mut seen = [0u16; MOST];
-        return part_wrong(&mut seen, b, m, q, MOST, a, from);
-    }
-    if lanes == MANY {
-        let mut seen = [0u16; MANY];
-        return part_wrong(&mut seen, b, m, q, MANY, a, from);
-    }
-    if lanes == SOME {
-        let mut seen = [0u16; SOME];
-        return part_wrong(&mut seen, b, m, q, SOME, a, from);
-    }
-    let mut seen = [0u16; AT_ONCE];
-    part_wrong(&mut seen, b, m, q, AT_ONCE, a, from)
 }
 
 // How many lanes the next part has, of a row of so many, where `left` are left: no part is larger than the row, and the last one repeats few.
@@ -112,68 +75,60 @@ fn lanes_for(left: usize, lanes: usize) -> usize
     ensures some { SomeLanes result }
     ensures inside { result ≤ lanes }
 {
-    if left <= AT_ONCE {
-        return AT_ONCE;
+    if left <= AT_ONCE || lanes < SOME {
+        AT_ONCE
+    } else if left <= SOME || lanes < MANY {
+        SOME
+    } else if left < MOST || lanes < MOST {
+        MANY
+    } else {
+        MOST
     }
-    if lanes < SOME {
-        return AT_ONCE;
-    }
-    if left <= SOME {
-        return SOME;
-    }
-    if lanes < MANY {
-        return SOME;
-    }
-    if left < MOST {
-        return MANY;
-    }
-    if lanes < MOST {
-        return MANY;
-    }
-    MOST
 }
 
-// The plain columns, part by part. A last part that would go beyond the row begins earlier, and what it repeats is left out.
-fn parts_right(b: &[u8], f: Shape, m: Matrix, q: usize) -> bool
-    requires { Laid b.now m × OneOrTwo q × (columns f ≤ most_columns) × (m.lanes ≡ lanes_of q (columns f)) × (at_once ≤ m.lanes) }
-    ensures { result ≡ all f.p (λ i. plain_test q (seen_at b.now m) (f.n + i)) }
+// The plain columns, part by part. A last part that would go beyond the row begins earlier, and what it repeats is left out. A `while`, since
+// the parts are of different sizes.
+fn parts_right<W: Width>(cells: &Cells<W>) -> bool
+    requires { at_once ≤ cells.now.lanes.matrix.lanes }
+    ensures { result ≡ all cells.now.plain (λ i. plain_test W.LANES (seen_at cells.now.lanes.bytes.now cells.now.lanes.matrix) (cells.now.lanes.matrix.rows + i)) }
 {
-    let n = f.n;
-    let all = n + f.p;
-    let mut wrong: u16 = 0;
+    let n = cells.lanes.matrix.rows;
+    let all = n + cells.plain;
+    let mut wrong = 0;
     let mut c = n;
     while c < all {
-        let lanes = lanes_for(columns::lanes_of(q, all - c), m.lanes);
-        let step = cells_in(q, lanes);
+        let lanes = lanes_for(columns::lanes_of::<W>(all - c), cells.lanes.matrix.lanes);
+        let step = lanes / W::LANES;
         let a = lanes::part(c, step, all);
-        wrong = wrong | known_wrong(b, m, q, lanes, a, c - a);
+        wrong |= known_wrong(cells, lanes, a, c - a);
         c += step;
     }
     wrong == 0
 }
 
 // The plain columns where they are no more than one part. It ends with the row, and what it has of the subjects' columns is left out.
-pub fn one_part(b: &[u8], f: Shape, m: Matrix, q: usize) -> bool
-    requires { Laid b.now m × OneOrTwo q × (columns f ≤ most_columns) × (m.lanes ≡ lanes_of q (columns f)) × (at_once ≤ m.lanes) × (lanes_of q (f.p) ≤ at_once) }
-    ensures { result ≡ all f.p (λ i. plain_test q (seen_at b.now m) (f.n + i)) }
+pub fn one_part<W: Width>(cells: &Cells<W>) -> bool
+    requires { (at_once ≤ cells.now.lanes.matrix.lanes) × (lanes_of W.LANES (cells.now.plain) ≤ at_once) }
+    ensures { result ≡ all cells.now.plain (λ i. plain_test W.LANES (seen_at cells.now.lanes.bytes.now cells.now.lanes.matrix) (cells.now.lanes.matrix.rows + i)) }
 {
-    let n = f.n;
-    let a = n + f.p - cells_in(q, AT_ONCE);
-    let mut seen = [0u16; AT_ONCE];
-    part_wrong(&mut seen, b, m, q, AT_ONCE, a, n - a) == 0
+    let n = cells.lanes.matrix.rows;
+    let a = n + cells.plain - AT_ONCE / W::LANES;
+    part_wrong::<W, AT_ONCE>(cells, a, n - a) == 0
 }
 
 // The plain columns, which come after those of the subjects. Where a row has fewer lanes than a part, all of it is merged.
-pub fn plains(b: &[u8], f: Shape, m: Matrix, q: usize) -> bool
-    requires { Laid b.now m × OneOrTwo q × (columns f ≤ most_columns) × (m.lanes ≡ lanes_of q (columns f)) }
-    ensures { result ≡ all f.p (λ i. plain_test q (seen_at b.now m) (f.n + i)) }
+pub fn plains<W: Width>(cells: &Cells<W>) -> bool
+    ensures { result ≡ all cells.now.plain (λ i. plain_test W.LANES (seen_at cells.now.lanes.bytes.now cells.now.lanes.matrix) (cells.now.lanes.matrix.rows + i)) }
 {
-    if m.lanes < AT_ONCE {
+    let lanes = cells.lanes.matrix.lanes;
+    if lanes < AT_ONCE {
+        let n = cells.lanes.matrix.rows;
         let mut seen = [0u16; AT_ONCE];
-        return part_wrong(&mut seen, b, m, q, m.lanes, 0, f.n) == 0;
+        merging::merge(&mut seen, cells.lanes, 0, lanes);
+        return cells_wrong::<W>(&seen, n, n + cells.plain) == 0;
     }
-    if columns::lanes_of(q, f.p) <= AT_ONCE {
-        return one_part(b, f, m, q);
+    if columns::lanes_of::<W>(cells.plain) <= AT_ONCE {
+        return one_part(cells);
     }
-    parts_right(b, f, m, q)
+    parts_right(cells)
 }

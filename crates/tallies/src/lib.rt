@@ -1,54 +1,75 @@
-// What is counted in lanes over all rows, one lane in each number: the two low bits of its upper byte.
+// What is counted in lanes over all rows, several lanes at once: the two low bits of each lane's upper byte.
 
 #![tactic(auto)]
 
-ghost use Rattle.std.specs.Prelude.{◌≡◌, ◌+◌, ◌*◌, ◌≤◌, ◌<◌, length};
-ghost use Rattle.lanes.specs.Lanes.{place_of, Laid};
-ghost use Rattle.tallies.specs.Blocks.{at_once, Several, Sized, Room, Joined, low_bits, lanes_from, own_upper, Filling};
+ghost use Rattle.std.specs.Prelude.{◌≡◌, ℕ, ◌+◌, ◌-◌, ◌*◌, ◌≤◌, ◌<◌, length};
+ghost use Rattle.lanes.specs.Lists.{Filled};
+ghost use Rattle.lanes.specs.Lanes.{place_of};
+ghost use Rattle.tallies.specs.Blocks.{at_once, Sized, Filling};
+ghost use Rattle.tallies.specs.Halves.{number_in, last_at, lanes_at, added, taken, Halves, Put};
 
-use lanes::{Matrix, UPPER};
+use lanes::{Lanes, UPPER};
 
-// The lanes that are counted at once, one in each number; `pairs` counts twice as many, two in each number.
+// The numbers that count at once, a lane or two each.
 pub const AT_ONCE: usize = 8;
 
-// One row of so many lanes, which begin at byte `at`, joins what is counted. The upper parts of the numbers count: the low bits of the
-// lanes' upper bytes added up, the bits that an odd number of rows have, and up to how many rows an odd number had the lowest bit.
-fn row(
-    low: &mut [u16; AT_ONCE],
-    odd: &mut [u16; AT_ONCE],
-    since: &mut [u16; AT_ONCE],
-    b: &[u8],
-    at: usize,
-)
-    requires { Room b.now at low.old odd.old since.old }
-    ensures { Joined (low_bits b.now at) (lanes_from b.now at) own_upper at_once low.old odd.old since.old low.new odd.new since.new }
+// What the numbers count of their lanes, each half for itself: the low bits of the lanes' upper bytes added up, which of these bits an odd number
+// of rows have, and up to how many rows an odd number had the lower one.
+#[derive(Clone, Copy)]
+pub struct Counts {
+    pub low: [u16; AT_ONCE],
+    pub odd: [u16; AT_ONCE],
+    pub since: [u16; AT_ONCE],
+}
+
+// The two low bits of the upper bytes of the lanes that a number counts: of the lane from byte `at` on in its upper half, or, where it counts both
+// this lane and the one AT_ONCE lanes after it, in its lower half and in its upper half.
+#[inline(always)]
+fn number(b: &[u8], at: usize, both: bool) -> u16
+    requires { at + last_at both + 1 < length b.now }
+    ensures { result ≡ number_in both b.now at }
 {
-    for j in 0..AT_ONCE {
-        let v = lanes::lane(b, at + 2 * j);
-        low[j] = low[j] + v / UPPER % 4 * UPPER;
-        odd[j] = odd[j] ^ v;
-        since[j] = since[j] + odd[j] / UPPER % 2 * UPPER;
+    if both {
+        lanes::lane(b, at + 1) % 4 + lanes::lane(b, at + 2 * AT_ONCE) / UPPER % 4 * UPPER
+    } else {
+        lanes::lane(b, at) / UPPER % 4 * UPPER
     }
 }
 
-// So many lanes from lane c on, counted over all rows in three lists of zeros.
-pub fn rows_of(
-    low: &mut [u16; AT_ONCE],
-    odd: &mut [u16; AT_ONCE],
-    since: &mut [u16; AT_ONCE],
-    b: &[u8],
-    m: Matrix,
-    c: usize,
-)
-    requires { Laid b.now m × (3 * m.rows < 256) × (c + at_once ≤ m.lanes) × Several b.now m c 0 low.old odd.old since.old }
-    ensures { Several b.now m c (m.rows) low.new odd.new since.new }
-{
-    let rows = m.rows;
-    let mut at = m.first + 2 * c;
-    for r in 0..rows {
-        row(low, odd, since, b, at);
-        at += 2 * m.lanes;
+impl Counts {
+    ghost use Rattle.tallies.specs.Blocks.{at_once};
+    ghost use Rattle.tallies.specs.Halves.{numbers_from, lanes_at, Joined, Room};
+
+    // One row, whose lanes begin at byte `at`, joins what is counted. Only the two low bits join, so that no half grows beyond a byte.
+    #[inline(always)]
+    fn join(&mut self, b: &[u8], at: usize, both: bool)
+        requires { (at + 2 * lanes_at both ≤ length b.now) × Room self.old }
+        ensures { Joined (numbers_from both b.now at) at_once self.old self.new }
+    {
+        for j in 0..AT_ONCE {
+            let v = number(b, at + 2 * j, both);
+            self.low[j] += v;
+            self.odd[j] ^= v;
+            self.since[j] += self.odd[j] % 2 + self.odd[j] / UPPER % 2 * UPPER;
+        }
     }
+}
+
+// What is counted over all rows of the lanes from lane c on, in each number of one lane, or of both that lane and the one AT_ONCE lanes after it.
+#[inline(always)]
+pub fn rows(m: Lanes, c: usize, both: bool) -> Counts
+    requires { (3 * m.matrix.rows < 256) × (c + lanes_at both ≤ m.matrix.lanes) }
+    ensures { Halves (added both m.entry.bytes.now m.entry.matrix c) m.entry.matrix.rows result }
+{
+    let mut counts = Counts {
+        low: [0; AT_ONCE],
+        odd: [0; AT_ONCE],
+        since: [0; AT_ONCE],
+    };
+    for r in 0..m.matrix.rows {
+        counts.join(m.bytes, m.place(r, c), both);
+    }
+    counts
 }
 
 // The one row that has the bit, where a of the rows are that row and those after it; 0 where a is 0.
@@ -59,40 +80,75 @@ pub fn place(rows: usize, a: u8) -> u8
     if a == 0 { 0 } else { rows as u8 - a }
 }
 
-// So many lanes from lane c on, where a row has fewer than `pairs` counts.
-pub fn several(tally: &mut [u8], odd: &mut [u8], marks: &mut [u8], b: &[u8], m: Matrix, c: usize)
-    requires { Laid b.now m × (3 * m.rows < 256) × (c + at_once ≤ m.lanes) × (c + at_once ≤ length tally.old) × Sized (length tally.old) tally.old odd.old marks.old }
-    ensures { Filling b.now m c at_once tally.old odd.old marks.old tally.new odd.new marks.new }
+// One half of each number into a list, from place c on: the lower half where `unit` is 1, the upper half where it is UPPER.
+fn put(list: &mut [u8], c: usize, counts: &[u16; AT_ONCE], unit: u16)
+    requires { (0 < unit) × (c + at_once ≤ length list.old) }
+    ensures { Filled c at_once (λ x. taken counts.now unit (x - c)) list.old list.new }
 {
-    let mut low = [0u16; AT_ONCE];
-    let mut parity = [0u16; AT_ONCE];
-    let mut since = [0u16; AT_ONCE];
-    rows_of(&mut low, &mut parity, &mut since, b, m, c);
     for j in 0..AT_ONCE {
-        tally[c + j] = (low[j] / UPPER) as u8;
-        odd[c + j] = (parity[j] / UPPER % 4) as u8;
-        marks[c + j] = place(m.rows, (since[j] / UPPER) as u8);
+        list[c + j] = (counts[j] / unit % UPPER) as u8;
+    }
+}
+
+// The same, where a half counts the rows from one row on: that row into the list.
+pub fn put_places(list: &mut [u8], c: usize, counts: &[u16; AT_ONCE], unit: u16, rows: usize)
+    requires { (0 < unit) × (c + at_once ≤ length list.old) × (rows < 256) × ((j : ℕ) → j < at_once → taken counts.now unit j ≤ rows) }
+    ensures { Filled c at_once (λ x. place_of rows (taken counts.now unit (x - c))) list.old list.new }
+{
+    for j in 0..AT_ONCE {
+        list[c + j] = place(rows, (counts[j] / unit % UPPER) as u8);
+    }
+}
+
+// The same for all three lists.
+pub fn put_all(
+    tally: &mut [u8],
+    odd: &mut [u8],
+    marks: &mut [u8],
+    c: usize,
+    counts: &Counts,
+    unit: u16,
+    rows: usize,
+)
+    requires { (0 < unit) × (c + at_once ≤ length tally.old) × Sized (length tally.old) tally.old odd.old marks.old × (rows < 256) × ((j : ℕ) → j < at_once → taken counts.now.since unit j ≤ rows) }
+    ensures { Put counts.now rows c unit tally.old odd.old marks.old tally.new odd.new marks.new }
+{
+    put(tally, c, &counts.low, unit);
+    put(odd, c, &counts.odd, unit);
+    put_places(marks, c, &counts.since, unit, rows);
+}
+
+// The lanes that are counted at once, from lane c on.
+#[inline(always)]
+pub fn several(tally: &mut [u8], odd: &mut [u8], marks: &mut [u8], m: Lanes, c: usize, both: bool)
+    requires { (3 * m.matrix.rows < 256) × (c + lanes_at both ≤ m.matrix.lanes) × (c + lanes_at both ≤ length tally.old) × Sized (length tally.old) tally.old odd.old marks.old }
+    ensures { Filling m.entry.bytes.now m.entry.matrix c (lanes_at both) tally.old odd.old marks.old tally.new odd.new marks.new }
+{
+    let n = m.matrix.rows;
+    let counts = rows(m, c, both);
+    if both {
+        put_all(tally, odd, marks, c, &counts, 1, n);
+        put_all(tally, odd, marks, c + AT_ONCE, &counts, UPPER, n);
+    } else {
+        put_all(tally, odd, marks, c, &counts, UPPER, n);
     }
 }
 
 // One lane, where a row has fewer than are counted at once.
-pub fn one(tally: &mut [u8], odd: &mut [u8], marks: &mut [u8], b: &[u8], m: Matrix, c: usize)
-    requires { Laid b.now m × (3 * m.rows < 256) × (c < m.lanes) × (c < length tally.old) × Sized (length tally.old) tally.old odd.old marks.old }
-    ensures { Filling b.now m c 1 tally.old odd.old marks.old tally.new odd.new marks.new }
+pub fn one(tally: &mut [u8], odd: &mut [u8], marks: &mut [u8], m: Lanes, c: usize)
+    requires { (3 * m.matrix.rows < 256) × (c < m.matrix.lanes) × (c < length tally.old) × Sized (length tally.old) tally.old odd.old marks.old }
+    ensures { Filling m.entry.bytes.now m.entry.matrix c 1 tally.old odd.old marks.old tally.new odd.new marks.new }
 {
-    let rows = m.rows;
     let mut low: u8 = 0;
     let mut parity: u8 = 0;
     let mut since: u8 = 0;
-    let mut at = m.first + (2 * c + 1);
-    for r in 0..rows {
-        let v = b[at];
+    for r in 0..m.matrix.rows {
+        let v = m.upper(r, c);
         low += v % 4;
-        parity = parity ^ v;
+        parity ^= v;
         since += parity % 2;
-        at += 2 * m.lanes;
     }
     tally[c] = low;
     odd[c] = parity % 4;
-    marks[c] = place(rows, since);
+    marks[c] = place(m.matrix.rows, since);
 }

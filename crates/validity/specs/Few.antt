@@ -1,11 +1,11 @@
 -- Records with few columns, whose subjects are counted in a few numbers.
-use Rattle.std.specs.Prelude.{ℕ, zero, suc, ◌+◌, ◌-◌, ◌*◌, ◌/◌, ◌%◌, ◌≤◌, ◌<◌, ◌≡◌, refl, true, List, length, get_or, set, replicate}
+use Rattle.std.specs.Prelude.{ℕ, zero, suc, ◌+◌, ◌-◌, ◌*◌, ◌/◌, ◌%◌, ◌≤◌, ◌<◌, ◌≡◌, refl, true, false, List, length, get_or, set, replicate}
 use Rattle.std.proofs.Common.{arith, ◌∙◌, ap, subst}
 use Rattle.std.proofs.Math.Path.{sym, ap₂}
 use Rattle.std.proofs.lemmas.List.{length-replicate}
 use Rattle.matrix.specs.Bounded.{all}
 use Rattle.matrix.specs.declared.Shape.{Shape}
-use Rattle.matrix.specs.Shape.{most_subjects, shape_of}
+use Rattle.matrix.specs.Shape.{shape_of}
 use Rattle.matrix.specs.Reading.{state_of}
 use Rattle.matrix.specs.Record.{valid_matrix}
 use Rattle.laws.specs.Bounded.{all_same}
@@ -13,15 +13,16 @@ use Rattle.cells.specs.Station.{Station}
 use Rattle.lanes.specs.declared.Matrix.{Matrix}
 use Rattle.lanes.specs.Lists.{Holds, Stored, stored_none, stored_step, Filled}
 use Rattle.lanes.specs.Lanes.{lows, paired, mark_of, place_of, upper_at, bit_in, seen_at}
-use Rattle.tallies.specs.Blocks.{at_once, Several}
-use Rattle.pairs.specs.Pairs.{taken}
+use Rattle.tallies.specs.declared.Counts.{Counts}
+use Rattle.tallies.specs.Blocks.{at_once}
+use Rattle.tallies.specs.Halves.{added, taken, Halves}
 use Rattle.columns.specs.Cells.{most_counted, lanes_of, last_lane, matrix_of}
 use Rattle.columns.specs.Checks.{present, counts, count_test, subject_test}
 use Rattle.columns.specs.Loops.{counts_test}
 use Rattle.plains.specs.Checks.{plain_test}
 use Rattle.plains.specs.Parts.{lanes_single}
 use Rattle.few_subjects.specs.Counts.{few_test, tally_is, odd_is, since_is}
-use Rattle.owner_table.specs.Table.{lower_test, lower_rooted}
+use Rattle.owner_table.specs.Table.{owner_in, lower_test, lower_rooted}
 use Rattle.validity.specs.Passed.{owner_at}
 use Rattle.validity.specs.Whole.{Scanned, owners_left}
 
@@ -54,7 +55,7 @@ unfolding last_lane
 single s = omega arith
 
 -- Such a record, whose lanes are counted over all rows.
-module _ (b : List ℕ) (f : Shape) (m : Matrix) (station : Station b f) (few : FewColumns f) (lanes : m ≡ matrix_of f) (low odd owned : List ℕ) (k : Several b m 0 m.rows low odd owned) where
+module _ (b : List ℕ) (f : Shape) (m : Matrix) (station : Station b f) (few : FewColumns f) (lanes : m ≡ matrix_of f) (counted : Counts) (k : Halves (added false b m 0) m.rows counted) where
   abbrev n : ℕ
   n = m.rows
 
@@ -93,31 +94,26 @@ module _ (b : List ℕ) (f : Shape) (m : Matrix) (station : Station b f) (few : 
       }
 
   -- the counts of a subject are those of the lists
-  counts_same : (s : ℕ) → s < n → count_test 1 tally parity s ≡ few_test low odd s
+  counts_same : (s : ℕ) → s < n → count_test 1 tally parity s ≡ few_test counted s
   unfolding count_test few_test
   counts_same s l =
-      ap₂ (λ (x y : ℕ). counts s x y) (filled_at _ s l ∙ sym (tally_is b m low odd owned k small s (omega (arith, subjects_few))))
-      (filled_at _ s l ∙ sym (odd_is b m low odd owned k small s (omega (arith, subjects_few))))
+      ap₂ (λ (x y : ℕ). counts s x y) (filled_at _ s l ∙ sym (tally_is b m counted k small s (omega (arith, subjects_few))))
+      (filled_at _ s l ∙ sym (odd_is b m counted k small s (omega (arith, subjects_few))))
 
   -- where all subjects exist and their counts fit, they pass their tests
-  subjects_pass : all n (present 1 b m) ≡ true → all n (few_test low odd) ≡ true → all n (subject_test 1 b m (seen_at b m) tally parity) ≡ true
+  subjects_pass : all n (present 1 b m) ≡ true → all n (few_test counted) ≡ true → all n (subject_test 1 b m (seen_at b m) tally parity) ≡ true
   subjects_pass p c = sym (counts_test 1 b m (seen_at b m) tally parity p) ∙ all_same n _ _ counts_same ∙ c
 
-  -- the owners are put at their subjects' places
-  owners_put : (owners table : List ℕ) → Filled 0 at_once (λ x. place_of n (taken owned 256 (x - 0))) owners table → Stored n (owner_at 1 marks) table table
-  owners_put owners table put =
-      record {
-        size = refl;
-        below =
-            λ s l. put.inside s (omega arith) (omega (arith, subjects_few)) ∙ ap (λ (i : ℕ). place_of n (taken owned 256 i)) (omega arith)
-            ∙ ap (place_of n) (since_is b m low odd owned k small s (omega (arith, subjects_few))) ∙ sym (filled_at _ s l);
-        above = λ s l. refl;
-      }
-
-  -- where the plain columns pass too, and each owner has a lower number, the matrix is valid
-  pub surely : (owners table : List ℕ) → length table ≡ most_subjects → Filled 0 at_once (λ x. place_of n (taken owned 256 (x - 0))) owners table
-      → all n (present 1 b m) ≡ true → all n (few_test low odd) ≡ true → all f.p (λ i. plain_test 1 (seen_at b m) (n + i)) ≡ true → all n (lower_test table) ≡ true
-      → true ≡ valid_matrix (shape_of b) (state_of b)
-  surely owners table size put p c plain lower =
-      (owners_left b f 1 m tally parity marks scanned table size table (subjects_pass p c) plain (owners_put owners table put) true
-      (sym (lower_rooted n table (omega (arith, subjects_few)) lower))).0
+  -- where the owners are put at their subjects' places, the plain columns pass too, and each owner has a lower number, the matrix is valid
+  pub surely : (owners left table : List ℕ) → Filled 0 at_once (λ x. place_of n (taken counted.since 256 (x - 0))) owners left
+      → length table ≡ n → ((s : ℕ) → s < n → owner_in table s ≡ get_or left s 0)
+      → all n (present 1 b m) ≡ true → all n (few_test counted) ≡ true → all f.p (λ i. plain_test 1 (seen_at b m) (n + i)) ≡ true
+      → all (length table) (lower_test table) ≡ true → true ≡ valid_matrix (shape_of b) (state_of b)
+  surely owners left table put size same p c plain lower =
+      owners_left b f 1 m tally parity marks scanned table (subjects_pass p c) plain size (λ s l. same s l ∙ put_at s l) true
+      (sym (lower_rooted (length table) table (omega (arith, size, subjects_few)) lower))
+    where
+      put_at : (s : ℕ) → s < n → get_or left s 0 ≡ owner_at 1 marks s
+      put_at s l =
+          put.inside s (omega arith) (omega (arith, subjects_few)) ∙ ap (λ (i : ℕ). place_of n (taken counted.since 256 i)) (omega arith)
+          ∙ ap (place_of n) (since_is b m counted k small s (omega (arith, subjects_few))) ∙ sym (filled_at _ s l)

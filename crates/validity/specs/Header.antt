@@ -1,34 +1,38 @@
 -- The lanes of a record's bytes, and the refusals one by one.
-use Rattle.std.specs.Prelude.{ℕ, ◌≤◌, ◌<◌, ◌≡◌, true, false, List, length}
+use Rattle.std.specs.Prelude.{ℕ, ◌+◌, ◌≤◌, ◌<◌, ◌≡◌, true, false, List, length}
 use Rattle.std.proofs.Common.{arith, sym, ◌∙◌, ap, le-leb}
 use Rattle.std.proofs.Math.Path.{refl}
 use Rattle.std.proofs.lemmas.Bool.{lt-leb}
 use Rattle.matrix.specs.declared.Shape.{Shape}
-use Rattle.matrix.specs.Shape.{limits, header_bytes, shape_of, known_version, columns, in_range, sized}
+use Rattle.matrix.specs.Shape.{limits, header_bytes, shape_of, known_version, in_range, sized}
 use Rattle.matrix.specs.Reading.{state_of}
 use Rattle.matrix.specs.Tests.{first_failed}
 use Rattle.matrix.specs.Record.{valid_matrix, record_refusal}
-use Rattle.codec.proofs.ShapeRight.{two_or_four}
+use Rattle.codec.specs.ShapeRight.{ShapeRight}
 use Rattle.cells.specs.Station.{Station, right_shape}
 use Rattle.lanes.specs.declared.Matrix.{Matrix}
-use Rattle.lanes.specs.Lanes.{row_place}
-use Rattle.columns.specs.Cells.{cell_lanes, lanes_of, matrix_of, rows_size, lanes_more, lanes_of_width}
+use Rattle.lanes.specs.Lanes.{row_place, Laid}
+use Rattle.columns.specs.Cells.{cell_lanes, lanes_of, matrix_of, rows_size}
 use Rattle.columns.specs.Checks.{Celled}
 
 -- the lanes of the cells of a record's bytes
-pub lanes_celled : (b : List ℕ) (f : Shape) (m : Matrix) → Station b f → m ≡ matrix_of f → Celled (cell_lanes f) b m
-lanes_celled b f m s e =
+pub lanes_laid : (b : List ℕ) (f : Shape) (m : Matrix) → Station b f → m ≡ matrix_of f → Laid b m
+lanes_laid b f m s e =
     let h = right_shape s in
     let size : row_place m m.rows ≡ length b =
     ap (λ (x : Matrix). row_place x x.rows) (e ∙ ap matrix_of s.shape) ∙ sym (rows_size b) ∙ sym s.shaped.size in
     let rows : m.rows ≡ f.n = ap (λ (x : Matrix). x.rows) e in
-    let cells = (lanes_of_width f (two_or_four f h)).0 in
-    let width : m.lanes ≡ lanes_of (cell_lanes f) (columns f) = ap (λ (x : Matrix). x.lanes) e in
+    record { some = omega (arith, h.low); holds = omega arith }
+
+pub lanes_celled : (f : Shape) (m : Matrix) (q : ℕ) → ShapeRight f → m ≡ matrix_of f → q ≡ cell_lanes f → Celled q f.p m
+lanes_celled f m q h e c =
+    let rows : m.rows ≡ f.n = ap (λ (x : Matrix). x.rows) e in
     record {
-      laid = record { some = omega (arith, h.low); holds = omega arith };
-      cells = cells;
       subjects = omega (arith, h.high);
-      inside = rw width (lanes_more cells m.rows (columns f) (omega arith));
+      few = omega (arith, h.high, h.plain);
+      width =
+          ap (λ (x : Matrix). x.lanes) e ∙ ap (λ (k : ℕ). lanes_of (cell_lanes f) (k + f.p)) (sym rows)
+          ∙ ap (λ (i : ℕ). lanes_of i (m.rows + f.p)) (sym c);
     }
 
 -- ---- the refusals, one by one

@@ -1,5 +1,5 @@
 -- The tests of a whole record, from those that the code makes one after another.
-use Rattle.std.specs.Prelude.{ℕ, ◌+◌, ◌≤◌, ◌<◌, ◌≡◌, refl, Bool, true, false, ◌&&◌, List, eqb, length, replicate}
+use Rattle.std.specs.Prelude.{ℕ, ◌+◌, ◌*◌, ◌/◌, ◌≤◌, ◌<◌, ◌≡◌, refl, Bool, true, false, ◌&&◌, List, eqb, length, replicate}
 use Rattle.std.proofs.Common.{arith, sym, ◌∙◌, ap, subst, eqb-true}
 use Rattle.std.proofs.lemmas.List.{length-replicate}
 use Rattle.matrix.specs.Bounded.{all}
@@ -16,7 +16,6 @@ use Rattle.codec.specs.ShapeRight.{ShapeRight}
 use Rattle.codec.proofs.ShapeRight.{right_in, two_or_four}
 use Rattle.cells.specs.Station.{Station, right_shape}
 use Rattle.lanes.specs.declared.Matrix.{Matrix}
-use Rattle.lanes.specs.Lists.{Stored}
 use Rattle.lanes.specs.Lanes.{seen_at, Counted}
 use Rattle.columns.specs.Cells.{OneOrTwo, cell_lanes, most_counted, lanes_of, matrix_of, own_bit, control_bit, zero_cell, lanes_of_width}
 use Rattle.columns.specs.Checks.{subject_test}
@@ -38,6 +37,21 @@ pub record Scanned (b : List ℕ) (f : Shape) (q : ℕ) (m : Matrix) (tally odd 
   pub cells : q ≡ cell_lanes f
   pub lanes : m ≡ matrix_of f
   pub kept : Counted most_counted b m (lanes_of q m.rows) tally odd marks
+
+-- the same by what is counted, where q lanes are the bytes of a cell
+pub scanned_by : (b bytes : List ℕ) (f : Shape) (q : ℕ) (m : Matrix) (tally odd marks : List ℕ) → bytes ≡ b → Station b f → m ≡ matrix_of f → f.width ≡ 2 * q
+    → Counted most_counted bytes m (f.width / 2 * f.n) tally odd marks → Scanned bytes f q m tally odd marks
+unfolding lanes_of
+scanned_by b bytes f q m tally odd marks e s place w k =
+    let c : q ≡ f.width / 2 = omega (arith, w) in
+    record {
+      station = subst (λ (x : List ℕ). Station x f) (sym e) s;
+      cells = c;
+      lanes = place;
+      kept =
+          subst (λ (i : ℕ). Counted most_counted bytes m i tally odd marks)
+          (ap (λ (x : ℕ). x * f.n) (sym c) ∙ ap (λ (x : Matrix). q * x.rows) (sym place)) k;
+    }
 
 module _ (b : List ℕ) (f : Shape) (q : ℕ) (m : Matrix) (tally odd marks : List ℕ) (scanned : Scanned b f q m tally odd marks) where
   abbrev n : ℕ
@@ -78,33 +92,26 @@ module _ (b : List ℕ) (f : Shape) (q : ℕ) (m : Matrix) (tally odd marks : Li
   found_inside : S ≡ true → P ≡ true → Inside n (owner_at q marks)
   found_inside = owners_inside b scanned.station.octets m (n + f.p) number tally odd marks width scanned.kept (omega arith) f.p refl some
 
-  -- an answer, with the size of the table of owners
-  abbrev Judged : List ℕ → Bool → Type 0
-  Judged owners r = (r ≡ valid_matrix (shape_of b) (state_of b)) × (length owners ≡ most_subjects)
-
   -- a subject is wrong; a plain column is wrong
-  module _ (owners : List ℕ) (sized : length owners ≡ most_subjects) where
-    pub subjects_wrong : S ≡ false → Judged owners false
-    subjects_wrong h = let e : (S && P && R) ≡ false = rw h refl in (sym e ∙ valid_whole, sized)
+  pub subjects_wrong : S ≡ false → false ≡ valid_matrix (shape_of b) (state_of b)
+  subjects_wrong h = let e : (S && P && R) ≡ false = rw h refl in sym e ∙ valid_whole
 
-    pub plain_wrong : S ≡ true → P ≡ false → Judged owners false
-    plain_wrong g h = let e : (S && P && R) ≡ false = rw (g, h) refl in (sym e ∙ valid_whole, sized)
+  pub plain_wrong : S ≡ true → P ≡ false → false ≡ valid_matrix (shape_of b) (state_of b)
+  plain_wrong g h = let e : (S && P && R) ≡ false = rw (g, h) refl in sym e ∙ valid_whole
 
-    -- what is left, where each owner is put at its subject's place, is whether every owner is followed to U
-    module _ (table : List ℕ) (g : S ≡ true) (h : P ≡ true) (placed : Stored n (owner_at q marks) owners table) where
-      pub table_size : length table ≡ most_subjects
-      table_size = placed.size ∙ sized
+  -- what is left, where each owner is put at its subject's place, is whether every owner is followed to U
+  module _ (table : List ℕ) (g : S ≡ true) (h : P ≡ true) (sized : length table ≡ n) (placed : (s : ℕ) → s < n → owner_in table s ≡ owner_at q marks s) where
+    pub table_inside : Inside (length table) (owner_in table)
+    table_inside =
+        subst (λ (k : ℕ). Inside k (owner_in table)) (sym sized) (record { below = λ s l. rw (placed s l) ((found_inside g h).below s l) })
 
-      pub table_inside : Inside n (owner_in table)
-      table_inside = record { below = λ s l. rw (placed.below s l) ((found_inside g h).below s l) }
-
-      pub owners_left : (r : Bool) → r ≡ all n (λ s. eqb (followed (owner_in table) reach s) 0) → Judged table r
-      owners_left r k =
-          let e : (S && P && R) ≡ R = rw (g, h) refl in
-          let t : all n (λ s. eqb (followed (owner_in table) reach s) 0) ≡ R =
-          all_same n _ _ (λ s l. ap (λ (x : ℕ). eqb x 0)
-          (followed_same (owner_in table) (owner_at q marks) (λ i. i < n) placed.below (found_inside g h).below reach s l)) in
-          (k ∙ t ∙ sym e ∙ valid_whole, table_size)
+    pub owners_left : (r : Bool) → r ≡ all (length table) (λ s. eqb (followed (owner_in table) reach s) 0) → r ≡ valid_matrix (shape_of b) (state_of b)
+    owners_left r k =
+        let e : (S && P && R) ≡ R = rw (g, h) refl in
+        let t : all n (λ s. eqb (followed (owner_in table) reach s) 0) ≡ R =
+        all_same n _ _ (λ s l. ap (λ (x : ℕ). eqb x 0)
+        (followed_same (owner_in table) (owner_at q marks) (λ i. i < n) placed (found_inside g h).below reach s l)) in
+        k ∙ ap (λ (i : ℕ). all i (λ s. eqb (followed (owner_in table) reach s) 0)) sized ∙ t ∙ sym e ∙ valid_whole
 
 -- ---- the header
 

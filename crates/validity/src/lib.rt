@@ -8,47 +8,78 @@ ghost use Rattle.matrix.specs.Reading.{state_of};
 ghost use Rattle.matrix.specs.Record.{valid_matrix};
 ghost use Rattle.cells.specs.Station.{Station};
 ghost use Rattle.codec.specs.ShapeRight.{ShapeRight};
+ghost use Rattle.columns.specs.Cells.{matrix_of};
 ghost use Rattle.validity.specs.Few.{FewColumns};
 ghost use Rattle.validity.specs.Opens.{Opens};
+ghost use Rattle.validity.specs.Whole.{Scanned};
 
-use columns::COUNTED;
-use lanes::{Matrix, UPPER};
+use columns::{COUNTED, Cells, OneLane, TwoLanes, Width};
+use lanes::{Lanes, Matrix, UPPER};
 use matrix::{HEADER_BYTES, MOST_SUBJECTS, Refusal, Shape};
+use std::marker::PhantomData;
 use tallies::AT_ONCE;
 
-// The matrix of a record of this shape is valid, by the tests of its subjects, its plain columns and its table of owners, one after another. Its
-// cells are lanes, one each or two. The table `owners` is left with a guess of who owns each subject, of which nothing is promised.
-fn tested(b: &[u8], f: Shape, owners: &mut [u8; MOST_SUBJECTS]) -> bool
-    requires { Station b.now f × (length owners.old ≡ most_subjects) }
-    ensures verdict { result ≡ valid_matrix (shape_of b.now) (state_of b.now) }
-    ensures table { length owners.new ≡ most_subjects }
+// The lanes of the bytes of a record of this shape.
+fn lanes_in<'a>(b: &'a [u8], f: Shape) -> Lanes<'a>
+    requires { Station b.now f }
+    ensures bytes { result.bytes.now ≡ b.now }
+    ensures place { result.matrix ≡ matrix_of f }
 {
-    let n = f.n;
-    let q = f.width / 2;
-    let m = Matrix {
-        first: f.first,
-        rows: n,
-        lanes: columns::lanes_of(q, n + f.p),
+    Lanes {
+        bytes: b,
+        matrix: Matrix {
+            first: f.first,
+            rows: f.n,
+            lanes: f.width / 2 * (f.n + f.p),
+        },
+    }
+}
+
+// The matrix is valid, by the tests of the subjects, whose lanes are counted, of the plain columns and of the table of owners, one after another.
+// The table `owners` is left with a guess of who owns each subject, of which nothing is promised.
+fn cells_valid<W: Width>(
+    lanes: Lanes,
+    f: Shape,
+    tally: &[u8; COUNTED],
+    odd: &[u8; COUNTED],
+    marks: &[u8; COUNTED],
+    owners: &mut [u8],
+) -> bool
+    requires scanned { Scanned lanes.bytes.now f W.LANES lanes.matrix tally.now odd.now marks.now }
+    requires room { length owners.old ≡ lanes.matrix.rows }
+    ensures { result ≡ valid_matrix (shape_of lanes.entry.bytes.now) (state_of lanes.entry.bytes.now) }
+{
+    let cells = Cells::<W> {
+        lanes,
+        plain: f.p,
+        width: PhantomData,
     };
+    if !cells.subjects(tally, odd) {
+        return false;
+    }
+    if !plains::plains(&cells) {
+        return false;
+    }
+    columns::owners::<W>(owners, marks);
+    owner_table::rooted(owners)
+}
+
+// The matrix of a record of this shape is valid, by these tests. Its cells are lanes, one each or two.
+fn tested(b: &[u8], f: Shape, owners: &mut [u8; MOST_SUBJECTS]) -> bool
+    requires { Station b.now f }
+    ensures { result ≡ valid_matrix (shape_of b.now) (state_of b.now) }
+{
+    let lanes = lanes_in(b, f);
     let mut tally = [0u8; COUNTED];
     let mut odd = [0u8; COUNTED];
     let mut marks = [0u8; COUNTED];
-    counting::count(
-        &mut tally,
-        &mut odd,
-        &mut marks,
-        b,
-        m,
-        columns::lanes_of(q, n),
-    );
-    if !columns::subjects(b, &tally, &odd, m, q) {
-        return false;
+    counting::count(&mut tally, &mut odd, &mut marks, lanes, f.width / 2 * f.n);
+    let owners = &mut owners[..f.n];
+    if f.width == 2 {
+        cells_valid::<OneLane>(lanes, f, &tally, &odd, &marks, owners)
+    } else {
+        cells_valid::<TwoLanes>(lanes, f, &tally, &odd, &marks, owners)
     }
-    if !plains::plains(b, f, m, q) {
-        return false;
-    }
-    columns::owners(owners, &marks, q, n);
-    owner_table::rooted(owners, n)
 }
 
 // A record of this shape has cells of one lane, no more subjects and no more plain columns than are counted and merged at once, and as many columns
@@ -57,58 +88,42 @@ fn few_columns(f: Shape) -> bool
     requires { ShapeRight f }
     ensures { result ≡ true → FewColumns f }
 {
-    if f.width != 2 {
-        return false;
-    }
-    if AT_ONCE < f.n {
-        return false;
-    }
-    if AT_ONCE < f.p {
-        return false;
-    }
-    AT_ONCE <= f.n + f.p
+    f.width == 2 && f.n <= AT_ONCE && f.p <= AT_ONCE && AT_ONCE <= f.n + f.p
 }
 
 // The matrix of such a record is valid, by the same tests with its counts in a few numbers. They pass only where all subjects exist and each owner
 // has a lower number than what it owns, as in most records; where they fail, nothing is said.
 fn few_valid(b: &[u8], f: Shape, owners: &mut [u8; MOST_SUBJECTS]) -> bool
-    requires { Station b.now f × FewColumns f × (length owners.old ≡ most_subjects) }
-    ensures verdict { result ≡ true → true ≡ valid_matrix (shape_of b.now) (state_of b.now) }
-    ensures table { length owners.new ≡ most_subjects }
+    requires { Station b.now f × FewColumns f }
+    ensures { result ≡ true → true ≡ valid_matrix (shape_of b.now) (state_of b.now) }
 {
-    let n = f.n;
-    let m = Matrix {
-        first: f.first,
-        rows: n,
-        lanes: columns::lanes_of(1, n + f.p),
+    let lanes = lanes_in(b, f);
+    let n = lanes.matrix.rows;
+    let cells = Cells::<OneLane> {
+        lanes,
+        plain: f.p,
+        width: PhantomData,
     };
-    let mut low = [0u16; AT_ONCE];
-    let mut odd = [0u16; AT_ONCE];
-    let mut since = [0u16; AT_ONCE];
-    tallies::rows_of(&mut low, &mut odd, &mut since, b, m, 0);
-    if !columns::all_present(b, m, 1) {
+    let counts = tallies::rows(lanes, 0, false);
+    if !cells.all_present() {
         return false;
     }
-    if !few_subjects::counts_fit(&low, &odd, n) {
+    if !few_subjects::counts_fit(&counts, n) {
         return false;
     }
-    if !plains::one_part(b, f, m, 1) {
+    if !plains::one_part(&cells) {
         return false;
     }
-    pairs::put_places(owners, 0, &since, UPPER, n);
-    owner_table::descends(owners, n)
+    tallies::put_places(owners, 0, &counts.since, UPPER, n);
+    owner_table::descends(&owners[..n])
 }
 
 // The matrix of a record of this shape is valid, where that is soon seen; where it is not, nothing is said.
 fn surely_valid(b: &[u8], f: Shape, owners: &mut [u8; MOST_SUBJECTS]) -> bool
-    requires { Station b.now f × (length owners.old ≡ most_subjects) }
-    ensures verdict { result ≡ true → true ≡ valid_matrix (shape_of b.now) (state_of b.now) }
-    ensures table { length owners.new ≡ most_subjects }
+    requires { Station b.now f }
+    ensures { result ≡ true → true ≡ valid_matrix (shape_of b.now) (state_of b.now) }
 {
-    if few_columns(f) {
-        return few_valid(b, f, owners);
-    }
-    false
+    few_columns(f) && few_valid(b, f, owners)
 }
 
 // The matrix of a record of this shape is valid.
@@ -117,10 +132,7 @@ fn valid(b: &[u8], f: Shape, owners: &mut [u8; MOST_SUBJECTS]) -> bool
     ensures verdict { result ≡ valid_matrix (shape_of b.now) (state_of b.now) }
     ensures table { length owners.new ≡ most_subjects }
 {
-    if surely_valid(b, f, owners) {
-        return true;
-    }
-    tested(b, f, owners)
+    surely_valid(b, f, owners) || tested(b, f, owners)
 }
 
 // Opens a record: its shape, or the refusal, 1 to 5, that turns it down. The table `owners`, of zeros at first, is left with a guess of who owns each

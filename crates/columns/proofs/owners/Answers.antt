@@ -1,22 +1,18 @@
 -- `columns::owners` meets its contract.
-use Prim.Native.Nat.{ℕ}
-use mathlib.Core.Path.{refl, sym, subst}
-use mathlib.Core.Logic.{inl, inr}
-use lib.ListN.{get_or}
-use Rattle.lanes.specs.Lists.{Stored}
-use Rattle.columns.specs.Cells.{last_lane, not_one}
+use Rattle.std.proofs.Common.{arith, ℕ, ap, get_or}
+use Rattle.lanes.specs.Lists.{stored_none, stored_step, stored_done}
+use Rattle.columns.specs.Cells.{last_counted}
 use Rattle.columns.proofs.owners.Goals as goal
 
-pub put_owners-requires : goal.put_owners-requires
-put_owners-requires c = (inl refl, c.requires.1, c.requires.2, c.requires.3)
+pub loop-s-init : goal.loop-s-init
+loop-s-init g c = stored_none _ _
 
-pub put_owners-requires-else-q-eq1 : goal.put_owners-requires-else-q-eq1
-put_owners-requires-else-q-eq1 c = (inr refl, c.requires.1, c.requires.2, c.requires.3)
+pub bounds-marks-last_lane : goal.bounds-marks-last_lane
+bounds-marks-last_lane g c = last_counted g.W.Width.one_or_two c.loop-s.s _ (omega arith) c.last_lane.ensures
 
-pub returns-then-q-eq1 : goal.returns-then-q-eq1
-returns-then-q-eq1 c =
-    subst (λ (q : ℕ). Stored c.args.n (λ i. get_or c.args.marks.now (last_lane q i) 0) c.args.owners.now c.put_owners.new.owners) (sym c.if-q-eq1.true) c.put_owners.ensures
+pub loop-s-preserved : goal.loop-s-preserved
+loop-s-preserved g c =
+    stored_step _ _ _ _ _ c.loop-s.invariant (omega arith) (ap (λ (j : ℕ). get_or c.args.marks.now j 0) c.last_lane.ensures)
 
-pub returns-else-q-eq1 : goal.returns-else-q-eq1
-returns-else-q-eq1 c =
-    subst (λ (q : ℕ). Stored c.args.n (λ i. get_or c.args.marks.now (last_lane q i) 0) c.args.owners.now c.put_owners-else-q-eq1.new.owners) (sym (not_one c.requires.0 c.if-q-eq1.false)) c.put_owners-else-q-eq1.ensures
+pub returns : goal.returns
+returns g c = stored_done _ _ _ _ _ (omega arith) (omega arith) c.loop-s.invariant

@@ -1,12 +1,8 @@
 -- The invariant: `wrong` is the faults of the subjects below s, merged.
-use Prim.Native.Nat.{◌-◌, ◌≤◌}
 use mathlib.Core.Path.{◌≡◌}
 use Rattle.lanes.specs.Lanes.{merged, fault_of}
 use Rattle.few_subjects.specs.Counts.{few_test}
 use Rattle.few_subjects.proofs.counts_fit.Given as goal
 
 abbrev pub invariant-loop-s : goal.invariant-loop-s
-invariant-loop-s l = (l.s ≤ l.n) × (l.wrong ≡ merged l.s (λ i. fault_of (few_test l.low l.odd i)))
-
-abbrev pub decreases-loop-s : goal.decreases-loop-s
-decreases-loop-s l = l.n - l.s
+invariant-loop-s l = l.wrong ≡ merged l.s (λ i. fault_of (few_test l.counts i))

@@ -1,30 +1,21 @@
 -- `owner_table::descends` meets its contract.
-use borrow.Author.Rules.{rules}
-use Prim.Native.Nat.{ℕ, ◌-◌}
-use mathlib.Core.Path.{◌∙◌, ap}
-use lib.Bits.{bit_or}
-use borrow.Author.Tests.{eq-eqb, ne_eqb}
+use Rattle.std.proofs.Common.{ℕ, ◌∙◌, ap, ltb, get_or, bit_or}
 use Rattle.lanes.specs.Lanes.{fault_of}
-use Rattle.lanes.specs.Passing.{all_stop}
-use Rattle.lanes.specs.Zeros.{merged_more, merged_done, first_fault, no_fault}
-use Rattle.owner_table.specs.Table.{lower_test, lower_root, lower_other}
+use Rattle.lanes.specs.Zeros.{merged_none, merged_more, merged_done, no_fault}
+use Rattle.owner_table.specs.Table.{lower_test, lower_is}
 use Rattle.owner_table.proofs.descends.Goals as goal
 
-pub returns-then-t-ne0 : goal.returns-then-t-ne0
-returns-then-t-ne0 c = all_stop 0 _ _ (search rules) (lower_root _ _ (ne_eqb _ 0 c.if-t-ne0.true))
-
 pub loop-s-init : goal.loop-s-init
-loop-s-init c = (search rules, search rules, first_fault (lower_test c.args.t.now) (lower_root _ _ (eq-eqb _ 0 c.if-t-ne0.false)))
+loop-s-init c = merged_none _
 
 pub loop-s-preserved : goal.loop-s-preserved
 loop-s-preserved c =
     let l = c.loop-s in
-    let a = c.args in (
-      search rules,
-      search rules,
-      ap (λ (x : ℕ). bit_or l.wrong x) (c.fault-wrong.ensures ∙ ap fault_of (lower_other a.t.now l.s l.invariant.0))
-          ∙ merged_more l.s (λ i. fault_of (lower_test a.t.now i)) l.wrong l.invariant.2,
-    )
+    let o = c.args.owners.now in
+    ap (λ (x : ℕ). bit_or l.wrong x)
+    (c.fault-wrong.ensures ∙ ap fault_of (ap (λ (m : ℕ). ltb (get_or o l.s 0) m) c.max.ensures ∙ lower_is o l.s))
+    ∙ merged_more l.s (λ i. fault_of (lower_test o i)) l.wrong l.invariant
 
 pub returns : goal.returns
-returns c = merged_done _ _ _ _ c.loop-s.invariant.1 c.loop-s-test.false c.loop-s.invariant.2 ∙ no_fault _ _
+returns c =
+    merged_done _ _ _ _ c.loop-s.auto.s-end c.loop-s-test.false c.loop-s.invariant ∙ no_fault _ _

@@ -1,11 +1,7 @@
--- The invariant: the entries below s are filled. An entry of t is a subject, so it is an index of t.
-use Prim.Native.Nat.{◌-◌, ◌≤◌}
-use lib.ListN.{get_or}
-use Rattle.lanes.specs.Lists.{Stored}
+-- The invariant: the entries below s are filled.
+use Rattle.std.proofs.Common.{◌≡◌, ℕ, ◌<◌}
+use Rattle.owner_table.specs.Table.{owner_in}
 use Rattle.owner_table.proofs.double.Given as goal
 
 abbrev pub invariant-loop-s : goal.invariant-loop-s
-invariant-loop-s l = (l.s ≤ l.n) × Stored l.s (λ i. get_or l.t (get_or l.t i 0) 0) l.initial.u l.u
-
-abbrev pub decreases-loop-s : goal.decreases-loop-s
-decreases-loop-s l = l.n - l.s
+invariant-loop-s l = (i : ℕ) → i < l.s → owner_in l.u i ≡ owner_in l.t (owner_in l.t i)

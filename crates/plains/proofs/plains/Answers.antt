@@ -1,32 +1,18 @@
--- `plains::plains` meets its contract, by how many plain columns there are.
-use Prim.Native.Nat.{ℕ, ◌+◌, ◌/◌}
-use native.Mathlib.Omega.{arith}
-use mathlib.Core.Path.{◌≡◌, refl, ◌∙◌, ap}
-use lib.Dec.{eqb}
-use Rattle.plains.specs.Parts.{lanes_none, cells_of, tested_once}
+-- `plains::plains` meets its contract. A row of few lanes is one list, of which the subjects' columns are left out.
+use Rattle.std.proofs.Common.{arith, ℕ, ◌+◌, ◌∙◌, sym, ap, subst, eqb}
+use Rattle.lanes.specs.Lanes.{Seen, seen_at}
+use Rattle.plains.specs.Parts.{at_once, lanes_none, part_wrong, tested_once}
 use Rattle.plains.proofs.plains.Goals as goal
-use Rattle.plains.proofs.plains.Goals.{Start}
 
--- a row's lanes are its columns
-cells_whole : (s : Start) → s.args.m.lanes / s.args.q ≡ s.args.f.n + s.args.f.p
-cells_whole s = ap (λ (i : ℕ). i / s.args.q) s.requires.3 ∙ cells_of s.requires.1 _
-
-pub part_wrong-requires : goal.part_wrong-requires
-part_wrong-requires c =
-    let few = c.if-m-lt-AT_ONCE.true in (
-      record {
-        laid = c.requires.0;
-        number = c.requires.1;
-        first = omega arith;
-        few = omega (arith, few);
-        inside = omega (arith, lanes_none c.requires.1);
-        left = omega (arith, cells_whole (goal.at.part_wrong-requires c).Start);
-      },
-      omega (arith, few),
-      refl,
-    )
-
-pub returns-then-m-lt-AT_ONCE : goal.returns-then-m-lt-AT_ONCE
-returns-then-m-lt-AT_ONCE c =
-    let f = c.args.f in
-    ap (λ (v : ℕ). eqb v 0) c.part_wrong.ensures ∙ tested_once _ _ f.n f.p 0 _ f.n (omega arith) (omega (arith, cells_whole (goal.at.returns-then-m-lt-AT_ONCE c).Start))
+pub returns-then-lanes-lt-AT_ONCE : goal.returns-then-lanes-lt-AT_ONCE
+returns-then-lanes-lt-AT_ONCE g c =
+    let w = g.W.Width.one_or_two in
+    let a = c.args.cells.now in
+    let m = a.lanes in
+    let n = m.matrix.rows in
+    ap (λ (v : ℕ). eqb v 0)
+    (c.cells_wrong.ensures
+    ∙ part_wrong w m.bytes.now m.matrix c.merge.new.seen 0 n (n + a.plain) m.matrix.lanes at_once
+    (subst (λ (i : ℕ). Seen m.bytes.now m.matrix i m.matrix.lanes at_once c.merge.new.seen) (sym (lanes_none w)) c.merge.ensures)
+    (omega (arith, a.celled.width)))
+    ∙ tested_once g.W.Width.LANES (seen_at m.bytes.now m.matrix) n a.plain 0 (n + a.plain) n (omega arith) (omega arith)

@@ -1,49 +1,54 @@
--- `tallies::several` meets its contract.
+-- `tallies::several` meets its contract: the halves that count lanes are put into the lists.
 use borrow.Author.Rules.{rules}
-use Prim.Native.Nat.{◌+◌, ◌/◌, ◌-◌}
+use Prim.Native.Nat.{ℕ, ◌+◌, ◌*◌}
 use native.Mathlib.Omega.{arith}
-use lib.ListN.{get_or}
-use Rattle.lanes.specs.Lanes.{upper_at}
-use Rattle.tallies.specs.Blocks.{Column, column_low, column_count, several_none, filling_none, filling_step, filling_done}
+use mathlib.Core.Bool.{Bool, true, false}
+use mathlib.Core.Path.{refl, sym, ap, subst}
+use Rattle.tallies.specs.Blocks.{at_once, Filling, filling_both}
+use Rattle.tallies.specs.Halves.{lower, upper, unit_of, lanes_at, added, Halves, taken_few, put_filling, put_sized}
 use Rattle.tallies.proofs.several.Goals as goal
-use Rattle.tallies.proofs.several.Goals.{In-loop-j}
+use Rattle.tallies.proofs.several.Goals.{Then-both, Else-both}
 
--- what is counted of lane c + j in all rows
-counted : (c : In-loop-j) →
-    let a = c.args in
-    let l = c.rows_of in
-    let j = c.loop-j.j in
-    Column (λ v. upper_at a.b.now a.m v (a.c + j)) a.m.rows (get_or l.new.low j 0 / 256) (get_or l.new.odd j 0 / 256) (get_or l.new.since j 0 / 256)
-counted c = c.rows_of.ensures.column c.loop-j.j c.loop-j-test.true
+counted : (c : Then-both) → Halves (added true c.args.m.bytes.now c.args.m.matrix c.args.c) c.args.m.matrix.rows c.rows-counts.result
+counted c =
+    subst (λ (t : Bool). Halves (added t c.args.m.bytes.now c.args.m.matrix c.args.c) c.args.m.matrix.rows c.rows-counts.result) c.if-both.true c.rows-counts.ensures
 
-pub rows_of-requires : goal.rows_of-requires
-rows_of-requires c = (c.requires.0, c.requires.1, c.requires.2, several_none _ _ _)
+counted_single : (c : Else-both) → Halves (added false c.args.m.bytes.now c.args.m.matrix c.args.c) c.args.m.matrix.rows c.rows-counts.result
+counted_single c =
+    subst (λ (t : Bool). Halves (added t c.args.m.bytes.now c.args.m.matrix c.args.c) c.args.m.matrix.rows c.rows-counts.result) c.if-both.false c.rows-counts.ensures
 
-pub loop-j-init : goal.loop-j-init
-loop-j-init c = (search rules, filling_none _ _ _ _ _ _)
-
-pub overflow_cast-tally : goal.overflow_cast-tally
-overflow_cast-tally c = record { fits = omega (arith, column_low _ _ _ _ _ (c.rows_of.ensures.column c.loop-j.j c.loop-j-test.true)) }
-
-pub bounds-tally-c : goal.bounds-tally-c
-bounds-tally-c c = omega (arith, c.loop-j.invariant.1.sums.size)
-
-pub bounds-odd-c : goal.bounds-odd-c
-bounds-odd-c c = omega (arith, c.loop-j.invariant.1.parity.size, c.requires.4.parity)
-
-pub overflow_cast-since : goal.overflow_cast-since
-overflow_cast-since c = record { fits = omega (arith, column_count _ _ _ _ _ (c.rows_of.ensures.column c.loop-j.j c.loop-j-test.true)) }
-
-pub place-requires : goal.place-requires
-place-requires c = (search rules, column_count _ _ _ _ _ (c.rows_of.ensures.column c.loop-j.j c.loop-j-test.true))
-
-pub bounds-marks-c : goal.bounds-marks-c
-bounds-marks-c c = omega (arith, c.loop-j.invariant.1.owner.size, c.requires.4.owner)
-
-pub loop-j-preserved : goal.loop-j-preserved
-loop-j-preserved c =
+pub put_all-requires : goal.put_all-requires
+unfolding unit_of
+put_all-requires c =
     let p = c.requires in
-    (search rules, filling_step _ _ _ _ _ _ _ _ _ _ _ _ _ _ _ c.loop-j.invariant.1 p.4 (search rules) (counted (goal.at.loop-j-preserved c).In-loop-j) c.place.ensures)
+    (search rules, omega (arith, p.2, ap lanes_at c.if-both.true), p.3, omega (arith, p.0), taken_few _ p.0 _ _ c.rows-counts.ensures lower)
 
-pub returns : goal.returns
-returns c = let l = c.loop-j in filling_done _ _ _ _ _ _ _ _ _ _ _ l.invariant.0 c.loop-j-test.false l.invariant.1
+pub put_all-requires-then-both : goal.put_all-requires-then-both
+unfolding unit_of
+put_all-requires-then-both c =
+    let p = c.requires in
+    (search rules, omega (arith, p.2, ap lanes_at c.if-both.true, c.put_all.ensures.sums.size), put_sized _ _ _ _ _ _ _ _ _ _ c.put_all.ensures p.3, omega (arith, p.0), taken_few _ p.0 _ _ c.rows-counts.ensures upper)
+
+pub put_all-requires-else-both : goal.put_all-requires-else-both
+unfolding unit_of
+put_all-requires-else-both c =
+    let p = c.requires in
+    (search rules, omega (arith, p.2, ap lanes_at c.if-both.false), p.3, omega (arith, p.0), taken_few _ p.0 _ _ c.rows-counts.ensures upper)
+
+pub returns-then-both : goal.returns-then-both
+unfolding unit_of added
+returns-then-both c =
+    let a = c.args in
+    let k = counted (goal.at.returns-then-both c).Then-both in
+    let f = λ (t : Bool). Filling a.m.bytes.now a.m.matrix a.c (lanes_at t) a.tally.now a.odd.now a.marks.now c.put_all-then-both.new.tally c.put_all-then-both.new.odd c.put_all-then-both.new.marks in
+    subst f (sym c.if-both.true)
+    (filling_both _ _ _ at_once at_once _ _ _ _ _ _ _ _ _ (put_filling _ _ _ lower _ _ _ _ _ _ _ _ c.requires.0 k (λ j. refl) c.put_all.ensures)
+    (put_filling _ _ _ upper _ _ _ _ _ _ _ _ c.requires.0 k (λ j. refl) c.put_all-then-both.ensures))
+
+pub returns-else-both : goal.returns-else-both
+unfolding unit_of added
+returns-else-both c =
+    let a = c.args in
+    let f = λ (t : Bool). Filling a.m.bytes.now a.m.matrix a.c (lanes_at t) a.tally.now a.odd.now a.marks.now c.put_all-else-both.new.tally c.put_all-else-both.new.odd c.put_all-else-both.new.marks in
+    subst f (sym c.if-both.false)
+    (put_filling _ _ _ upper _ _ _ _ _ _ _ _ c.requires.0 (counted_single (goal.at.returns-else-both c).Else-both) (λ j. refl) c.put_all-else-both.ensures)

@@ -1,91 +1,53 @@
 -- `validity::few_valid` meets its contract.
-use Prim.Native.Nat.{ℕ, ◌+◌, ◌/◌}
-use native.Mathlib.Omega.{arith}
-use mathlib.Core.Path.{◌≡◌, refl, sym, ◌∙◌, ap, subst}
-use mathlib.Core.Logic.{inl}
-use mathlib.Core.Bool.{true≢false}
-use Rattle.matrix.specs.declared.Shape.{Shape}
-use Rattle.codec.specs.ShapeRight.{ShapeRight}
-use Rattle.cells.specs.Station.{right_shape}
+use Rattle.std.proofs.Common.{arith, ℕ, ◌≡◌, ◌+◌, ◌/◌, ◌∙◌, ◌≤◌, sym, ap, subst, true, List, length, take}
+use Rattle.std.proofs.lemmas.List.{length-take-le, get_or-take}
+use Rattle.matrix.specs.Shape.{shape_of}
+use Rattle.matrix.specs.Reading.{state_of}
+use Rattle.matrix.specs.Record.{valid_matrix}
+use Rattle.cells.specs.Station.{Station}
 use Rattle.lanes.specs.declared.Matrix.{Matrix}
-use Rattle.tallies.specs.Blocks.{several_none}
-use Rattle.columns.specs.Cells.{lanes_of, matrix_of}
-use Rattle.columns.specs.Checks.{Celled}
+use Rattle.columns.specs.Cells.{lanes_of}
+use Rattle.tallies.specs.Blocks.{at_once}
 use Rattle.plains.specs.Parts.{lanes_single}
 use Rattle.few_subjects.specs.Counts.{since_few}
-use Rattle.validity.specs.Header.{lanes_celled}
 use Rattle.validity.specs.Few.{surely}
 use Rattle.validity.proofs.few_valid.Goals as goal
-use Rattle.validity.proofs.few_valid.Goals.{After-lanes_of}
+use Rattle.validity.proofs.few_valid.Goals.{After-lanes_in-lanes}
 
--- the lanes of a record's cells, where a row has so many
-abbrev laned : Shape → ℕ → Matrix
-laned f l = record { first = f.first; rows = f.n; lanes = l }
+-- the rows are the subjects, and a row's lanes its columns
+rows_are : (c : After-lanes_in-lanes) → c.lanes_in-lanes.result.matrix.rows ≡ c.args.f.n
+rows_are c = ap (λ (m : Matrix). m.rows) c.lanes_in-lanes.ensures.place
 
-right : (c : After-lanes_of) → ShapeRight c.args.f
-right c = right_shape c.requires.0
+lanes_are : (c : After-lanes_in-lanes) → c.lanes_in-lanes.result.matrix.lanes ≡ c.args.f.n + c.args.f.p
+lanes_are c =
+    let f = c.args.f in
+    ap (λ (m : Matrix). m.lanes) c.lanes_in-lanes.ensures.place ∙ ap (λ (w : ℕ). lanes_of (w / 2) (f.n + f.p)) c.requires.1.width ∙ lanes_single (f.n + f.p)
 
-same : (c : After-lanes_of) → laned c.args.f c.lanes_of.result ≡ matrix_of c.args.f
-same c = λ i. record {
-  first = c.args.f.first;
-  rows = c.args.f.n;
-  lanes = (c.lanes_of.ensures ∙ ap (λ (w : ℕ). lanes_of (w / 2) (c.args.f.n + c.args.f.p)) (sym c.requires.1.width)) i;
-}
-
-celled : (c : After-lanes_of) → Celled 1 c.args.b.now (laned c.args.f c.lanes_of.result)
-celled c = subst (λ (q : ℕ). Celled q c.args.b.now (laned c.args.f c.lanes_of.result)) (ap (λ (w : ℕ). w / 2) c.requires.1.width) (lanes_celled _ c.args.f (laned c.args.f c.lanes_of.result) c.requires.0 (same c))
-
-pub lanes_of-requires : goal.lanes_of-requires
-lanes_of-requires c = let h = right_shape c.requires.0 in (inl refl, omega (arith, h.high, h.plain))
-
-pub rows_of-requires : goal.rows_of-requires
-rows_of-requires c =
-    ((celled (goal.at.rows_of-requires c).After-lanes_of).laid, omega (arith, c.requires.1.subjects), omega (arith, c.lanes_of.ensures, lanes_single (c.args.f.n + c.args.f.p), c.requires.1.enough), several_none _ _ _)
-
-pub all_present-requires : goal.all_present-requires
-all_present-requires c = celled (goal.at.all_present-requires c).After-lanes_of
-
-pub returns-then-not-all_present : goal.returns-then-not-all_present
-returns-then-not-all_present c = record { verdict = λ e. absurd (true≢false (sym e)); table = c.requires.2 }
-
-pub returns-then-not-counts_fit : goal.returns-then-not-counts_fit
-returns-then-not-counts_fit c = record { verdict = λ e. absurd (true≢false (sym e)); table = c.requires.2 }
+pub rows-counts-requires : goal.rows-counts-requires
+rows-counts-requires c =
+    let d = (goal.at.rows-counts-requires c).After-lanes_in-lanes in
+    (omega (arith, c.requires.1.subjects, rows_are d), omega (arith, c.requires.1.enough, lanes_are d))
 
 pub one_part-requires : goal.one_part-requires
 one_part-requires c =
-    let h = right (goal.at.one_part-requires c).After-lanes_of in
-    let f = c.args.f in (
-      (celled (goal.at.one_part-requires c).After-lanes_of).laid,
-      inl refl,
-      omega (arith, h.high, h.plain),
-      c.lanes_of.ensures,
-      omega (arith, c.lanes_of.ensures, lanes_single (f.n + f.p), c.requires.1.enough),
-      omega (arith, lanes_single f.p, c.requires.1.plain),
-    )
-
-pub returns-then-not-one_part : goal.returns-then-not-one_part
-returns-then-not-one_part c = record { verdict = λ e. absurd (true≢false (sym e)); table = c.requires.2 }
+    (omega (arith, c.requires.1.enough, lanes_are (goal.at.one_part-requires c).After-lanes_in-lanes), omega (arith, lanes_single c.args.f.p, c.requires.1.plain))
 
 pub put_places-requires : goal.put_places-requires
 put_places-requires c =
-    let few = c.requires.1.subjects in (
-      omega arith,
-      omega (arith, c.requires.2),
-      omega (arith, few),
-      λ j below. since_few _ (laned c.args.f c.lanes_of.result) _ _ _ c.rows_of.ensures (omega (arith, few)) j below,
-    )
+    let few : c.lanes_in-lanes.result.matrix.rows ≤ at_once = omega (arith, c.requires.1.subjects, rows_are (goal.at.put_places-requires c).After-lanes_in-lanes) in
+    (omega arith, omega arith, omega arith, λ j below. since_few _ c.lanes_in-lanes.result.matrix _ c.rows-counts.ensures (omega arith) j below)
 
-pub descends-requires : goal.descends-requires
-descends-requires c = ((right (goal.at.descends-requires c).After-lanes_of).low, (right (goal.at.descends-requires c).After-lanes_of).high, c.put_places.ensures.size ∙ c.requires.2)
-
+-- where the tests pass, the matrix of the bytes that the lanes lie in is valid
 pub returns : goal.returns
-returns c =
-    let put = c.put_places.ensures in
-    let size = put.size ∙ c.requires.2 in record {
-      verdict = λ e. surely _ c.args.f (laned c.args.f c.lanes_of.result) c.requires.0 c.requires.1 (same (goal.at.returns c).After-lanes_of) _ _ _ c.rows_of.ensures _ _ size put
-          (sym c.all_present.ensures ∙ c.if-not-all_present.false)
-          (sym c.counts_fit.ensures ∙ c.if-not-counts_fit.false)
-          (sym c.one_part.ensures ∙ c.if-not-one_part.false)
-          (sym c.descends.ensures ∙ e);
-      table = size;
-    }
+returns c e =
+    let l = c.lanes_in-lanes in
+    let m = l.result.matrix in
+    let left = c.put_places.new.list in
+    let fits : m.rows ≤ length left = omega (arith, c.put_places.ensures.size, c.requires.1.subjects, rows_are (goal.at.returns c).After-lanes_in-lanes) in
+    subst (λ (x : List ℕ). true ≡ valid_matrix (shape_of x) (state_of x)) l.ensures.bytes
+    (surely l.result.bytes.now c.args.f m (subst (λ (x : List ℕ). Station x c.args.f) (sym l.ensures.bytes) c.requires.0) c.requires.1 l.ensures.place c.rows-counts.result c.rows-counts.ensures
+    c.args.owners.now left (take m.rows left) c.put_places.ensures (length-take-le m.rows left fits) (λ s h. get_or-take m.rows left s 0 h)
+    (sym c.all_present.ensures ∙ c.if-not-all_present.false)
+    (sym c.counts_fit.ensures ∙ c.if-not-counts_fit.false)
+    (sym c.one_part.ensures ∙ c.if-not-one_part.false)
+    (sym c.descends.ensures ∙ e))
