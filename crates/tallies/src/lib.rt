@@ -22,18 +22,16 @@ pub struct Counts {
     pub since: [u16; AT_ONCE],
 }
 
-// The two low bits of the upper bytes of the lanes that a number counts: of the lane from byte `at` on in its upper half, or, where it counts both
-// this lane and the one AT_ONCE lanes after it, in its lower half and in its upper half.
+// The two low bits of the bytes that a number counts. In its upper half it is the upper byte of the lane from byte `at` on, and in its lower half the
+// lower one, of which nothing is asked: so the compiler may read the lane at once. Where it counts both this lane and the one AT_ONCE lanes after it,
+// the halves have the upper bytes of the two.
 #[inline(always)]
 fn number(b: &[u8], at: usize, both: bool) -> u16
     requires { at + last_at both + 1 < length b.now }
     ensures { result ≡ number_in both b.now at }
 {
-    if both {
-        lanes::lane(b, at + 1) % 4 + lanes::lane(b, at + 2 * AT_ONCE) / UPPER % 4 * UPPER
-    } else {
-        lanes::lane(b, at) / UPPER % 4 * UPPER
-    }
+    let (low, high) = if both { (at + 1, at + 2 * AT_ONCE) } else { (at, at) };
+    lanes::lane(b, low) % 4 + lanes::lane(b, high) / UPPER % 4 * UPPER
 }
 
 impl Counts {
