@@ -1,14 +1,12 @@
 -- What is counted of one lane, of several at once and of all, and the laws of the loops that count.
-use Rattle.std.specs.Prelude.{ℕ, ◌+◌, ◌*◌, ◌/◌, ◌%◌, ◌≤◌, ◌<◌, ◌≡◌, refl, List, length, get_or, set, replicate}
-use Rattle.std.proofs.Common.{le_refl, arith, sym, ◌∙◌, ap, subst, get_or-set_same}
+use Rattle.std.specs.Prelude.{ℕ, ◌+◌, ◌*◌, ◌%◌, ◌≤◌, ◌<◌, ◌≡◌, refl, List, length, set}
+use Rattle.std.proofs.Common.{arith, sym, ◌∙◌, ap, subst}
 use Rattle.std.specs.Int.Bits.{bit_xor}
-use Rattle.std.proofs.lemmas.Nat.{xor_shr}
-use Rattle.std.proofs.lemmas.List.{length-replicate, get_or-replicate}
 use Rattle.matrix.specs.Bytes.{bit}
-use Rattle.lanes.specs.Lists.{Holds, Stored, stored_none, stored_step, Filled, filled_none, filled_step, filled_both, Part, Reached, reached_none, reached_part}
+use Rattle.lanes.specs.Lists.{Holds, Filled, filled_none, filled_step, filled_both, Part, Reached, reached_none, reached_part}
 use Rattle.lanes.specs.declared.Matrix.{Matrix}
-use Rattle.lanes.specs.Lanes.{lows, paired, since, place_of, mark_of, row_place, lane_in, upper_at, bit_in, Counted, Laid}
-use Rattle.lanes.specs.LaneLaws.{lows_step, lows_le, paired_step, since_step, since_le, row_room}
+use Rattle.lanes.specs.Lanes.{lows, paired, since, place_of, mark_of, upper_at, bit_in, Counted}
+use Rattle.lanes.specs.LaneLaws.{lows_step, lows_le, paired_step, since_step, since_le}
 
 -- the numbers that count at once
 abbrev pub at_once : ℕ

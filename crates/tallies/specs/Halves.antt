@@ -1,14 +1,14 @@
 -- Lanes counted in numbers of 16 bits, each in a half of a number as in a number of its own, and the laws of the loops that do so.
-use Rattle.std.specs.Prelude.{ℕ, zero, suc, ◌+◌, ◌-◌, ◌*◌, ◌/◌, ◌%◌, ◌≤◌, ◌<◌, ◌≡◌, refl, Bool, true, false, cond, List, length, get_or, set, replicate}
-use Rattle.std.proofs.Common.{le_refl, arith, sym, ◌∙◌, ap, subst, get_or-set_same}
+use Rattle.std.specs.Prelude.{ℕ, zero, suc, ◌+◌, ◌-◌, ◌*◌, ◌/◌, ◌%◌, ◌≤◌, ◌<◌, ◌≡◌, refl, Bool, true, false, cond, List, length, get_or, replicate}
+use Rattle.std.proofs.Common.{le_refl, arith, sym, ◌∙◌, ap, subst}
 use Rattle.std.specs.Int.Bits.{bit_xor}
 use Rattle.std.proofs.lemmas.Nat.{xor_shr, xor_mod}
-use Rattle.std.proofs.lemmas.List.{length-replicate, get_or-replicate}
+use Rattle.std.proofs.lemmas.List.{get_or-replicate}
 use Rattle.matrix.specs.Bytes.{bit}
 use Rattle.lanes.specs.Lists.{Stored, Filled, filled_from}
 use Rattle.lanes.specs.declared.Matrix.{Matrix}
-use Rattle.lanes.specs.Lanes.{lows, paired, since, place_of, mark_of, row_place, byte_at, upper_at, bit_in, Laid}
-use Rattle.lanes.specs.LaneLaws.{low_bits, row_room}
+use Rattle.lanes.specs.Lanes.{lows, paired, since, place_of, row_place, byte_at, upper_at}
+use Rattle.lanes.specs.LaneLaws.{low_bits}
 use Rattle.tallies.specs.declared.Counts.{Counts}
 use Rattle.tallies.specs.Blocks.{at_once, Sized, Column, column_none, column_next, column_low, column_count, Filling}
 

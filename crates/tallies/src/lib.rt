@@ -30,7 +30,11 @@ fn number(b: &[u8], at: usize, both: bool) -> u16
     requires { at + last_at both + 1 < length b.now }
     ensures { result ≡ number_in both b.now at }
 {
-    let (low, high) = if both { (at + 1, at + 2 * AT_ONCE) } else { (at, at) };
+    let (low, high) = if both {
+        (at + 1, at + 2 * AT_ONCE)
+    } else {
+        (at, at)
+    };
     lanes::lane(b, low) % 4 + lanes::lane(b, high) / UPPER % 4 * UPPER
 }
 
