@@ -48,10 +48,6 @@ column_low f r low odd count k = let e : low ≡ lows r f = k.sum in omega (arit
 pub column_count : (f : ℕ → ℕ) (r low odd count : ℕ) → Column f r low odd count → count ≤ r
 column_count f r low odd count k = let e : count ≡ since r (λ v. bit 0 (f v)) = k.owned in omega (arith, since_le r (λ v. bit 0 (f v)))
 
--- the rows' end
-pub column_done : (f : ℕ → ℕ) (r n low odd count : ℕ) → r ≤ n → n ≤ r → Column f r low odd count → Column f n low odd count
-column_done f r n low odd count h l k = subst (λ (i : ℕ). Column f i low odd count) (omega arith) k
-
 -- w lanes from lane c on are counted into the three lists
 pub record Filling (b : List ℕ) (m : Matrix) (c w : ℕ) (tally odd marks tally' odd' marks' : List ℕ) : Type 0 where
   pub sums : Filled c w (λ j. lows m.rows (λ v. upper_at b m v j)) tally tally'

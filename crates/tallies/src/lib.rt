@@ -93,6 +93,7 @@ fn put(list: &mut [u8], c: usize, counts: &[u16; AT_ONCE], unit: u16)
 }
 
 // The same, where a half counts the rows from one row on: that row into the list.
+// One function with a closure for what is stored would be no plainer: its contract would speak of the closure's in place of `taken`.
 pub fn put_places(list: &mut [u8], c: usize, counts: &[u16; AT_ONCE], unit: u16, rows: usize)
     requires { (0 < unit) × (c + at_once ≤ length list.old) × (rows < 256) × ((j : ℕ) → j < at_once → taken counts.now unit j ≤ rows) }
     ensures { Filled c at_once (λ x. place_of rows (taken counts.now unit (x - c))) list.old list.new }
@@ -103,6 +104,7 @@ pub fn put_places(list: &mut [u8], c: usize, counts: &[u16; AT_ONCE], unit: u16,
 }
 
 // The same for all three lists.
+// They stay slices, as the array's length is the caller's: a struct of arrays would have that length as a parameter of six functions.
 pub fn put_all(
     tally: &mut [u8],
     odd: &mut [u8],
