@@ -1,5 +1,5 @@
 -- The counts of a subject, from the numbers in which several lanes are counted at once.
-use Rattle.std.specs.Prelude.{ℕ, ◌+◌, ◌*◌, ◌%◌, ◌≤◌, ◌<◌, ◌≡◌, refl, false, Bool, List, get_or}
+use Rattle.std.specs.Prelude.{ℕ, ◌+◌, ◌*◌, ◌%◌, ◌≤◌, ◌<◌, ◌≡◌, refl, false, Bool, List}
 use Rattle.std.proofs.Common.{arith, subst}
 use Rattle.lanes.specs.declared.Matrix.{Matrix}
 use Rattle.lanes.specs.Lanes.{lows, paired, since, upper_at, bit_in}

@@ -1,14 +1,12 @@
 -- What is counted of one lane, of several at once and of all, and the laws of the loops that count.
-use Rattle.std.specs.Prelude.{ℕ, ◌+◌, ◌*◌, ◌/◌, ◌%◌, ◌≤◌, ◌<◌, ◌≡◌, refl, List, length, get_or, set, replicate}
-use Rattle.std.proofs.Common.{le_refl, arith, sym, ◌∙◌, ap, subst, get_or-set_same}
+use Rattle.std.specs.Prelude.{ℕ, ◌+◌, ◌*◌, ◌%◌, ◌≤◌, ◌<◌, ◌≡◌, refl, List, length, set}
+use Rattle.std.proofs.Common.{arith, sym, ◌∙◌, ap, subst}
 use Rattle.std.specs.Int.Bits.{bit_xor}
-use Rattle.std.proofs.lemmas.Nat.{xor_shr}
-use Rattle.std.proofs.lemmas.List.{length-replicate, get_or-replicate}
 use Rattle.matrix.specs.Bytes.{bit}
-use Rattle.lanes.specs.Lists.{Holds, Stored, stored_none, stored_step, Filled, filled_none, filled_step, filled_both, Part, Reached, reached_none, reached_part}
+use Rattle.lanes.specs.Lists.{Holds, Filled, filled_none, filled_step, filled_both, Part, Reached, reached_none, reached_part}
 use Rattle.lanes.specs.declared.Matrix.{Matrix}
-use Rattle.lanes.specs.Lanes.{lows, paired, since, place_of, mark_of, row_place, lane_in, upper_at, bit_in, Counted, Laid}
-use Rattle.lanes.specs.LaneLaws.{lows_step, lows_le, paired_step, since_step, since_le, row_room}
+use Rattle.lanes.specs.Lanes.{lows, paired, since, place_of, mark_of, upper_at, bit_in, Counted}
+use Rattle.lanes.specs.LaneLaws.{lows_step, lows_le, paired_step, since_step, since_le}
 
 -- the numbers that count at once
 abbrev pub at_once : ℕ
@@ -49,10 +47,6 @@ column_low f r low odd count k = let e : low ≡ lows r f = k.sum in omega (arit
 
 pub column_count : (f : ℕ → ℕ) (r low odd count : ℕ) → Column f r low odd count → count ≤ r
 column_count f r low odd count k = let e : count ≡ since r (λ v. bit 0 (f v)) = k.owned in omega (arith, since_le r (λ v. bit 0 (f v)))
-
--- the rows' end
-pub column_done : (f : ℕ → ℕ) (r n low odd count : ℕ) → r ≤ n → n ≤ r → Column f r low odd count → Column f n low odd count
-column_done f r n low odd count h l k = subst (λ (i : ℕ). Column f i low odd count) (omega arith) k
 
 -- w lanes from lane c on are counted into the three lists
 pub record Filling (b : List ℕ) (m : Matrix) (c w : ℕ) (tally odd marks tally' odd' marks' : List ℕ) : Type 0 where

@@ -1,14 +1,14 @@
 -- Lanes counted in numbers of 16 bits, each in a half of a number as in a number of its own, and the laws of the loops that do so.
-use Rattle.std.specs.Prelude.{ℕ, zero, suc, ◌+◌, ◌-◌, ◌*◌, ◌/◌, ◌%◌, ◌≤◌, ◌<◌, ◌≡◌, refl, Bool, true, false, cond, List, length, get_or, set, replicate}
-use Rattle.std.proofs.Common.{le_refl, arith, sym, ◌∙◌, ap, subst, get_or-set_same}
+use Rattle.std.specs.Prelude.{ℕ, zero, suc, ◌+◌, ◌-◌, ◌*◌, ◌/◌, ◌%◌, ◌≤◌, ◌<◌, ◌≡◌, refl, Bool, true, false, cond, List, length, get_or, replicate}
+use Rattle.std.proofs.Common.{le_refl, arith, sym, ◌∙◌, ap, subst}
 use Rattle.std.specs.Int.Bits.{bit_xor}
 use Rattle.std.proofs.lemmas.Nat.{xor_shr, xor_mod}
-use Rattle.std.proofs.lemmas.List.{length-replicate, get_or-replicate}
+use Rattle.std.proofs.lemmas.List.{get_or-replicate}
 use Rattle.matrix.specs.Bytes.{bit}
 use Rattle.lanes.specs.Lists.{Stored, Filled, filled_from}
 use Rattle.lanes.specs.declared.Matrix.{Matrix}
-use Rattle.lanes.specs.Lanes.{lows, paired, since, place_of, mark_of, row_place, upper_at, bit_in, Laid}
-use Rattle.lanes.specs.LaneLaws.{low_bits, row_room}
+use Rattle.lanes.specs.Lanes.{lows, paired, since, place_of, row_place, byte_at, upper_at}
+use Rattle.lanes.specs.LaneLaws.{low_bits}
 use Rattle.tallies.specs.declared.Counts.{Counts}
 use Rattle.tallies.specs.Blocks.{at_once, Sized, Column, column_none, column_next, column_low, column_count, Filling}
 
@@ -34,11 +34,11 @@ unfoldable pub unit_of : Half → ℕ
 unit_of lower = 1
 unit_of upper = 256
 
--- The two low bits of the upper bytes of the lanes that a number counts, in their halves: of the lane from byte `at` on in the upper half, or, where
--- it counts both, of that lane in the lower half and of the lane so many lanes after it in the upper half.
+-- The two low bits of the bytes that a number counts: the lower and the upper byte of the lane from byte `at` on in the two halves, or, where it counts
+-- both, the upper bytes of that lane and of the lane so many lanes after it.
 abbrev pub number_in : Bool → List ℕ → ℕ → ℕ
 number_in both b at =
-    cond both (get_or b (at + 1) 0 % 4 + get_or b (at + 2 * at_once + 1) 0 % 4 * 256) (get_or b (at + 1) 0 % 4 * 256)
+    cond both (get_or b (at + 1) 0 % 4 + get_or b (at + 2 * at_once + 1) 0 % 4 * 256) (get_or b at 0 % 4 + get_or b (at + 1) 0 % 4 * 256)
 
 -- the numbers of a row whose lanes begin at byte `at`
 abbrev pub numbers_from : Bool → List ℕ → ℕ → ℕ → ℕ
@@ -48,11 +48,11 @@ numbers_from both b at j = number_in both b (at + 2 * j)
 abbrev pub own_both : ℕ → ℕ
 own_both x = x % 2 + x / 256 % 2 * 256
 
--- What row v adds to a half of number j: the two low bits of a lane's upper byte, or nothing. The lanes begin with lane c.
+-- What row v adds to a half of number j: the two low bits of a lane's upper byte, or of its lower one. The lanes begin with lane c.
 unfoldable pub added : Bool → List ℕ → Matrix → ℕ → Half → ℕ → ℕ → ℕ
 added true b m c lower j v = upper_at b m v (c + j) % 4
 added true b m c upper j v = upper_at b m v (c + at_once + j) % 4
-added false b m c lower j v = 0
+added false b m c lower j v = byte_at b m v (2 * (c + j)) % 4
 added false b m c upper j v = upper_at b m v (c + j) % 4
 
 -- a half of number j, as the code takes it
@@ -142,7 +142,7 @@ unfolding half added
 number_half true lower b m c r at j e = let q : get_or b (at + 2 * j + 1) 0 ≡ upper_at b m r (c + j) = ap (λ (i : ℕ). get_or b i 0) (omega arith) in omega arith
 number_half true upper b m c r at j e =
     let q : get_or b (at + 2 * j + 2 * at_once + 1) 0 ≡ upper_at b m r (c + at_once + j) = ap (λ (i : ℕ). get_or b i 0) (omega arith) in omega arith
-number_half false lower b m c r at j e = omega arith
+number_half false lower b m c r at j e = let q : get_or b (at + 2 * j) 0 ≡ byte_at b m r (2 * (c + j)) = ap (λ (i : ℕ). get_or b i 0) (omega arith) in omega arith
 number_half false upper b m c r at j e = let q : get_or b (at + 2 * j + 1) 0 ≡ upper_at b m r (c + j) = ap (λ (i : ℕ). get_or b i 0) (omega arith) in omega arith
 
 added_low : (both : Bool) (h : Half) (b : List ℕ) (m : Matrix) (c j v : ℕ) → added both b m c h j v < 4

@@ -22,18 +22,20 @@ pub struct Counts {
     pub since: [u16; AT_ONCE],
 }
 
-// The two low bits of the upper bytes of the lanes that a number counts: of the lane from byte `at` on in its upper half, or, where it counts both
-// this lane and the one AT_ONCE lanes after it, in its lower half and in its upper half.
+// The two low bits of the bytes that a number counts. In its upper half it is the upper byte of the lane from byte `at` on, and in its lower half the
+// lower one, of which nothing is asked: so the compiler may read the lane at once. Where it counts both this lane and the one AT_ONCE lanes after it,
+// the halves have the upper bytes of the two.
 #[inline(always)]
 fn number(b: &[u8], at: usize, both: bool) -> u16
     requires { at + last_at both + 1 < length b.now }
     ensures { result ≡ number_in both b.now at }
 {
-    if both {
-        lanes::lane(b, at + 1) % 4 + lanes::lane(b, at + 2 * AT_ONCE) / UPPER % 4 * UPPER
+    let (low, high) = if both {
+        (at + 1, at + 2 * AT_ONCE)
     } else {
-        lanes::lane(b, at) / UPPER % 4 * UPPER
-    }
+        (at, at)
+    };
+    lanes::lane(b, low) % 4 + lanes::lane(b, high) / UPPER % 4 * UPPER
 }
 
 impl Counts {
@@ -91,6 +93,7 @@ fn put(list: &mut [u8], c: usize, counts: &[u16; AT_ONCE], unit: u16)
 }
 
 // The same, where a half counts the rows from one row on: that row into the list.
+// One function with a closure for what is stored would be no plainer: its contract would speak of the closure's in place of `taken`.
 pub fn put_places(list: &mut [u8], c: usize, counts: &[u16; AT_ONCE], unit: u16, rows: usize)
     requires { (0 < unit) × (c + at_once ≤ length list.old) × (rows < 256) × ((j : ℕ) → j < at_once → taken counts.now unit j ≤ rows) }
     ensures { Filled c at_once (λ x. place_of rows (taken counts.now unit (x - c))) list.old list.new }
@@ -101,6 +104,7 @@ pub fn put_places(list: &mut [u8], c: usize, counts: &[u16; AT_ONCE], unit: u16,
 }
 
 // The same for all three lists.
+// They stay slices, as the array's length is the caller's: a struct of arrays would have that length as a parameter of six functions.
 pub fn put_all(
     tally: &mut [u8],
     odd: &mut [u8],

@@ -1,6 +1,5 @@
 -- `few_subjects::counts_fit` meets its contract.
-use native.Mathlib.Omega.{arith}
-use Prim.Native.Nat.{ℕ, ◌+◌}
+use Prim.Native.Nat.{ℕ}
 use mathlib.Core.Path.{◌∙◌, ap}
 use lib.Bits.{bit_or}
 use Rattle.lanes.specs.Lanes.{fault_of}

@@ -1,6 +1,5 @@
 -- `tallies::one` meets its contract.
 use borrow.Author.Rules.{rules}
-use Prim.Native.Nat.{◌+◌, ◌*◌}
 use native.Mathlib.Omega.{arith}
 use Rattle.tallies.specs.Blocks.{column_none, column_next, column_low, column_count}
 use Rattle.tallies.proofs.one.Goals as goal

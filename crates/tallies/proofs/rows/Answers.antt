@@ -1,5 +1,4 @@
 -- `tallies::rows` meets its contract.
-use Prim.Native.Nat.{◌+◌, ◌*◌}
 use native.Mathlib.Omega.{arith}
 use Rattle.lanes.specs.LaneLaws.{row_room}
 use Rattle.tallies.specs.Halves.{Room, halves_none, halves_room, halves_next}
