@@ -12,15 +12,14 @@ ghost use Rattle.matrix.specs.Numbers.{truth, held_numbers, command_numbers, run
 ghost use Rattle.history.specs.Calls.{Emptied, Put, Counted};
 ghost use Rattle.bunvespo.specs.Numbers.{AnswersNumbers};
 
-use matrix::{Answer, Holding, Numbers};
-use question::Safety;
+use matrix::Numbers;
 
 // Whether a record is valid: 1 or 0.
 #[unsafe(no_mangle)]
 pub extern "C" fn bunvespo_valid(b: &[u8]) -> u64
     ensures { result ≡ truth (valid_answer limits b.now) }
 {
-    if station::valid(b) { 1 } else { 0 }
+    u64::from(station::valid(b))
 }
 
 // Whether a right is held: the value is 1 or 0.
@@ -28,20 +27,9 @@ pub extern "C" fn bunvespo_valid(b: &[u8]) -> u64
 pub extern "C" fn bunvespo_held(b: &[u8], s: u64, o: u64, right: u64) -> Numbers
     ensures { result ≡ held_numbers (held_answer limits b.now s o right) }
 {
-    let answer = station::held(b, s, o, right);
-    match answer {
-        Holding::Yes => Numbers {
-            refusal: 0,
-            value: 1,
-        },
-        Holding::No => Numbers {
-            refusal: 0,
-            value: 0,
-        },
-        Holding::Refused(k) => Numbers {
-            refusal: k as u64,
-            value: 0,
-        },
+    match station::held(b, s, o, right) {
+        Ok(held) => Numbers::value(u64::from(held)),
+        Err(refusal) => Numbers::refused(refusal),
     }
 }
 
@@ -58,17 +46,7 @@ pub extern "C" fn bunvespo_command(
     ensures numbers { result ≡ command_numbers (command_answer limits b.old (fields_of code i s o k)) }
     ensures bytes { b.new ≡ command_bytes limits b.old (fields_of code i s o k) }
 {
-    let answer = station::command(b, code, i, s, o, k);
-    match answer {
-        Answer::Accepted(links) => Numbers {
-            refusal: 0,
-            value: links as u64,
-        },
-        Answer::Refused(number, links) => Numbers {
-            refusal: number as u64,
-            value: links as u64,
-        },
-    }
+    station::command(b, code, i, s, o, k).into()
 }
 
 // A list of commands: the value is the number accepted.
@@ -77,11 +55,7 @@ pub extern "C" fn bunvespo_run(b: &mut [u8], l: &[u8]) -> Numbers
     ensures numbers { result ≡ run_numbers (run_answer limits b.old l.now) }
     ensures bytes { b.new ≡ run_bytes limits b.old l.now }
 {
-    let outcome = station::run(b, l);
-    Numbers {
-        refusal: outcome.refusal as u64,
-        value: outcome.accepted as u64,
-    }
+    station::run(b, l).into()
 }
 
 // The safety question: the value is 0 for safe, and N + 1 for leaks by N commands.
@@ -96,20 +70,10 @@ pub extern "C" fn bunvespo_safety(
 ) -> Numbers
     ensures { AnswersNumbers b.now trust s o right out.old out.new result }
 {
-    let answer = station::safety(b, trust, s, o, right, out);
-    match answer {
-        Safety::Safe => Numbers {
-            refusal: 0,
-            value: 0,
-        },
-        Safety::Leaks(commands) => Numbers {
-            refusal: 0,
-            value: commands as u64 + 1,
-        },
-        Safety::Refused(k) => Numbers {
-            refusal: k as u64,
-            value: 0,
-        },
+    match station::safety(b, trust, s, o, right, out) {
+        Ok(None) => Numbers::value(0),
+        Ok(Some(commands)) => Numbers::value(commands as u64 + 1),
+        Err(refusal) => Numbers::refused(refusal),
     }
 }
 
@@ -126,7 +90,11 @@ pub extern "C" fn bunvespo_first_held(
     ensures numbers { result ≡ first_held_result limits b.now l.now s o right (length copy.old) }
     ensures lent { Lent result.refusal (length b.now) copy.old copy.new }
 {
-    station::first_held(b, l, s, o, right, copy)
+    match station::first_held(b, l, s, o, right, copy) {
+        Ok(None) => Numbers::value(0),
+        Ok(Some(before)) => Numbers::value(before as u64 + 1),
+        Err(refusal) => Numbers::refused(refusal),
+    }
 }
 
 // A record in version 1 at the start of the output: the value is the bytes of the new record.
@@ -135,7 +103,10 @@ pub extern "C" fn bunvespo_to_version_1(b: &[u8], out: &mut [u8]) -> Numbers
     ensures numbers { result ≡ convert_result limits 1 b.now out.old }
     ensures bytes { out.new ≡ convert_output limits 1 b.now out.old }
 {
-    station::to_version_1(b, out)
+    match station::to_version_1(b, out) {
+        Ok(size) => Numbers::value(size as u64),
+        Err(refusal) => Numbers::refused(refusal),
+    }
 }
 
 // The same in version 2.
@@ -144,7 +115,10 @@ pub extern "C" fn bunvespo_to_version_2(b: &[u8], out: &mut [u8]) -> Numbers
     ensures numbers { result ≡ convert_result limits 2 b.now out.old }
     ensures bytes { out.new ≡ convert_output limits 2 b.now out.old }
 {
-    station::to_version_2(b, out)
+    match station::to_version_2(b, out) {
+        Ok(size) => Numbers::value(size as u64),
+        Err(refusal) => Numbers::refused(refusal),
+    }
 }
 
 // An empty window of late refusals.
@@ -160,7 +134,10 @@ pub extern "C" fn bunvespo_window_empty(w: &mut [u8])
 pub extern "C" fn bunvespo_window_put(w: &mut [u8], initiator: u64, outcome: u64) -> Numbers
     ensures { Put w.old initiator outcome w.new result }
 {
-    window::put(w, initiator, outcome)
+    match window::put(w, initiator, outcome) {
+        Ok(()) => Numbers::value(0),
+        Err(refusal) => Numbers::refused(refusal),
+    }
 }
 
 // The count of a number: the value is the count.
@@ -168,5 +145,8 @@ pub extern "C" fn bunvespo_window_put(w: &mut [u8], initiator: u64, outcome: u64
 pub extern "C" fn bunvespo_window_count(w: &[u8], number: u64) -> Numbers
     ensures { Counted w.now number result }
 {
-    window::count(w, number)
+    match window::count(w, number) {
+        Ok(count) => Numbers::value(u64::from(count)),
+        Err(refusal) => Numbers::refused(refusal),
+    }
 }

@@ -31,7 +31,7 @@ pub answer_number : (number links : ℕ) → (command_numbers (answer number lin
 answer_number number links = ap (λ (r : Numbers). r.refusal) (answer_numbers number links)
 
 -- yes or no in numbers
-said : (t : Bool) → held_numbers (cond t Holding.Yes Holding.No) ≡ numbers 0 (truth t)
+pub said : (t : Bool) → held_numbers (cond t Holding.Yes Holding.No) ≡ numbers 0 (truth t)
 said true = refl
 said false = refl
 

@@ -2,21 +2,12 @@
 
 #![tactic(auto)]
 
-ghost use Rattle.std.specs.Prelude.{◌≡◌, true, false, ◌+◌, ◌≤◌, length, MatchOption};
-ghost use Rattle.matrix.specs.Bytes.{number_at};
+ghost use Rattle.std.specs.Prelude.{◌≡◌, true, false, MatchOption};
 ghost use Rattle.matrix.specs.CommandList.{well_formed, commands_of};
 ghost use Rattle.lists.specs.Forms.{lengths_right, commands_right};
 ghost use Rattle.lists.specs.Left.{commands_left};
 
 use matrix::{Fields, LENGTH_BYTE, LIST_HEAD, MOST_LIST_BYTES, RECORD_BYTES};
-
-// The number in the four bytes from `at` on.
-pub fn number(l: &[u8], at: usize) -> usize
-    requires { at + 4 ≤ length l.now }
-    ensures { result ≡ number_at l.now at 4 }
-{
-    u32::from_be_bytes([l[at], l[at + 1], l[at + 2], l[at + 3]]) as usize
-}
 
 // Whether each command that follows the head begins with the right length byte.
 fn lengths_right(commands: &[u8]) -> bool
@@ -45,7 +36,7 @@ fn commands_right(commands: &[u8], count: usize) -> bool
 fn well_formed(l: &[u8]) -> bool
     ensures { result ≡ well_formed l.now }
 {
-    LIST_HEAD <= l.len() && l[0] == 1 && commands_right(&l[LIST_HEAD..], number(l, 1))
+    LIST_HEAD <= l.len() && l[0] == 1 && commands_right(&l[LIST_HEAD..], octets::four(l, 1) as usize)
 }
 
 // A list of the right form, lent.

@@ -3,6 +3,7 @@
 #![tactic(auto)]
 
 ghost use Rattle.std.specs.Prelude.{◌≡◌};
+ghost use Rattle.matrix.specs.Numbers.{numbers};
 ghost use Rattle.matrix.specs.Refusals.{refusal_number, alone, numbers_of};
 
 // The most subject names and plain names that a record has, and so the most columns.
@@ -169,12 +170,31 @@ pub struct Numbers {
     pub value: u64,
 }
 
-impl From<Result<u64, Refused>> for Numbers {
+impl Numbers {
+    // A call that is answered, by a value.
+    pub fn value(value: u64) -> Numbers
+        ensures { result ≡ numbers 0 value }
+    {
+        Numbers { refusal: 0, value }
+    }
+
+    // A call that is refused, with nothing beside the refusal.
+    pub fn refused(refusal: Refusal) -> Numbers
+        ensures { result ≡ numbers (refusal_number refusal) 0 }
+    {
+        Numbers {
+            refusal: refusal.number(),
+            value: 0,
+        }
+    }
+}
+
+impl From<Result<usize, Refused>> for Numbers {
     ghost from_gives = { λ r n. n ≡ numbers_of r };
 
-    fn from(answer: Result<u64, Refused>) -> Numbers {
+    fn from(answer: Result<usize, Refused>) -> Numbers {
         match answer {
-            Ok(value) => Numbers { refusal: 0, value },
+            Ok(value) => Numbers::value(value as u64),
             Err(e) => Numbers {
                 refusal: e.refusal.number(),
                 value: e.value as u64,

@@ -1,5 +1,5 @@
 -- The definitions of the public calls, from what the crates below answer.
-use Rattle.std.specs.Prelude.{ℕ, ◌≡◌, Bool, false, List, length}
+use Rattle.std.specs.Prelude.{ℕ, ◌≡◌, Bool, false, List, length, Result, Ok, Err, is_ok}
 use Rattle.std.proofs.Math.Path.{refl, sym}
 use Rattle.std.proofs.Common.{◌∙◌, ap, ⊎_elim, ne_eqb}
 use Rattle.std.proofs.Math.Bool.{true, cond}
@@ -8,7 +8,9 @@ use Rattle.matrix.specs.declared.Fields.{Fields}
 use Rattle.matrix.specs.Answers.{Answer}
 use Rattle.matrix.specs.Answers.{Refused}
 use Rattle.matrix.specs.Answers.{Outcome}
+use Rattle.matrix.specs.declared.Refusal.{Refusal}
 use Rattle.matrix.specs.declared.Shape.{Shape}
+use Rattle.matrix.specs.Refusals.{refusal_number}
 use Rattle.matrix.specs.Numbers.{numbers}
 use Rattle.matrix.specs.State.{State}
 use Rattle.matrix.specs.Tests.{first_failed}
@@ -20,6 +22,8 @@ use Rattle.matrix.specs.CommandList.{well_formed}
 use Rattle.matrix.specs.Calls.{valid_answer, held_answer, refusal_on, next_on, command_answer, command_bytes, run_refusal, run_answer, run_bytes}
 use Rattle.matrix.specs.Converting.{convert_refusal, convert_result, convert_output}
 use Rattle.laws.specs.Tests.{way}
+use Rattle.laws.specs.Refusals.{some_number}
+use Rattle.validity.specs.Opens.{Opens}
 use Rattle.codec.specs.RoundTrip.{read_write}
 use Rattle.cells.specs.Station.{Station}
 use Rattle.bits.specs.Became.{Became}
@@ -114,6 +118,8 @@ module _ (b l : List ℕ) (valid : record_refusal limits b ≡ 0) where
     unfolding run_bytes
     run_done = let e : run_refusal limits b l ≡ 0 = list_refusal right in rw e (written w.became)
 
-pub valid_test : (b : List ℕ) {m : ℕ} → m ≡ record_refusal limits b → eqb m 0 ≡ valid_answer limits b
+-- a record is valid exactly where it opens
+pub valid_opens : {b : List ℕ} (r : Result Shape Refusal) → Opens b r → is_ok r ≡ valid_answer limits b
 unfolding valid_answer
-valid_test b e = ap (λ (m : ℕ). eqb m 0) e
+valid_opens (Ok f) h = rw (← h.number) refl
+valid_opens (Err e) h = rw (← h.number) (sym (ne_eqb (refusal_number e) 0 (some_number e)))

@@ -1,13 +1,13 @@
 -- `bunvespo::bunvespo_held` meets its contract.
-use Rattle.matrix.specs.Numbers.{held_numbers}
-use Rattle.bunvespo.specs.Laws.{numbers_of}
+use mathlib.Core.Path.{sym, ◌∙◌, ap}
+use Rattle.matrix.specs.Numbers.{numbers, held_numbers}
+use Rattle.laws.specs.Numbers.{digit, said}
 use Rattle.bunvespo.proofs.bunvespo_held.Goals as goal
 
-pub returns-in-Yes : goal.returns-in-Yes
-returns-in-Yes c = numbers_of held_numbers c.held-answer.ensures.answer c.in-Yes.is
+pub returns-in-Ok : goal.returns-in-Ok
+returns-in-Ok c =
+    let t = c.in-Ok.held in
+    c.value.ensures ∙ ap (numbers 0) (c.from.ensures ∙ sym (digit t)) ∙ sym (said t) ∙ ap held_numbers c.in-Ok.ensures.answer
 
-pub returns-in-No : goal.returns-in-No
-returns-in-No c = numbers_of held_numbers c.held-answer.ensures.answer c.in-No.is
-
-pub returns-in-Refused : goal.returns-in-Refused
-returns-in-Refused c = numbers_of held_numbers c.held-answer.ensures.answer c.in-Refused.is
+pub returns-in-Err : goal.returns-in-Err
+returns-in-Err c = c.refused.ensures ∙ ap held_numbers c.in-Err.ensures.answer

@@ -15,7 +15,7 @@ returns-then-l-eq1 c =
     ] in
     let d : length (drop list_head l) ≡ length l - list_head = length-drop list_head l in
     let a : take (length l - list_head) (drop list_head l) ≡ drop list_head l = take_all (length l - list_head) (drop list_head l) (omega arith) in
-    right_head l (sym e ∙ c.if-l-eq1.true) (c.commands_right.ensures ∙ ap₂ commands_right a c.number.ensures)
+    right_head l (sym e ∙ c.if-l-eq1.true) (c.commands_right.ensures ∙ ap₂ commands_right a c.four.ensures)
 
 pub returns-else-l-eq1 : goal.returns-else-l-eq1
 returns-else-l-eq1 c =
