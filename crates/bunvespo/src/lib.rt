@@ -2,10 +2,12 @@
 
 #![tactic(auto)]
 
-ghost use Rattle.std.specs.Prelude.{◌≡◌, length};
+ghost use Rattle.std.specs.Prelude.{◌≡◌, ◌≤◌, length, IfSome};
 ghost use Rattle.matrix.specs.Shape.{limits};
 ghost use Rattle.matrix.specs.Calls.{valid_answer, held_answer, command_answer, command_bytes, run_answer, run_bytes};
 ghost use Rattle.matrix.specs.Converting.{convert_result, convert_output};
+ghost use Rattle.matrix.specs.CommandList.{most_list_bytes};
+ghost use Rattle.matrix.specs.Refusals.{one_more};
 ghost use Rattle.matrix.specs.FirstHeld.{first_held_result, Lent};
 ghost use Rattle.station.specs.Given.{fields_of};
 ghost use Rattle.matrix.specs.Numbers.{truth, held_numbers, command_numbers, run_numbers};
@@ -58,6 +60,17 @@ pub extern "C" fn bunvespo_run(b: &mut [u8], l: &[u8]) -> Numbers
     station::run(b, l).into()
 }
 
+// A number of commands as a value: one more, and 0 where there is none.
+fn one_more(commands: Option<usize>) -> u64
+    requires { IfSome commands (λ n. n ≤ most_list_bytes) }
+    ensures { result ≡ one_more commands }
+{
+    match commands {
+        Some(n) => n as u64 + 1,
+        None => 0,
+    }
+}
+
 // The safety question: the value is 0 for safe, and N + 1 for leaks by N commands.
 #[unsafe(no_mangle)]
 pub extern "C" fn bunvespo_safety(
@@ -71,8 +84,7 @@ pub extern "C" fn bunvespo_safety(
     ensures { AnswersNumbers b.now trust s o right out.old out.new result }
 {
     match station::safety(b, trust, s, o, right, out) {
-        Ok(None) => Numbers::value(0),
-        Ok(Some(commands)) => Numbers::value(commands as u64 + 1),
+        Ok(found) => Numbers::value(one_more(found)),
         Err(refusal) => Numbers::refused(refusal),
     }
 }
@@ -91,8 +103,7 @@ pub extern "C" fn bunvespo_first_held(
     ensures lent { Lent result.refusal (length b.now) copy.old copy.new }
 {
     match station::first_held(b, l, s, o, right, copy) {
-        Ok(None) => Numbers::value(0),
-        Ok(Some(before)) => Numbers::value(before as u64 + 1),
+        Ok(first) => Numbers::value(one_more(first)),
         Err(refusal) => Numbers::refused(refusal),
     }
 }

@@ -2,12 +2,13 @@
 
 #![tactic(auto)]
 
-ghost use Rattle.std.specs.Prelude.{◌≡◌, true, length};
+ghost use Rattle.std.specs.Prelude.{◌≡◌, ◌≤◌, true, length, IfOk, IfSome};
 ghost use Rattle.matrix.specs.Numbers.{held_numbers, command_numbers, run_numbers};
 ghost use Rattle.matrix.specs.Refusals.{number_of, holding_of, answer_of, outcome_of, numbers_by, one_more};
 ghost use Rattle.matrix.specs.Shape.{limits, known_version};
 ghost use Rattle.matrix.specs.Calls.{valid_answer, held_answer, held_result, command_answer, command_result, command_bytes, run_answer, run_result, run_bytes};
 ghost use Rattle.matrix.specs.Converting.{convert_result, convert_output};
+ghost use Rattle.matrix.specs.CommandList.{most_list_bytes};
 ghost use Rattle.matrix.specs.FirstHeld.{first_held_result, Lent};
 ghost use Rattle.question.specs.Safety.{safety_of};
 ghost use Rattle.question.specs.Asked.{Answers};
@@ -84,6 +85,7 @@ pub fn first_held(
     copy: &mut [u8],
 ) -> Result<Option<usize>, Refusal>
     ensures result { numbers_by one_more result ≡ first_held_result limits b.now l.now s o right (length copy.old) }
+    ensures few { IfOk result (λ first. IfSome first (λ n. n ≤ most_list_bytes)) }
     ensures lent { Lent (number_of result) (length b.now) copy.old copy.new }
 {
     trials::first_held(b, l, s as usize, o as usize, right as usize, copy)

@@ -2,9 +2,10 @@
 
 #![tactic(auto)]
 
-ghost use Rattle.std.specs.Prelude.{◌≡◌, ◌<◌, length};
+ghost use Rattle.std.specs.Prelude.{◌≡◌, ◌≤◌, ◌<◌, length, IfOk, IfSome};
 ghost use Rattle.matrix.specs.Shape.{limits, bits_of};
 ghost use Rattle.matrix.specs.Refusals.{number_of, numbers_by, one_more};
+ghost use Rattle.matrix.specs.CommandList.{most_list_bytes};
 ghost use Rattle.matrix.specs.FirstHeld.{first_on, first_held_result, Lent};
 ghost use Rattle.cells.specs.Station.{Cell};
 ghost use Rattle.states.specs.Needs.{Guessed};
@@ -25,7 +26,8 @@ fn first_on(
     right: usize,
 ) -> Option<usize>
     requires { Guessed b.old f owners.old × Cell b.old f s o × (right < bits_of f) }
-    ensures { one_more result ≡ first_on b.old list.entry.bytes.now s o right }
+    ensures first { one_more result ≡ first_on b.old list.entry.bytes.now s o right }
+    ensures few { IfSome result (λ n. n ≤ most_list_bytes) }
 {
     let mut before = 0;
     for c in list.commands() {
@@ -56,7 +58,8 @@ fn try_on(
     copy: &mut [u8],
 ) -> Option<usize>
     requires { Guessed b.now f owners.old × Cell b.now f s o × (right < bits_of f) × (length copy.old ≡ length b.now) }
-    ensures { one_more result ≡ first_on b.now list.entry.bytes.now s o right }
+    ensures first { one_more result ≡ first_on b.now list.entry.bytes.now s o right }
+    ensures few { IfSome result (λ n. n ≤ most_list_bytes) }
 {
     copy.copy_from_slice(b);
     first_on(copy, f, owners, list, s, o, right)
@@ -72,6 +75,7 @@ pub fn first_held(
     copy: &mut [u8],
 ) -> Result<Option<usize>, Refusal>
     ensures result { numbers_by one_more result ≡ first_held_result limits b.now l.now s o right (length copy.old) }
+    ensures few { IfOk result (λ first. IfSome first (λ n. n ≤ most_list_bytes)) }
     ensures lent { Lent (number_of result) (length b.now) copy.old copy.new }
 {
     let mut owners = [0u8; MOST_SUBJECTS];

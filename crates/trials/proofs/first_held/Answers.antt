@@ -70,8 +70,9 @@ returns c =
     let a = c.args in
     let g = goal.at.returns c in
     record {
+      few = c.try_on.ensures.few;
       result =
-          ap (numbers 0) (c.try_on.ensures ∙ ap (λ (l : List ℕ). first_on a.b.now l a.s a.o a.right) c.in-Some.ensures.1)
+          ap (numbers 0) (c.try_on.ensures.first ∙ ap (λ (l : List ℕ). first_on a.b.now l a.s a.o a.right) c.in-Some.ensures.1)
           ∙ answered a.b.now a.l.now a.s a.o a.right (length a.copy.now) (right g.In_ok-f) (fits g.After-question_fits ∙ c.if-not-question_fits.false) c.if-copy-b.false c.in-Some.ensures.0;
       lent = lent_used (length a.b.now) c.try_on.new.copy a.copy.now (c.try_on.auto.copy ∙ length-take-le (length a.b.now) a.copy.now c.if-copy-b.false) c.if-copy-b.false;
     }

@@ -14,10 +14,10 @@ loop-c-init c = record {
 }
 
 pub returns-then-is_held : goal.returns-then-is_held
-returns-then-is_held c = let a = c.args in found a.s a.o a.right c.loop-c.invariant.reached c.is_held.ensures c.if-is_held.true
+returns-then-is_held c = let a = c.args in record { few = omega (arith, c.loop-c.invariant.reached.counted, few_commands _ c.args.list.formed); first = found a.s a.o a.right c.loop-c.invariant.reached c.is_held.ensures c.if-is_held.true }
 
-pub returns-in_default : goal.returns-in_default
-returns-in_default c =
+pub returns-in_default-clause-first : goal.returns-in_default-clause-first
+returns-in_default-clause-first c =
     let a = c.args in
     found_refused a.s a.o a.right c.loop-c.invariant.reached c.is_held.ensures c.if-is_held.false c.in-Some.ensures.steps c.in_default.ensures.answer refl
 
@@ -33,7 +33,7 @@ loop-c-preserved c =
     }
 
 pub returns-then-is_held-2 : goal.returns-then-is_held-2
-returns-then-is_held-2 c = let a = c.args in found a.s a.o a.right c.loop-c.invariant.reached c.is_held-2.ensures c.if-is_held-2.true
+returns-then-is_held-2 c = let a = c.args in record { few = omega (arith, c.loop-c.invariant.reached.counted, few_commands _ c.args.list.formed); first = found a.s a.o a.right c.loop-c.invariant.reached c.is_held-2.ensures c.if-is_held-2.true }
 
-pub returns-else-is_held-2 : goal.returns-else-is_held-2
-returns-else-is_held-2 c = let a = c.args in found_never a.s a.o a.right c.loop-c.invariant.reached c.is_held-2.ensures c.if-is_held-2.false c.in-None.ensures.steps.0
+pub returns-else-is_held-2-clause-first : goal.returns-else-is_held-2-clause-first
+returns-else-is_held-2-clause-first c = let a = c.args in found_never a.s a.o a.right c.loop-c.invariant.reached c.is_held-2.ensures c.if-is_held-2.false c.in-None.ensures.steps.0

@@ -15,5 +15,5 @@ first_on-requires c =
     let e = sym c.copy_from_slice.ensures.after in
     (subst (λ b. Guessed b a.f a.owners.now) e p.0, subst (λ b. Cell b a.f a.s a.o) e p.1, p.2)
 
-pub returns : goal.returns
-returns c = let a = c.args in c.first_on.ensures ∙ ap (λ b. first_on b a.list.bytes.now a.s a.o a.right) c.copy_from_slice.ensures.after
+pub returns-clause-first : goal.returns-clause-first
+returns-clause-first c = let a = c.args in c.first_on.ensures.first ∙ ap (λ b. first_on b a.list.bytes.now a.s a.o a.right) c.copy_from_slice.ensures.after
