@@ -52,12 +52,14 @@ fn main(rt: HostRuntime) -> io::Result<()> {
     let size = read_full(&mut rt.stdin(), &mut input)?;
     let mut out = [0u8; LONGEST_LIST];
     match asking::ask(&input[..size], &mut out) {
-        Ok(None) => println!(rt; "safe"),
-        Ok(Some(count)) => {
-            println!(rt; "leaks {count}")?;
-            let list = List::read(&out[..LIST_HEAD + RECORD_BYTES * count]).unwrap();
-            print_list(&rt, list)
-        }
         Err(refusal) => println!(rt; "refused {}", refusal.number()),
+        Ok(found) => match found {
+            None => println!(rt; "safe"),
+            Some(count) => {
+                println!(rt; "leaks {count}")?;
+                let list = List::read(&out[..LIST_HEAD + RECORD_BYTES * count]).unwrap();
+                print_list(&rt, list)
+            }
+        },
     }
 }

@@ -2,10 +2,11 @@
 
 #![tactic(auto)]
 
-ghost use Rattle.std.specs.Prelude.{◌≡◌, true, length, replicate};
-ghost use Rattle.matrix.specs.Shape.{most_subjects, shape_of};
+ghost use Rattle.std.specs.Prelude.{◌≡◌, true, length, replicate, IfOk};
+ghost use Rattle.matrix.specs.Shape.{limits, most_subjects, shape_of};
 ghost use Rattle.matrix.specs.Reading.{state_of};
-ghost use Rattle.matrix.specs.Record.{valid_matrix};
+ghost use Rattle.matrix.specs.Record.{valid_matrix, record_refusal};
+ghost use Rattle.matrix.specs.Refusals.{number_of};
 ghost use Rattle.cells.specs.Station.{Station};
 ghost use Rattle.codec.specs.ShapeRight.{ShapeRight};
 ghost use Rattle.columns.specs.Cells.{matrix_of};
@@ -135,11 +136,12 @@ fn valid(b: &[u8], f: Shape, owners: &mut [u8; MOST_SUBJECTS]) -> bool
     surely_valid(b, f, owners) || tested(b, f, owners)
 }
 
-// Opens a record: its shape, or the refusal, 1 to 5, that turns it down. The table `owners`, of zeros at first, is left with a guess of who owns each
+// Whether a record is turned down, and by which refusal, 1 to 5. The table `owners`, of zeros at first, is left with a guess of who owns each
 // subject, for callers that follow owners: they test each guess, so nothing is promised of it.
-pub fn open_with(b: &[u8], owners: &mut [u8; MOST_SUBJECTS]) -> Result<Shape, Refusal>
+fn check(b: &[u8], owners: &mut [u8; MOST_SUBJECTS]) -> Result<(), Refusal>
     requires { owners.old ≡ replicate most_subjects 0 }
-    ensures opened { Opens b.now result }
+    ensures number { number_of result ≡ record_refusal limits b.now }
+    ensures station { IfOk result (λ _. Station b.now (shape_of b.now)) }
     ensures table { length owners.new ≡ most_subjects }
 {
     if b.len() < HEADER_BYTES {
@@ -156,13 +158,26 @@ pub fn open_with(b: &[u8], owners: &mut [u8; MOST_SUBJECTS]) -> Result<Shape, Re
         return Err(Refusal::RecordLength);
     }
     if valid(b, f, owners) {
-        Ok(f)
+        Ok(())
     } else {
         Err(Refusal::NotValid)
     }
 }
 
+// Opens a record: its shape, or the refusal, 1 to 5, that turns it down. Compiled into its callers, which so know what is the same in all shapes;
+// a shape that `check` answered would stand in memory.
+#[inline(always)]
+pub fn open_with(b: &[u8], owners: &mut [u8; MOST_SUBJECTS]) -> Result<Shape, Refusal>
+    requires { owners.old ≡ replicate most_subjects 0 }
+    ensures opened { Opens b.now result }
+    ensures table { length owners.new ≡ most_subjects }
+{
+    check(b, owners)?;
+    Ok(opening::shape(b))
+}
+
 // The same, where nobody follows owners.
+#[inline(always)]
 pub fn open(b: &[u8]) -> Result<Shape, Refusal>
     ensures { Opens b.now result }
 {
