@@ -13,8 +13,8 @@ use matrix::{Act, Command, Fields, Form, Kind, Refusal, Right, Rule, Shape};
 // A decoded command, with the kind that its o has to be of.
 #[derive(Clone, Copy)]
 pub struct Decoded {
-    pub command: Command,
     pub kind: Kind,
+    pub command: Command,
 }
 
 // The form of a basic right, by whether the code is the first of its pair.

@@ -147,11 +147,12 @@ impl Refusal {
     }
 }
 
-// A refusal with a number that is answered beside it: of a command the links of its walk, of a list the commands that were accepted before.
+// A refusal with a number that is answered beside it: of a command the links of its walk, of a list the commands that were accepted before. The
+// number stands first, where an answer has its own, so that both may be held in one register.
 #[derive(Clone, Copy)]
 pub struct Refused {
-    pub refusal: Refusal,
     pub value: usize,
+    pub refusal: Refusal,
 }
 
 impl From<Refusal> for Refused {
