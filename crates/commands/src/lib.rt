@@ -49,7 +49,8 @@ fn follow(owners: &mut [u8; MOST_SUBJECTS], d: Command)
     }
 }
 
-// A decoded command, tested and carried out: the links of the walk, with a refusal too.
+// A decoded command, tested and carried out: the links of the walk, with a refusal too. A refusal is made anew, field by field: by `?` it would be
+// copied with the bytes between its fields, which takes longer than the command.
 fn carry_out(
     b: &mut [u8],
     f: Shape,
@@ -61,7 +62,10 @@ fn carry_out(
     ensures table { length owners.new ≡ most_subjects }
 {
     let d = decoded.command;
-    let links = verdict::judge(b, f, owners, d, decoded.kind)?;
+    let links = match verdict::judge(b, f, owners, d, decoded.kind) {
+        Ok(links) => links,
+        Err(Refused { value, refusal }) => return Err(Refused { value, refusal }),
+    };
     changes::apply(b, f, d);
     follow(owners, d);
     Ok(links)

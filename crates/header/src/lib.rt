@@ -2,9 +2,8 @@
 
 #![tactic(auto)]
 
-ghost use Rattle.std.specs.Prelude.{◌≡◌, ◌≤◌, length};
-ghost use Rattle.matrix.specs.Bytes.{number_at};
-ghost use Rattle.matrix.specs.Shape.{limits, header_bytes, known_version, in_range, sized};
+ghost use Rattle.std.specs.Prelude.{◌≡◌};
+ghost use Rattle.matrix.specs.Shape.{limits, known_version, in_range, sized};
 ghost use Rattle.header.specs.Headed.{Headed};
 
 use matrix::{MOST_PLAIN, MOST_SUBJECTS, Shape};
@@ -23,19 +22,11 @@ pub fn in_range(f: Shape) -> bool
     (1..=MOST_SUBJECTS).contains(&f.n) && f.p <= MOST_PLAIN
 }
 
-// The four bytes of L.
-fn count(b: &[u8]) -> usize
-    requires { header_bytes ≤ length b.now }
-    ensures { result ≡ number_at b.now 1 4 }
-{
-    u32::from_be_bytes([b[1], b[2], b[3], b[4]]) as usize
-}
-
 // L, which counts the bytes from byte 5 on, and the true length are those of the shape.
 pub fn right_size(b: &[u8], f: Shape) -> bool
     requires { Headed b.now f }
     ensures { result ≡ sized b.now }
 {
     let size = f.first + f.width * (f.n * (f.n + f.p));
-    count(b) == size - 5 && b.len() == size
+    octets::four(b, 1) as usize == size - 5 && b.len() == size
 }

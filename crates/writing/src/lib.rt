@@ -28,8 +28,5 @@ pub fn put_head(out: &mut [u8], count: usize)
 {
     let bytes = RECORD_BYTES * count;
     out[0] = 1;
-    out[1] = (bytes / 256 / 256 / 256 % 256) as u8;
-    out[2] = (bytes / 256 / 256 % 256) as u8;
-    out[3] = (bytes / 256 % 256) as u8;
-    out[4] = (bytes % 256) as u8;
+    octets::put_four(out, 1, bytes as u32);
 }
