@@ -49,8 +49,7 @@ fn follow(owners: &mut [u8; MOST_SUBJECTS], d: Command)
     }
 }
 
-// A decoded command, tested and carried out: the links of the walk, with a refusal too. A refusal is made anew, field by field: by `?` it would be
-// copied with the bytes between its fields, which takes longer than the command.
+// A decoded command, tested and carried out: the links of the walk, with a refusal too.
 fn carry_out(
     b: &mut [u8],
     f: Shape,
@@ -62,17 +61,15 @@ fn carry_out(
     ensures table { length owners.new ≡ most_subjects }
 {
     let d = decoded.command;
-    let links = match verdict::judge(b, f, owners, d, decoded.kind) {
-        Ok(links) => links,
-        Err(Refused { value, refusal }) => return Err(Refused { value, refusal }),
-    };
+    let links = verdict::judge(b, f, owners, d, decoded.kind)?;
     changes::apply(b, f, d);
     follow(owners, d);
     Ok(links)
 }
 
-// A command as given, on a valid record, with guesses of who owns each subject. The record is opened here: the function is compiled by itself,
-// and so knows what is the same in all records.
+// A command as given, on a valid record, with guesses of who owns each subject. The record is opened here, so that what is the same in all records is
+// known. It is compiled into its callers: an answer that it returned would be copied with the bytes between its fields.
+#[inline(always)]
 pub fn command_on(
     b: &mut [u8],
     owners: &mut [u8; MOST_SUBJECTS],
@@ -85,6 +82,20 @@ pub fn command_on(
     let f = opening::shape(b);
     let decoded = decoding::decode(f, c)?;
     carry_out(b, f, owners, decoded)
+}
+
+// The same, compiled by itself, so that it does not stand in the loop of a list run.
+#[inline(never)]
+fn command_apart(
+    b: &mut [u8],
+    owners: &mut [u8; MOST_SUBJECTS],
+    c: Fields,
+) -> Result<usize, Refused>
+    requires { Guessed b.old (shape_of b.old) owners.old }
+    ensures answer { Answered b.old b.new c (answer_of result) }
+    ensures table { length owners.new ≡ most_subjects }
+{
+    command_on(b, owners, c)
 }
 
 // The guesses follow a command over a subject that went a short way, given by its fields.
@@ -129,7 +140,7 @@ pub fn command_in_list(
         return Ok(0);
     }
     if !subject_ways::over_subject(b, f, c) {
-        return command_on(b, owners, anew(c));
+        return command_apart(b, owners, anew(c));
     }
     follow_fields(owners, c);
     Ok(0)
