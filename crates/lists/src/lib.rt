@@ -36,7 +36,9 @@ fn commands_right(commands: &[u8], count: usize) -> bool
 fn well_formed(l: &[u8]) -> bool
     ensures { result ≡ well_formed l.now }
 {
-    LIST_HEAD <= l.len() && l[0] == 1 && commands_right(&l[LIST_HEAD..], octets::four(l, 1) as usize)
+    LIST_HEAD <= l.len()
+        && l[0] == 1
+        && commands_right(&l[LIST_HEAD..], octets::four(l, 1) as usize)
 }
 
 // A list of the right form, lent.

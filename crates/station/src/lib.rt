@@ -34,14 +34,7 @@ pub fn held(b: &[u8], s: u64, o: u64, right: u64) -> Result<bool, Refusal>
 }
 
 // One command on a record: accepted with the links of the owner walk, or refused with the links.
-pub fn command(
-    b: &mut [u8],
-    code: u64,
-    i: u64,
-    s: u64,
-    o: u64,
-    k: u64,
-) -> Result<usize, Refused>
+pub fn command(b: &mut [u8], code: u64, i: u64, s: u64, o: u64, k: u64) -> Result<usize, Refused>
     ensures answer { answer_of result ≡ command_answer limits b.old (fields_of code i s o k) }
     ensures bytes { b.new ≡ command_bytes limits b.old (fields_of code i s o k) }
     ensures numbers { command_numbers (answer_of result) ≡ command_result limits b.old (fields_of code i s o k) }

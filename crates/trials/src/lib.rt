@@ -90,14 +90,5 @@ pub fn first_held(
         return Err(Refusal::ListForm);
     };
     let size = b.len();
-    Ok(try_on(
-        b,
-        f,
-        &mut owners,
-        list,
-        s,
-        o,
-        right,
-        &mut copy[..size],
-    ))
+    Ok(try_on(b, f, &mut owners, list, s, o, right, &mut copy[..size]))
 }

@@ -28,8 +28,11 @@ station c =
     station_read _ _ (record { octet = λ j. (c.type_inv.b j).fits }) (headed _ _ c.shape-f.ensures c.if-b-lt-HEADER_BYTES.false (version_read _ _ c.shape-f.ensures _ _ c.known_version.ensures c.if-not-known_version.false) (range_read _ _ c.shape-f.ensures _ _ c.in_range.ensures c.if-not-in_range.false)) (sized_here c)
 
 pub returns-then-b-lt-HEADER_BYTES : goal.returns-then-b-lt-HEADER_BYTES
-returns-then-b-lt-HEADER_BYTES c = record { number = refused_1 _ c.if-b-lt-HEADER_BYTES.true;
-      station = tt; table = unread _ c.requires }
+returns-then-b-lt-HEADER_BYTES c = record {
+  number = refused_1 _ c.if-b-lt-HEADER_BYTES.true;
+  station = tt;
+  table = unread _ c.requires;
+}
 
 pub returns-then-not-known_version : goal.returns-then-not-known_version
 returns-then-not-known_version c =
