@@ -5,7 +5,7 @@
 ghost use Rattle.std.specs.Prelude.{◌≡◌, true, false, MatchOption};
 ghost use Rattle.matrix.specs.CommandList.{well_formed, commands_of};
 ghost use Rattle.lists.specs.Forms.{lengths_right, commands_right};
-ghost use Rattle.lists.specs.Left.{commands_left};
+ghost use Rattle.lists.specs.Left.{commands_left, command_at};
 
 use matrix::{Fields, LENGTH_BYTE, LIST_HEAD, MOST_LIST_BYTES, RECORD_BYTES};
 
@@ -33,7 +33,7 @@ fn commands_right(commands: &[u8], count: usize) -> bool
 }
 
 // Whether the list is of the right form.
-fn well_formed(l: &[u8]) -> bool
+pub fn well_formed(l: &[u8]) -> bool
     ensures { result ≡ well_formed l.now }
 {
     LIST_HEAD <= l.len()
@@ -62,18 +62,35 @@ impl<'a> List<'a> {
 
     // Its commands in turn.
     pub fn commands(self) -> Commands<'a>
-        ensures { commands_left result.unread.now ≡ commands_of self.entry.bytes.now }
+        ensures { commands_left result.list.bytes.now result.at ≡ commands_of self.entry.bytes.now }
     {
-        Commands {
-            unread: &self.bytes[LIST_HEAD..],
-        }
+        Commands { list: self, at: 0 }
     }
 }
 
-// The commands of a list that are not read yet, in their bytes.
-#[derive(Drop)]
+// The decoder: the command numbered j of a list of the right form, or none after the last.
+pub fn command_at(l: &[u8], j: usize) -> Option<Fields>
+    requires { well_formed l.now ≡ true }
+    ensures { result ≡ command_at l.now j }
+{
+    if (l.len() - LIST_HEAD) / RECORD_BYTES <= j {
+        return None;
+    }
+    let at = LIST_HEAD + RECORD_BYTES * j;
+    Some(Fields {
+        code: usize::from(l[at + 1]),
+        i: usize::from(l[at + 2]),
+        s: usize::from(l[at + 3]),
+        o: usize::from(l[at + 4]),
+        k: usize::from(l[at + 5]),
+    })
+}
+
+// A reader over a list, which yields one command after another: the list, and the number of the command that is read next.
+#[derive(Clone, Copy)]
 pub struct Commands<'a> {
-    unread: &'a [u8],
+    pub list: List<'a>,
+    pub at: usize,
 }
 
 impl<'a> Iterator for Commands<'a> {
@@ -81,20 +98,13 @@ impl<'a> Iterator for Commands<'a> {
 
     type Item = Fields;
 
-    ghost next_gives = { YieldsFirst (λ s. commands_left s.unread.now) };
+    ghost next_gives = { YieldsFirst (λ s. commands_left s.list.bytes.now s.at) };
 
-    ghost remaining = { item_count (λ s. commands_left s.unread.now) };
+    ghost remaining = { item_count (λ s. commands_left s.list.bytes.now s.at) };
 
     fn next(&mut self) -> Option<Fields> {
-        let (command, others) = self.unread.split_first_chunk::<RECORD_BYTES>()?;
-        self.unread = others;
-        let [_, code, i, s, o, k] = *command;
-        Some(Fields {
-            code: usize::from(code),
-            i: usize::from(i),
-            s: usize::from(s),
-            o: usize::from(o),
-            k: usize::from(k),
-        })
+        let c = command_at(self.list.bytes, self.at)?;
+        self.at += 1;
+        Some(c)
     }
 }

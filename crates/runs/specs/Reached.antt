@@ -1,7 +1,8 @@
 -- What a list run on a record of the right form comes to, and how far it has got.
 use Rattle.std.specs.Prelude.{ℕ, ◌+◌, ◌≡◌, List, length}
 use Rattle.matrix.specs.declared.Fields.{Fields}
-use Rattle.matrix.specs.Answers.{Outcome}
+use Rattle.matrix.specs.Answers.{Answer, Outcome}
+use Rattle.matrix.specs.Numbers.{command_numbers}
 use Rattle.matrix.specs.declared.Shape.{Shape}
 use Rattle.matrix.specs.State.{State}
 use Rattle.matrix.specs.Shape.{shape_of}
@@ -10,6 +11,10 @@ use Rattle.matrix.specs.Reading.{state_of}
 use Rattle.matrix.specs.Calls.{Ran, run_from, ran_on}
 use Rattle.cells.specs.Station.{Station}
 use Rattle.bits.specs.Became.{Became}
+
+-- a run that ends with this reply to a command has its refusal, after so many commands that were accepted
+abbrev pub counted : Answer → ℕ → Outcome
+counted reply accepted = record { accepted = accepted; refusal = (command_numbers reply).refusal }
 
 -- the run's outcome and bytes b' are the definition's
 pub record RunOn (b b' l : List ℕ) (r : Outcome) : Type 0 where

@@ -140,17 +140,21 @@ pub fn owner_walk(b: &[u8], f: Shape, owners: &[u8; MOST_SUBJECTS], s: usize, o:
     ensures { result ≡ walk (state_of b.now) s (Name.Subject o) }
 {
     let mut at = s;
-    'up: for links in 0..f.n {
+    let mut links = 0;
+    'up: loop {
+        if f.n <= links {
+            break 'up Walked::Lost;
+        }
         if at == o {
-            return Walked::Meets(links);
+            break 'up Walked::Meets(links);
         }
         if at == 0 {
-            return Walked::Root(links);
+            break 'up Walked::Root(links);
         }
         let Some(owner) = owner_of(b, f, owners, at) else {
-            break 'up;
+            break 'up Walked::Lost;
         };
         at = owner;
+        links += 1;
     }
-    Walked::Lost
 }

@@ -9,6 +9,6 @@ use Rattle.runs.proofs.run_on.Given as goal
 
 abbrev pub invariant-loop-c : goal.invariant-loop-c
 invariant-loop-c l = record {
-  reached : Reached (ran_from l.initial.b) l.initial.b l.b l.f l.accepted (commands_left l.c-iterator.unread.now) (commands_of l.list.bytes.now);
+  reached : Reached (ran_from l.initial.b) l.initial.b l.b l.f l.accepted (commands_left l.c-iterator.list.bytes.now l.c-iterator.at) (commands_of l.list.bytes.now);
   table : length l.owners ≡ most_subjects;
 }

@@ -9,7 +9,7 @@ use Rattle.trials.proofs.first_on.Goals as goal
 
 pub loop-c-init : goal.loop-c-init
 loop-c-init c = record {
-  reached = reached_none c.requires.0 (ap (λ (s : Commands). commands_left s.unread.now) c.into_iter-c-iterator.ensures.into_iter_gives ∙ c.commands-c-items.ensures);
+  reached = reached_none c.requires.0 (ap (λ (s : Commands). commands_left s.list.bytes.now s.at) c.into_iter-c-iterator.ensures.into_iter_gives ∙ c.commands-c-items.ensures);
   table = c.requires.0.size;
 }
 

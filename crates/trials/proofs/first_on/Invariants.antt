@@ -10,6 +10,6 @@ use Rattle.trials.proofs.first_on.Given as goal
 
 abbrev pub invariant-loop-c : goal.invariant-loop-c
 invariant-loop-c l = record {
-  reached : Reached (found_from l.initial.b l.s l.o l.right) l.initial.b l.b l.f l.before (commands_left l.c-iterator.unread.now) (commands_of l.list.bytes.now);
+  reached : Reached (found_from l.initial.b l.s l.o l.right) l.initial.b l.b l.f l.before (commands_left l.c-iterator.list.bytes.now l.c-iterator.at) (commands_of l.list.bytes.now);
   table : length l.owners ≡ most_subjects;
 }
