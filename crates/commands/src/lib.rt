@@ -67,9 +67,8 @@ fn carry_out(
     Ok(links)
 }
 
-// A command as given, on a valid record, with guesses of who owns each subject. The record is opened here, so that what is the same in all records is
-// known. It is compiled into its callers: an answer that it returned would be copied with the bytes between its fields.
-#[inline(always)]
+// A command as given, on a valid record, with guesses of who owns each subject. The record is opened here: the function is compiled by itself,
+// and so knows what is the same in all records.
 pub fn command_on(
     b: &mut [u8],
     owners: &mut [u8; MOST_SUBJECTS],
@@ -82,20 +81,6 @@ pub fn command_on(
     let f = opening::shape(b);
     let decoded = decoding::decode(f, c)?;
     carry_out(b, f, owners, decoded)
-}
-
-// The same, compiled by itself, so that it does not stand in the loop of a list run.
-#[inline(never)]
-fn command_apart(
-    b: &mut [u8],
-    owners: &mut [u8; MOST_SUBJECTS],
-    c: Fields,
-) -> Result<usize, Refused>
-    requires { Guessed b.old (shape_of b.old) owners.old }
-    ensures answer { Answered b.old b.new c (answer_of result) }
-    ensures table { length owners.new ≡ most_subjects }
-{
-    command_on(b, owners, c)
 }
 
 // The guesses follow a command over a subject that went a short way, given by its fields.
@@ -140,7 +125,7 @@ pub fn command_in_list(
         return Ok(0);
     }
     if !subject_ways::over_subject(b, f, c) {
-        return command_apart(b, owners, anew(c));
+        return command_on(b, owners, anew(c));
     }
     follow_fields(owners, c);
     Ok(0)

@@ -15,7 +15,9 @@ ghost use Rattle.verdict.specs.Judged.{Entitled, Judged, JudgedLate};
 
 use matrix::{Act, Command, Kind, MOST_SUBJECTS, Name, Refusal, Refused, Right, Shape, Walked};
 
-// Test 13: the walk from s must not meet o, where o is a subject. A plain object has no walk.
+// Test 13: the walk from s must not meet o, where o is a subject. A plain object has no walk. This test and the next are compiled into their caller:
+// the record's shape and the command stand in no memory then.
+#[inline(always)]
 fn own_transferred(
     b: &[u8],
     f: Shape,
@@ -40,6 +42,7 @@ fn own_transferred(
 }
 
 // Test 14: no subject but o itself may control o.
+#[inline(always)]
 fn control_granted(b: &[u8], f: Shape, c: Command) -> Result<usize, Refused>
     requires { Entitled b.now f c × (c.act ≡ Act.Grant Right.Control) }
     ensures { JudgedLate (state_of b.now) c (numbers_of result) }

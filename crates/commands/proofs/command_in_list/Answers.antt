@@ -37,14 +37,14 @@ over_subject-requires c =
     let e = c.over_object.ensures.stays c.if-over_object.false ∙ c.by_right.ensures.stays c.if-by_right.false in
     subst (λ (b : List ℕ). Station b c.args.f × Valid (state_of b)) (sym e) (c.requires.station, c.requires.valid)
 
-pub command_apart-requires : goal.command_apart-requires
-command_apart-requires c =
+pub command_on-requires : goal.command_on-requires
+command_on-requires c =
     let e = c.over_subject.ensures.stays c.if-not-over_subject.true ∙ c.over_object.ensures.stays c.if-over_object.false ∙ c.by_right.ensures.stays c.if-by_right.false in
     guessed_at (subst (λ (b : List ℕ). Guessed b c.args.f c.args.owners.now) (sym e) c.requires) refl
 
 pub returns-then-not-over_subject : goal.returns-then-not-over_subject
 returns-then-not-over_subject c =
-    let d = c.command_apart in
+    let d = c.command_on in
     let e = c.over_subject.ensures.stays c.if-not-over_subject.true ∙ c.over_object.ensures.stays c.if-over_object.false ∙ c.by_right.ensures.stays c.if-by_right.false in
     record {
       answer = subst (λ (b : List ℕ). Answered b d.new.b c.args.c (answer_of d.result)) e (subst (λ (x : Fields). Answered c.over_subject.new.b d.new.b x (answer_of d.result)) c.anew.ensures d.ensures.answer);
