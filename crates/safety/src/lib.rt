@@ -59,7 +59,7 @@ fn by_creation(r: &ValidRecord, v: usize, t: Target, out: &mut [u8]) -> Option<u
     requires { Asks r.now.b.now r.now.f t (by_creation v) out.old × (v < r.now.f.n) }
     ensures { Told (state_of r.now.b.now) t.s t.x t.y (by_creation v) out.old out.new (decided_of result) }
 {
-    let held = telling::held_when_made(v, t);
+    let held = telling::held_when_made(v, t.s, t.x, t.y);
     let absent = still_absent(r, t.s, t.x);
     let k = telling::put_creation(out, v, t, absent, held);
     leaks(out, k)

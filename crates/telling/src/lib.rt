@@ -184,12 +184,12 @@ pub fn owns_then(v: usize, s: usize, y: Right) -> bool
     }
 }
 
-// Whether a target is so as soon as v creates x, and so owns it.
-pub fn held_when_made(v: usize, t: Target) -> bool
-    ensures { result ≡ made_held v t.s t.x t.y }
+// Whether s holds the right y over x as soon as v creates x, and so owns it. It asks nothing of its numbers, so that they are no `Target`.
+pub fn held_when_made(v: usize, s: usize, x: Name, y: Right) -> bool
+    ensures { result ≡ made_held v s x y }
 {
-    match (t.x, t.y) {
-        (Name::Subject(w), Right::Control) => t.s == w,
-        (_, y) => owns_then(v, t.s, y),
+    match (x, y) {
+        (Name::Subject(w), Right::Control) => s == w,
+        (_, y) => owns_then(v, s, y),
     }
 }
