@@ -1,6 +1,8 @@
 -- Of the subjects that a way up to a plain object passed, those that are needed: down to the first that owns it.
 use Rattle.std.specs.Prelude.{ℕ, zero, suc, ◌≤◌, ◌<◌, ◌≡◌, refl, Bool, true, false, cond, List, [], ◌∷◌, length, take, slice_index}
-use Rattle.std.proofs.Common.{not-suc-le-zero, arith, ap}
+use Rattle.std.specs.List.{All}
+use Rattle.std.proofs.Common.{not-suc-le-zero, arith, sym, ◌∙◌, ap, subst}
+use Rattle.std.proofs.lemmas.List.Elements.{All-take}
 use Rattle.matrix.specs.declared.Name.{Name}
 use Rattle.route.specs.Parts.{until_owner}
 
@@ -24,6 +26,15 @@ module _ (owns : ℕ → Name → Bool) (o : Name) where
       rest : (t : Bool) → length (until_owner owns o ws) ≤ length ws → suc (length (cond t [] (until_owner owns o ws))) ≤ suc (length ws)
       rest true h = omega arith
       rest false h = omega arith
+
+  -- they are fewer than n and below n where those of the list are
+  pub until_found : (ws : List ℕ) {n : ℕ} {vs : List ℕ} → length ws < n → All (λ (w : ℕ). w < n) ws → vs ≡ until_owner owns o ws
+      → (length vs < n) × All (λ (w : ℕ). w < n) vs
+  until_found ws {n} {vs} few each e =
+      let P : ℕ → Type 0 = λ (w : ℕ). w < n in (
+        omega (arith, ap length e, until_few ws),
+        subst (All P) (until_take ws ∙ sym e) (All-take P (length (until_owner owns o ws)) ws each),
+      )
 
   -- none before place t owns o
   abbrev pub NoneBefore : List ℕ → ℕ → Type 0
