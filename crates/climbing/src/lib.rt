@@ -58,12 +58,15 @@ fn way_over_plain(r: &ValidRecord, trust: u64, o: usize) -> Option<Met>
     None
 }
 
-// How many subjects of a path are needed, down to the first that owns plain object o.
+// How many subjects of a path are needed, down to the first that owns plain object o. The last needs no look: nobody stands after it.
 fn needed_of(r: &ValidRecord, o: usize, path: &[u8]) -> usize
     requires { NameIn r.now.b.now r.now.f (Name.Plain o) × All (λ w. w < r.now.f.n) path.now }
     ensures { result ≡ length (until_owner (state_of r.now.b.now).owns (Name.Plain o) path.now) }
 {
-    for (t, w) in path.iter().enumerate() {
+    let Some((_, above)) = path.split_last() else {
+        return 0;
+    };
+    for (t, w) in above.iter().enumerate() {
         if states::has_bit(r.b, r.f, Right::Own, *w as usize, Name::Plain(o)) {
             return t + 1;
         }
@@ -72,11 +75,17 @@ fn needed_of(r: &ValidRecord, o: usize, path: &[u8]) -> usize
 }
 
 // The path of a way over plain object o without the subjects below the highest on it that owns o: where that one is destroyed, o is inherited.
+// One subject alone is that owner.
+#[tactic(auto, using(crate::specs::Needed::until_one))]
 fn shorten(r: &ValidRecord, o: usize, path: &mut Path)
     requires { NameIn r.now.b.now r.now.f (Name.Plain o) × All (λ w. w < r.now.f.n) path.old }
     ensures { path.new ≡ until_owner (state_of r.now.b.now).owns (Name.Plain o) path.old }
 {
-    let k = needed_of(r, o, path.subjects());
+    let subjects = path.subjects();
+    if subjects.len() < 2 {
+        return;
+    }
+    let k = needed_of(r, o, subjects);
     path.keep_last(k);
 }
 
