@@ -35,16 +35,19 @@ alone j v h l = same_bits 8 _ _ (lt_of_le_of_lt (and_le_l v (2 ^ j)) l) (⊎_eli
     each : (i : ℕ) → i < 8 → bit i (bit_and v (2 ^ j)) ≡ bit i (cond (bit j v) (2 ^ j) 0)
     each i b = bit_and_lem i v (2 ^ j) ∙ ap (λ (t : Bool). bit i v && t) (bit_power i j) ∙ with_power i (bit j v) refl
 
--- set by or, and cleared by and with all other bits
+-- set by or, and cleared by taking away what the byte has of the bit, or by and with all other bits
 pub set_by_or : (j v : ℕ) → j < 8 → v < 256 → bit_or v (2 ^ j) ≡ with_bit j true v
 unfolding with_bit
 set_by_or j v h l =
     ⊎_elim (λ e. rw e (omega (arith, or_add_and v (2 ^ j), alone j v h l ∙ ap (λ (t : Bool). cond t (2 ^ j) 0) e)))
     (λ e. rw e (omega (arith, or_add_and v (2 ^ j), alone j v h l ∙ ap (λ (t : Bool). cond t (2 ^ j) 0) e))) (way (bit j v))
 
-pub cleared : (j v : ℕ) → j < 8 → v < 256 → bit_and v (255 - 2 ^ j) ≡ with_bit j false v
+pub cleared : (j v : ℕ) → j < 8 → v < 256 → v - bit_and v (2 ^ j) ≡ with_bit j false v
 unfolding with_bit
-cleared j v h l = others ∙ ap (λ (x : ℕ). v - x) (alone j v h l) ∙ ⊎_elim (λ e. rw e refl) (λ e. rw e (omega arith)) (way (bit j v))
+cleared j v h l = ap (λ (x : ℕ). v - x) (alone j v h l) ∙ ⊎_elim (λ e. rw e refl) (λ e. rw e (omega arith)) (way (bit j v))
+
+pub cleared_by_and : (j v : ℕ) → j < 8 → v < 256 → bit_and v (255 - 2 ^ j) ≡ with_bit j false v
+cleared_by_and j v h l = others ∙ cleared j v h l
   where
     others : bit_and v (255 - 2 ^ j) ≡ v - bit_and v (2 ^ j)
     others = omega (arith, and-not 8 (2 ^ j) v (power_below j h) l, and_comm v (255 - 2 ^ j), and_comm v (2 ^ j))

@@ -9,7 +9,7 @@ ghost use Rattle.states.specs.Needs.{NameIn};
 ghost use Rattle.question.specs.Trust.{trusted_by};
 ghost use Rattle.route.specs.Parts.{until_owner};
 ghost use Rattle.ways.specs.Ways.{risen_over, way_over};
-ghost use Rattle.rising.specs.Rises.{risen_to};
+ghost use Rattle.rising.specs.Rises.{risen_to, Found};
 ghost use Rattle.rising.specs.Shut.{ShutAll};
 ghost use Rattle.climbing.specs.Climbs.{owner_rise, way_to};
 
@@ -20,6 +20,7 @@ use rising::{Met, Path, ValidRecord};
 fn owner_rise(r: &ValidRecord, trust: u64, x: Name, w: usize, closed: &mut u64) -> Option<Met>
     requires { NameIn r.now.b.now r.now.f x × (w < r.now.f.n) × ShutAll (state_of r.now.b.now) (trusted_by trust) closed.old }
     ensures risen { owner_rise (state_of r.now.b.now) (trusted_by trust) x w ≡ risen_to result }
+    ensures found { Found r.now.f.n result }
     ensures shut { ShutAll (state_of r.now.b.now) (trusted_by trust) closed.new }
 {
     if !states::has_bit(r.b, r.f, Right::Own, w, x) {
@@ -31,7 +32,8 @@ fn owner_rise(r: &ValidRecord, trust: u64, x: Name, w: usize, closed: &mut u64) 
 // The way over subject v of a valid record: that of its owner, since it has no other.
 fn way_over_subject(r: &ValidRecord, trust: u64, v: usize) -> Option<Met>
     requires { v < r.now.f.n }
-    ensures { risen_over (state_of r.now.b.now) (trusted_by trust) (Name.Subject v) ≡ risen_to result }
+    ensures risen { risen_over (state_of r.now.b.now) (trusted_by trust) (Name.Subject v) ≡ risen_to result }
+    ensures found { Found r.now.f.n result }
 {
     let w = states::owner_of(r.b, r.f, r.owners, v)?;
     let mut closed: u64 = 0;
@@ -42,7 +44,8 @@ fn way_over_subject(r: &ValidRecord, trust: u64, v: usize) -> Option<Met>
 // an owner are left out. `closed` gathers the subjects passed by ways up that met none, so that no later way passes them again.
 fn way_over_plain(r: &ValidRecord, trust: u64, o: usize) -> Option<Met>
     requires { NameIn r.now.b.now r.now.f (Name.Plain o) }
-    ensures { risen_over (state_of r.now.b.now) (trusted_by trust) (Name.Plain o) ≡ risen_to result }
+    ensures risen { risen_over (state_of r.now.b.now) (trusted_by trust) (Name.Plain o) ≡ risen_to result }
+    ensures found { Found r.now.f.n result }
 {
     let first = 4 * row_search::first_block(r.b, r.f, o, 0);
     let mut closed: u64 = 0;
@@ -55,12 +58,15 @@ fn way_over_plain(r: &ValidRecord, trust: u64, o: usize) -> Option<Met>
     None
 }
 
-// How many subjects of a path are needed, down to the first that owns plain object o.
+// How many subjects of a path are needed, down to the first that owns plain object o. The last needs no look: nobody stands after it.
 fn needed_of(r: &ValidRecord, o: usize, path: &[u8]) -> usize
     requires { NameIn r.now.b.now r.now.f (Name.Plain o) × All (λ w. w < r.now.f.n) path.now }
     ensures { result ≡ length (until_owner (state_of r.now.b.now).owns (Name.Plain o) path.now) }
 {
-    for (t, w) in path.iter().enumerate() {
+    let Some((_, above)) = path.split_last() else {
+        return 0;
+    };
+    for (t, w) in above.iter().enumerate() {
         if states::has_bit(r.b, r.f, Right::Own, *w as usize, Name::Plain(o)) {
             return t + 1;
         }
@@ -69,18 +75,25 @@ fn needed_of(r: &ValidRecord, o: usize, path: &[u8]) -> usize
 }
 
 // The path of a way over plain object o without the subjects below the highest on it that owns o: where that one is destroyed, o is inherited.
+// One subject alone is that owner.
+#[tactic(auto, using(crate::specs::Needed::until_one))]
 fn shorten(r: &ValidRecord, o: usize, path: &mut Path)
     requires { NameIn r.now.b.now r.now.f (Name.Plain o) × All (λ w. w < r.now.f.n) path.old }
     ensures { path.new ≡ until_owner (state_of r.now.b.now).owns (Name.Plain o) path.old }
 {
-    let k = needed_of(r, o, path.subjects());
+    let subjects = path.subjects();
+    if subjects.len() < 2 {
+        return;
+    }
+    let k = needed_of(r, o, subjects);
     path.keep_last(k);
 }
 
 // The way over an existing name x of a valid record.
 pub fn way_up(r: &ValidRecord, trust: u64, x: Name) -> Option<Met>
     requires { NameIn r.now.b.now r.now.f x }
-    ensures { way_over (state_of r.now.b.now) (trusted_by trust) x ≡ way_to result }
+    ensures way { way_over (state_of r.now.b.now) (trusted_by trust) x ≡ way_to result }
+    ensures found { Found r.now.f.n result }
 {
     match x {
         Name::Subject(v) => way_over_subject(r, trust, v),

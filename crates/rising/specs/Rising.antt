@@ -1,8 +1,8 @@
 -- The steps of the way up from a subject, with the subjects passed.
-use Rattle.std.specs.Prelude.{ℕ, zero, suc, ◌-◌, ◌<◌, ◌≡◌, refl, Bool, true, false, cond, List, [], ◌∷◌, eqb, ltb, Some}
+use Rattle.std.specs.Prelude.{ℕ, zero, suc, ◌+◌, ◌-◌, ◌≤◌, ◌<◌, ◌≡◌, refl, Bool, true, false, cond, List, [], ◌∷◌, length, eqb, ltb, Some}
 use Rattle.std.specs.List.{All}
-use Rattle.std.proofs.Common.{arith, sym, ◌∙◌, ap, ap₂, lt-ltb, ltb-true, ne_eqb}
-use Rattle.std.proofs.lemmas.List.Elements.{All-cons}
+use Rattle.std.proofs.Common.{arith, sym, ◌∙◌, ap, ap₂, subst, lt-ltb, ltb-true, ne_eqb}
+use Rattle.std.proofs.lemmas.List.Elements.{All-nil, All-cons}
 use Rattle.matrix.specs.declared.Name.{Name}
 use Rattle.matrix.specs.Names.{U}
 use Rattle.matrix.specs.State.{State}
@@ -69,3 +69,32 @@ rise_within top owns trusted (suc left) w passed l h =
     by true true o ih e = tt
     by true false false ih e = tt
     by true false true ih e = ih e
+
+-- those passed are fewer than k
+abbrev pub Fewer : ℕ → Risen → Type 0
+Fewer k (meets_at v ws) = length ws < k
+Fewer k none = Unit
+
+-- a way up passes fewer subjects than it may visit, those passed before counted with both
+pub rise_fewer : (top : ℕ) (owns : ℕ → Name → Bool) (trusted : ℕ → Bool) (left w : ℕ) (passed : List ℕ) {k : ℕ} → length passed + left ≤ k
+    → Fewer k (rise top owns trusted left w passed)
+unfolding rise
+rise_fewer top owns trusted zero w passed h = tt
+rise_fewer top owns trusted (suc left) w passed {k} h =
+    by (trusted w) (eqb w U) (ltb (owner_of top owns w) top) (rise_fewer top owns trusted left (owner_of top owns w) (w ∷ passed) (omega arith))
+  where
+    by : (t u o : Bool) → Fewer k (rise top owns trusted left (owner_of top owns w) (w ∷ passed))
+        → Fewer k (cond t (cond u none (cond o (rise top owns trusted left (owner_of top owns w) (w ∷ passed)) none)) (meets_at w passed))
+    by false u o ih = omega arith
+    by true true o ih = tt
+    by true false false ih = tt
+    by true false true ih = ih
+
+-- so in a state of n subjects whoever is met is one of them, and those passed are too, and fewer
+pub rise_found : (S : State) (trusted : ℕ → Bool) {w n v : ℕ} {ws : List ℕ} → S.top ≡ n → w < n → rise_in S trusted S.top w [] ≡ meets_at v ws
+    → (v < n) × (length ws < n) × All (λ (u : ℕ). u < n) ws
+rise_found S trusted {w} {n} {v} {ws} top l e =
+    let k : Within S.top (meets_at v ws) =
+    subst (Within S.top) e (rise_within S.top S.owns trusted S.top w [] (omega arith) (All-nil (λ (u : ℕ). u < S.top))) in
+    let f : length ws < S.top = subst (Fewer S.top) e (rise_fewer S.top S.owns trusted S.top w [] (omega arith)) in
+    (omega (arith, k.0), omega arith, subst (λ (m : ℕ). All (λ (u : ℕ). u < m) ws) top k.1)

@@ -6,7 +6,7 @@ ghost use Rattle.std.specs.Prelude.{◌≡◌, ◌<◌, []};
 ghost use Rattle.matrix.specs.Reading.{state_of};
 ghost use Rattle.question.specs.Trust.{trusted_by};
 ghost use Rattle.chain.specs.Rising.{rise_in};
-ghost use Rattle.rising.specs.Rises.{risen_to};
+ghost use Rattle.rising.specs.Rises.{risen_to, Found};
 ghost use Rattle.rising.specs.Shut.{ShutAll, Next};
 
 pub use path::Path;
@@ -16,7 +16,7 @@ mod path;
 mod valid;
 
 // The first untrusted subject that a way up meets, and the trusted ones that it passed.
-#[derive(Drop)]
+#[derive(Clone, Drop)]
 pub struct Met {
     pub subject: usize,
     pub passed: Path,
@@ -38,6 +38,7 @@ fn next_up(r: &ValidRecord, closed: u64, v: usize) -> Option<usize>
 pub fn rise_from(r: &ValidRecord, trust: u64, w: usize, closed: &mut u64) -> Option<Met>
     requires { (w < r.now.f.n) × ShutAll (state_of r.now.b.now) (trusted_by trust) closed.old }
     ensures risen { rise_in (state_of r.now.b.now) (trusted_by trust) (state_of r.now.b.now).top w [] ≡ risen_to result }
+    ensures found { Found r.now.f.n result }
     ensures shut { ShutAll (state_of r.now.b.now) (trusted_by trust) closed.new }
 {
     let mut at = w;

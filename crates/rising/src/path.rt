@@ -5,7 +5,7 @@ use matrix::MOST_SUBJECTS;
 use std::marker::Model;
 
 // The subjects that a way up passed, the last first. They fill the array from its end on, so that each stands before those passed before it.
-#[derive(Drop)]
+#[derive(Clone, Drop)]
 pub struct Path {
     subjects: [u8; MOST_SUBJECTS],
     first: usize,

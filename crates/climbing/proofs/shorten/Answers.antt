@@ -11,11 +11,11 @@ pub keep_last-requires : goal.keep_last-requires
 keep_last-requires c =
     let z = c.args in
     let owns = (state_of z.r.now.b.now).owns in
-    omega (arith, until_few owns (Plain z.o) z.path.now, c.needed_of-k.ensures ∙ ap (λ (ws : List ℕ). length (until_owner owns (Plain z.o) ws)) c.subjects.ensures)
+    omega (arith, until_few owns (Plain z.o) z.path.now, c.needed_of-k.ensures ∙ ap (λ (ws : List ℕ). length (until_owner owns (Plain z.o) ws)) c.subjects-subjects.ensures)
 
 pub returns : goal.returns
 returns c =
     let z = c.args in
     let owns = (state_of z.r.now.b.now).owns in
-    c.keep_last.ensures ∙ ap (λ (k : ℕ). take k z.path.now) (c.needed_of-k.ensures ∙ ap (λ (ws : List ℕ). length (until_owner owns (Plain z.o) ws)) c.subjects.ensures)
+    c.keep_last.ensures ∙ ap (λ (k : ℕ). take k z.path.now) (c.needed_of-k.ensures ∙ ap (λ (ws : List ℕ). length (until_owner owns (Plain z.o) ws)) c.subjects-subjects.ensures)
     ∙ until_take owns (Plain z.o) z.path.now

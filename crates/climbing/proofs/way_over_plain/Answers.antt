@@ -30,9 +30,14 @@ returns-then-is_some c =
     let z = c.args in
     let S = state_of z.r.now.b.now in
     let i = c.loop-w.invariant in
-    over_first S (trusted_by z.trust) (Plain z.o) (omega (arith, top_is _ _ z.r.now.station, c.loop-w-test.true)) i.none_below
-    (ap rises c.owner_rise-met.ensures.risen ∙ some_rises _ ∙ sym c.is_some.ensures ∙ c.if-is_some.true)
-    ∙ c.owner_rise-met.ensures.risen
+    let met = c.owner_rise-met.ensures in
+    record {
+      risen =
+          over_first S (trusted_by z.trust) (Plain z.o) (omega (arith, top_is _ _ z.r.now.station, c.loop-w-test.true)) i.none_below
+          (ap rises met.risen ∙ some_rises _ ∙ sym c.is_some.ensures ∙ c.if-is_some.true)
+          ∙ met.risen;
+      found = met.found;
+    }
 
 pub loop-w-preserved : goal.loop-w-preserved
 loop-w-preserved c =
@@ -48,5 +53,9 @@ loop-w-preserved c =
 pub returns : goal.returns
 returns c =
     let z = c.args in
-    over_none (state_of z.r.now.b.now) (trusted_by z.trust) (Plain z.o)
-    (none_lower (riser (state_of z.r.now.b.now) (trusted_by z.trust) (Plain z.o)) (omega (arith, top_is _ _ z.r.now.station, c.loop-w-test.false)) c.loop-w.invariant.none_below)
+    record {
+      risen =
+          over_none (state_of z.r.now.b.now) (trusted_by z.trust) (Plain z.o)
+          (none_lower (riser (state_of z.r.now.b.now) (trusted_by z.trust) (Plain z.o)) (omega (arith, top_is _ _ z.r.now.station, c.loop-w-test.false)) c.loop-w.invariant.none_below);
+      found = tt;
+    }

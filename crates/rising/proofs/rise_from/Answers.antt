@@ -5,7 +5,7 @@ use Rattle.matrix.specs.Reading.{state_of}
 use Rattle.question.specs.Trust.{trusted_by}
 use Rattle.states.specs.Reads.{top_is}
 use Rattle.rising.specs.Shut.{Next, seen_none, seen_up}
-use Rattle.rising.specs.Rising.{Rising, rising_none, risen_out, risen_met, rising_up}
+use Rattle.rising.specs.Rising.{Rising, rising_none, risen_out, risen_met, rising_up, rise_found}
 use Rattle.rising.proofs.rise_from.Goals as goal
 
 pub loop-init : goal.loop-init
@@ -22,7 +22,9 @@ loop-init c =
 pub returns-then-not-has : goal.returns-then-not-has
 returns-then-not-has c =
     let i = c.loop.invariant in
-    record { risen = risen_met i.rising (omega arith) (sym c.has.ensures ∙ c.if-not-has.true); shut = i.shut }
+    let r = c.args.r.now in
+    let e = risen_met i.rising (omega arith) (sym c.has.ensures ∙ c.if-not-has.true) in
+    record { risen = e; found = rise_found (state_of r.b.now) (trusted_by c.args.trust) (top_is _ _ r.station) c.requires.0 e; shut = i.shut }
 
 pub loop-preserved : goal.loop-preserved
 loop-preserved c =
@@ -41,4 +43,4 @@ loop-preserved c =
     }
 
 pub returns : goal.returns
-returns c = let i = c.loop.invariant in record { risen = risen_out i.rising (omega arith); shut = i.shut }
+returns c = let i = c.loop.invariant in record { risen = risen_out i.rising (omega arith); found = tt; shut = i.shut }

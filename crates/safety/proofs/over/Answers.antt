@@ -7,7 +7,7 @@ use Rattle.safety.proofs.over.Goals as goal
 
 pub from_above-requires : goal.from_above-requires
 from_above-requires c =
-    let e = c.in_ok-met.ensures in (
+    let e = c.in_ok-met.ensures.way in (
       asks_at (e ∙ ap (from_above c.in_ok-met.met.subject) (sym c.subjects.ensures)) c.requires,
       above_below _ _ _ (top_is _ _ c.args.r.now.station) e,
     )
