@@ -70,6 +70,11 @@ module _ {q : ℕ} (h : OneOrTwo q) where
   unfolding lanes_of
   cells_fewer i k = either_way h (λ u. u * i ≤ u * k → i ≤ k) (λ l. omega arith) (λ l. omega arith)
 
+  -- so many cells, of their lanes
+  pub cells_of : (k : ℕ) → lanes_of q k / q ≡ k
+  unfolding lanes_of
+  cells_of k = either_way h (λ u. u * k / u ≡ k) (omega arith) (omega arith)
+
   pub lanes_none : lanes_of q 0 ≡ 0
   unfolding lanes_of
   lanes_none = either_way h (λ u. u * 0 ≡ 0) refl refl
