@@ -5,7 +5,7 @@ use Rattle.matrix.specs.Bytes.{bit}
 use Rattle.matrix.specs.Shape.{most_subjects}
 use Rattle.lanes.specs.declared.Matrix.{Matrix}
 use Rattle.lanes.specs.Lanes.{merged, row_bytes, row_place, byte_at}
-use Rattle.columns.specs.Cells.{most_columns, lanes_of, last_lane, bits_in, control_bit}
+use Rattle.columns.specs.Cells.{lanes_of, last_lane, bits_in, control_bit}
 
 -- subject s exists: its own cell has control
 abbrev pub present : ℕ → List ℕ → Matrix → ℕ → Bool
@@ -45,11 +45,10 @@ subject_at q b m seen tally odd s at =
 unfoldable pub subject_test : ℕ → List ℕ → Matrix → (ℕ → ℕ) → List ℕ → List ℕ → ℕ → Bool
 subject_test q b m seen tally odd s = subject_at q b (row_bytes m) seen tally odd s (row_place m s)
 
--- lanes of a record's cells, q each: a row has a cell for each subject, and for each of so many plain names
-pub record Celled (q plain : ℕ) (m : Matrix) : Type 0 where
+-- lanes of a record's cells, q each: a row has a cell for each subject, and there are as many rows
+pub record Celled (q : ℕ) (m : Matrix) : Type 0 where
   pub subjects : m.rows ≤ most_subjects
-  pub few : m.rows + plain ≤ most_columns
-  pub width : m.lanes ≡ lanes_of q (m.rows + plain)
+  pub inside : lanes_of q m.rows ≤ m.lanes
 
 -- the bytes of row s
 pub record IsRow (b : List ℕ) (m : Matrix) (s : ℕ) (row : List ℕ) : Type 0 where

@@ -10,7 +10,7 @@ use Rattle.laws.specs.Bounded.{all_same, all_each}
 use Rattle.lanes.specs.declared.Matrix.{Matrix}
 use Rattle.lanes.specs.Lanes.{row_bytes, row_place, byte_at, seen_at, Seen}
 use Rattle.lanes.specs.Zeros.{merged_zero}
-use Rattle.columns.specs.Cells.{OneOrTwo, lanes_of, last_lane, bits_in, either_way, last_inside, lanes_more, bits_moved}
+use Rattle.columns.specs.Cells.{OneOrTwo, lanes_of, last_lane, bits_in, either_way, last_inside, bits_moved}
 use Rattle.columns.specs.Checks.{present, zero_from, root_counts, other_counts, counts, count_test, unseen, judged, subject_test, Celled, IsRow}
 
 -- bit 1, as the code tests it
@@ -61,8 +61,8 @@ subjects_seen {q} h b m seen tally odd room s =
         bits_moved h (λ j. get_or seen j 0) (seen_at b m) 0 i m.rows l (λ j k. s.value j k ∙ ap (λ (x : ℕ). seen_at b m (x + j)) (sym z)) ∙ ap (bits_in q (seen_at b m)) e
 
 -- a row has the lanes of each subject's cell
-pub cell_inside : {q : ℕ} → OneOrTwo q → (plain : ℕ) (m : Matrix) (s : ℕ) → Celled q plain m → s < m.rows → 2 * last_lane q s + 1 < row_bytes m
-cell_inside h plain m s c l = omega (arith, c.width, last_inside h s m.rows l, lanes_more h m.rows (m.rows + plain) (omega arith))
+pub cell_inside : {q : ℕ} → OneOrTwo q → (m : Matrix) (s : ℕ) → Celled q m → s < m.rows → 2 * last_lane q s + 1 < row_bytes m
+cell_inside h m s c l = omega (arith, c.inside, last_inside h s m.rows l)
 
 -- subject s: one that exists; an absent one, by the bytes of its row
 module _ (q : ℕ) (b : List ℕ) (m : Matrix) (seen : ℕ → ℕ) (tally odd : List ℕ) (s : ℕ) where

@@ -139,14 +139,13 @@ pub fn owners<W: Width>(owners: &mut [u8], marks: &[u8; COUNTED])
     }
 }
 
-// The lanes of a record's cells. A row has a cell for each subject, and there are as many rows; after them it has a cell for each of so many
-// plain names.
+// The lanes of a record's cells. A row has a cell for each subject, and there are as many rows. What a row has after these cells isn't looked at
+// here, but for the row of an absent subject, which is zero to its end.
 #[derive(Drop)]
 pub struct Cells<'a, W: Width> {
     pub lanes: Lanes<'a>,
-    pub plain: usize,
     pub width: PhantomData<W>,
-    pub ghost celled: { Celled W.LANES plain lanes.matrix },
+    pub ghost celled: { Celled W.LANES lanes.matrix },
 }
 
 impl<'a, W: Width> Cells<'a, W> {

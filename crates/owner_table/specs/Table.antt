@@ -72,7 +72,14 @@ pub follows_rooted : (n : ℕ) (f : ℕ → ℕ) (j : ℕ) (t : List ℕ) → Fo
 follows_rooted n f j t h =
     ap (λ (m : ℕ). all m (λ s. eqb (owner_in t s) 0)) h.size ∙ all_same n _ _ (λ s l. ap (λ (x : ℕ). eqb x 0) (h.value s l))
 
--- where all have come to U, all have after more owners
+-- where all have come to U, all have after twice as many owners
+pub rooted_twice : (n : ℕ) (f : ℕ → ℕ) (j : ℕ) → all n (λ s. eqb (followed f j s) 0) ≡ true → all n (λ s. eqb (followed f (j + j) s) 0) ≡ true
+rooted_twice n f j h = each_all n _ (λ s l. eq-eqb _ 0 (followed_add f j j s ∙ ap (λ (x : ℕ). followed f j x) (zeros s l) ∙ zeros 0 (omega arith)))
+  where
+    zeros : (s : ℕ) → s < n → followed f j s ≡ 0
+    zeros s l = eqb-true _ 0 (all_each n (λ s. eqb (followed f j s) 0) h s l)
+
+-- where every owner is a subject too, all have after any more owners
 pub rooted_longer : (n : ℕ) (f : ℕ → ℕ) (i j : ℕ) → Inside n f → i ≤ j → all n (λ s. eqb (followed f i s) 0) ≡ true → all n (λ s. eqb (followed f j s) 0) ≡ true
 unfolding followed
 rooted_longer n f i j k l h = each_all n _ (λ s b. eq-eqb _ 0 (go s b))

@@ -11,7 +11,6 @@ use Rattle.lanes.specs.Lists.{Part}
 use Rattle.lanes.specs.Lanes.{merged, seen_at, Seen}
 use Rattle.lanes.specs.Zeros.{or_zero, merged_none, merged_more, merged_zero}
 use Rattle.columns.specs.Cells.{OneOrTwo, most_columns, lanes_of, last_lane, either_way, last_inside, lanes_added, last_added, bits_moved}
-use Rattle.columns.specs.Checks.{Celled}
 use Rattle.plains.specs.Checks.{plain_test, plain_wrong, wrong_of, plain_right}
 
 -- the numbers of lanes that are merged at once
@@ -45,6 +44,11 @@ whole_cells {lanes = lanes} h l =
 pub lanes_few : {lanes : ℕ} → SomeLanes lanes → lanes ≤ most_columns
 lanes_few l = by_lanes (λ k. k ≤ most_columns) l (omega arith) (omega arith) (omega arith) (omega arith)
 
+-- lanes of all columns, q each: those of so many subjects and of so many plain names, and no others
+pub record Columned (q subjects plain : ℕ) (m : Matrix) : Type 0 where
+  pub few : subjects + plain ≤ most_columns
+  pub width : m.lanes ≡ lanes_of q (subjects + plain)
+
 -- A part of a row: the columns from column a on, as many as have so many lanes, of which the first `from` are left out.
 pub record PartIn (m : Matrix) (q lanes a from : ℕ) : Type 0 where
   pub first : a < most_columns
@@ -65,6 +69,11 @@ module _ {q : ℕ} (h : OneOrTwo q) where
   pub cells_fewer : (i k : ℕ) → lanes_of q i ≤ lanes_of q k → i ≤ k
   unfolding lanes_of
   cells_fewer i k = either_way h (λ u. u * i ≤ u * k → i ≤ k) (λ l. omega arith) (λ l. omega arith)
+
+  -- so many cells, of their lanes
+  pub cells_of : (k : ℕ) → lanes_of q k / q ≡ k
+  unfolding lanes_of
+  cells_of k = either_way h (λ u. u * k / u ≡ k) (omega arith) (omega arith)
 
   pub lanes_none : lanes_of q 0 ≡ 0
   unfolding lanes_of
@@ -156,32 +165,32 @@ tested_once q seen n p a w skip e d =
     (tested_part q seen n (n + p) n w a skip 0 (tested_none _ _ _) (record { within = omega arith; near = omega arith; far = λ x l b. omega arith }) (omega arith) (omega arith))
 
 -- One part that ends with the row: s columns, which are as many lanes as are merged at once. A row has as many, and no more are plain.
-module _ {q : ℕ} (h : OneOrTwo q) (plain : ℕ) (m : Matrix) (celled : Celled q plain m) (enough : at_once ≤ m.lanes) (few : lanes_of q plain ≤ at_once)
+module _ {q : ℕ} (h : OneOrTwo q) (n plain : ℕ) (m : Matrix) (columned : Columned q n plain m) (enough : at_once ≤ m.lanes) (few : lanes_of q plain ≤ at_once)
     (s : ℕ) (e : s ≡ at_once / q) where
   whole : (lanes_of q s ≡ at_once) × (1 ≤ s)
   whole = subst (λ (k : ℕ). (lanes_of q k ≡ at_once) × (1 ≤ k)) (sym e) (whole_cells h (inl refl))
 
-  pub once_fits : s ≤ m.rows + plain
-  once_fits = cells_fewer h s (m.rows + plain) (omega (arith, whole.0, enough, celled.width))
+  pub once_fits : s ≤ n + plain
+  once_fits = cells_fewer h s (n + plain) (omega (arith, whole.0, enough, columned.width))
 
   once_enough : plain ≤ s
   once_enough = cells_fewer h plain s (omega (arith, whole.0, few))
 
-  pub once_before : m.rows + plain - s ≤ m.rows
+  pub once_before : n + plain - s ≤ n
   once_before = omega (arith, once_enough)
 
-  pub once_in : PartIn m q at_once (m.rows + plain - s) (m.rows - (m.rows + plain - s))
+  pub once_in : PartIn m q at_once (n + plain - s) (n - (n + plain - s))
   once_in =
-      let fits : s ≤ m.rows + plain = once_fits in
-      let back : m.rows + plain - s + s ≡ m.rows + plain = omega arith in
+      let fits : s ≤ n + plain = once_fits in
+      let back : n + plain - s + s ≡ n + plain = omega arith in
       record {
-        first = omega (arith, whole.1, celled.few);
+        first = omega (arith, whole.1, columned.few);
         few = omega arith;
-        inside = omega (arith, lanes_added h (m.rows + plain - s) s, ap (lanes_of q) back, whole.0, celled.width);
+        inside = omega (arith, lanes_added h (n + plain - s) s, ap (lanes_of q) back, whole.0, columned.width);
         left = omega (arith, e, once_enough);
       }
 
-  pub once_tested : (seen : ℕ → ℕ) → eqb (wrong_of (λ i. plain_wrong q seen (m.rows + plain - s + i)) (m.rows - (m.rows + plain - s)) (at_once / q)) 0
-      ≡ all plain (λ i. plain_test q seen (m.rows + i))
+  pub once_tested : (seen : ℕ → ℕ) → eqb (wrong_of (λ i. plain_wrong q seen (n + plain - s + i)) (n - (n + plain - s)) (at_once / q)) 0
+      ≡ all plain (λ i. plain_test q seen (n + i))
   once_tested seen =
-      tested_once q seen m.rows plain (m.rows + plain - s) (at_once / q) (m.rows - (m.rows + plain - s)) (omega (arith, once_enough, once_fits)) (omega (arith, e, once_fits))
+      tested_once q seen n plain (n + plain - s) (at_once / q) (n - (n + plain - s)) (omega (arith, once_enough, once_fits)) (omega (arith, e, once_fits))

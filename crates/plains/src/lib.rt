@@ -7,10 +7,11 @@ ghost use Rattle.matrix.specs.Bounded.{all};
 ghost use Rattle.lanes.specs.Lanes.{seen_at};
 ghost use Rattle.columns.specs.Cells.{most_columns, lanes_of, last_lane};
 ghost use Rattle.plains.specs.Checks.{plain_test, plain_wrong, wrong_of};
-ghost use Rattle.plains.specs.Parts.{at_once, SomeLanes, PartIn};
+ghost use Rattle.plains.specs.Parts.{at_once, SomeLanes, Columned, PartIn};
 
-use columns::{Cells, Width};
-use lanes::UPPER;
+use columns::Width;
+use lanes::{Lanes, UPPER};
+use std::marker::PhantomData;
 
 // The numbers of lanes that are merged at once.
 const AT_ONCE: usize = 8;
@@ -20,6 +21,17 @@ const SOME: usize = 32;
 const MANY: usize = 48;
 
 const MOST: usize = 96;
+
+// The lanes of a record's columns. A row has a cell for each of so many subjects, then one for each of so many plain names, and no more. How many
+// rows there are is not asked: of a plain column nothing is looked at but what is seen in it, over all rows.
+#[derive(Drop)]
+pub struct Columns<'a, W: Width> {
+    pub lanes: Lanes<'a>,
+    pub subjects: usize,
+    pub plain: usize,
+    pub width: PhantomData<W>,
+    pub ghost columned: { Columned W.LANES subjects plain lanes.matrix },
+}
 
 // What is wrong with cell c of a list of what is seen in lanes: nothing where it is owned and nobody controls it, else its bits.
 fn plain_wrong<W: Width>(seen: &[u16], c: usize) -> u16
@@ -47,7 +59,7 @@ fn cells_wrong<W: Width>(seen: &[u16], from: usize, k: usize) -> u16
 
 // What is wrong with the columns from column a on, as many as have PART lanes, without the first `from`. The compiler knows the number of lanes,
 // so that it holds the list of what is seen in them in registers.
-fn part_wrong<W: Width, const PART: usize>(cells: &Cells<W>, a: usize, from: usize) -> u16
+fn part_wrong<W: Width, const PART: usize>(cells: &Columns<W>, a: usize, from: usize) -> u16
     requires { PartIn cells.now.lanes.matrix W.LANES PART a from }
     ensures { result ≡ wrong_of (λ i. plain_wrong W.LANES (seen_at cells.now.lanes.bytes.now cells.now.lanes.matrix) (a + i)) from (PART / W.LANES) }
 {
@@ -57,7 +69,7 @@ fn part_wrong<W: Width, const PART: usize>(cells: &Cells<W>, a: usize, from: usi
 }
 
 // The same for a part of so many lanes, which are one of four numbers.
-fn known_wrong<W: Width>(cells: &Cells<W>, lanes: usize, a: usize, from: usize) -> u16
+fn known_wrong<W: Width>(cells: &Columns<W>, lanes: usize, a: usize, from: usize) -> u16
     requires { PartIn cells.now.lanes.matrix W.LANES lanes a from × SomeLanes lanes }
     ensures { result ≡ wrong_of (λ i. plain_wrong W.LANES (seen_at cells.now.lanes.bytes.now cells.now.lanes.matrix) (a + i)) from (lanes / W.LANES) }
 {
@@ -88,11 +100,11 @@ fn lanes_for(left: usize, lanes: usize) -> usize
 
 // The plain columns, part by part. A last part that would go beyond the row begins earlier, and what it repeats is left out. A `while`, since
 // the parts are of different sizes.
-fn parts_right<W: Width>(cells: &Cells<W>) -> bool
+fn parts_right<W: Width>(cells: &Columns<W>) -> bool
     requires { at_once ≤ cells.now.lanes.matrix.lanes }
-    ensures { result ≡ all cells.now.plain (λ i. plain_test W.LANES (seen_at cells.now.lanes.bytes.now cells.now.lanes.matrix) (cells.now.lanes.matrix.rows + i)) }
+    ensures { result ≡ all cells.now.plain (λ i. plain_test W.LANES (seen_at cells.now.lanes.bytes.now cells.now.lanes.matrix) (cells.now.subjects + i)) }
 {
-    let n = cells.lanes.matrix.rows;
+    let n = cells.subjects;
     let all = n + cells.plain;
     let mut wrong = 0;
     let mut c = n;
@@ -107,22 +119,22 @@ fn parts_right<W: Width>(cells: &Cells<W>) -> bool
 }
 
 // The plain columns where they are no more than one part. It ends with the row, and what it has of the subjects' columns is left out.
-pub fn one_part<W: Width>(cells: &Cells<W>) -> bool
+pub fn one_part<W: Width>(cells: &Columns<W>) -> bool
     requires { (at_once ≤ cells.now.lanes.matrix.lanes) × (lanes_of W.LANES (cells.now.plain) ≤ at_once) }
-    ensures { result ≡ all cells.now.plain (λ i. plain_test W.LANES (seen_at cells.now.lanes.bytes.now cells.now.lanes.matrix) (cells.now.lanes.matrix.rows + i)) }
+    ensures { result ≡ all cells.now.plain (λ i. plain_test W.LANES (seen_at cells.now.lanes.bytes.now cells.now.lanes.matrix) (cells.now.subjects + i)) }
 {
-    let n = cells.lanes.matrix.rows;
+    let n = cells.subjects;
     let a = n + cells.plain - AT_ONCE / W::LANES;
     part_wrong::<W, AT_ONCE>(cells, a, n - a) == 0
 }
 
 // The plain columns, which come after those of the subjects. Where a row has fewer lanes than a part, all of it is merged.
-pub fn plains<W: Width>(cells: &Cells<W>) -> bool
-    ensures { result ≡ all cells.now.plain (λ i. plain_test W.LANES (seen_at cells.now.lanes.bytes.now cells.now.lanes.matrix) (cells.now.lanes.matrix.rows + i)) }
+pub fn plains<W: Width>(cells: &Columns<W>) -> bool
+    ensures { result ≡ all cells.now.plain (λ i. plain_test W.LANES (seen_at cells.now.lanes.bytes.now cells.now.lanes.matrix) (cells.now.subjects + i)) }
 {
     let lanes = cells.lanes.matrix.lanes;
     if lanes < AT_ONCE {
-        let n = cells.lanes.matrix.rows;
+        let n = cells.subjects;
         let mut seen = [0u16; AT_ONCE];
         merging::merge(&mut seen, cells.lanes, 0, lanes);
         return cells_wrong::<W>(&seen, n, n + cells.plain) == 0;

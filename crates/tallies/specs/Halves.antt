@@ -5,9 +5,10 @@ use Rattle.std.specs.Int.Bits.{bit_xor}
 use Rattle.std.proofs.lemmas.Nat.{xor_shr, xor_mod}
 use Rattle.std.proofs.lemmas.List.{get_or-replicate}
 use Rattle.matrix.specs.Bytes.{bit}
+use Rattle.matrix.specs.Shaped.{Octets}
 use Rattle.lanes.specs.Lists.{Stored, Filled, filled_from}
 use Rattle.lanes.specs.declared.Matrix.{Matrix}
-use Rattle.lanes.specs.Lanes.{lows, paired, since, place_of, row_place, byte_at, upper_at}
+use Rattle.lanes.specs.Lanes.{lows, paired, since, place_of, row_place, byte_at, lane_in, upper_at}
 use Rattle.lanes.specs.LaneLaws.{low_bits}
 use Rattle.tallies.specs.declared.Counts.{Counts}
 use Rattle.tallies.specs.Blocks.{at_once, Sized, Column, column_none, column_next, column_low, column_count, Filling}
@@ -34,26 +35,28 @@ unfoldable pub unit_of : Half → ℕ
 unit_of lower = 1
 unit_of upper = 256
 
--- The two low bits of the bytes that a number counts: the lower and the upper byte of the lane from byte `at` on in the two halves, or, where it counts
--- both, the upper bytes of that lane and of the lane so many lanes after it.
+-- What a number counts: the lane from byte `at` on, its lower and its upper byte in the two halves, or, where it counts both, the two low bits of the
+-- upper bytes of that lane and of the lane so many lanes after it.
 abbrev pub number_in : Bool → List ℕ → ℕ → ℕ
-number_in both b at =
-    cond both (get_or b (at + 1) 0 % 4 + get_or b (at + 2 * at_once + 1) 0 % 4 * 256) (get_or b at 0 % 4 + get_or b (at + 1) 0 % 4 * 256)
+number_in both b at = cond both (get_or b (at + 1) 0 % 4 + get_or b (at + 2 * at_once + 1) 0 % 4 * 256) (lane_in b at)
 
 -- the numbers of a row whose lanes begin at byte `at`
 abbrev pub numbers_from : Bool → List ℕ → ℕ → ℕ → ℕ
 numbers_from both b at j = number_in both b (at + 2 * j)
 
--- the lowest bit of each half
+-- the two low bits of each half, and the lowest one
+abbrev pub lows_both : ℕ → ℕ
+lows_both x = x % 4 + x / 256 % 4 * 256
+
 abbrev pub own_both : ℕ → ℕ
 own_both x = x % 2 + x / 256 % 2 * 256
 
--- What row v adds to a half of number j: the two low bits of a lane's upper byte, or of its lower one. The lanes begin with lane c.
+-- What row v has for a half of number j: a byte of a lane, or the two low bits of a lane's upper byte. The lanes begin with lane c.
 unfoldable pub added : Bool → List ℕ → Matrix → ℕ → Half → ℕ → ℕ → ℕ
 added true b m c lower j v = upper_at b m v (c + j) % 4
 added true b m c upper j v = upper_at b m v (c + at_once + j) % 4
-added false b m c lower j v = byte_at b m v (2 * (c + j)) % 4
-added false b m c upper j v = upper_at b m v (c + j) % 4
+added false b m c lower j v = byte_at b m v (2 * (c + j))
+added false b m c upper j v = upper_at b m v (c + j)
 
 -- a half of number j, as the code takes it
 abbrev pub taken : List ℕ → ℕ → ℕ → ℕ
@@ -61,21 +64,22 @@ taken counts unit j = get_or counts j 0 / unit % 256
 
 -- the numbers below place m have joined a row of numbers x
 pub record Joined (x : ℕ → ℕ) (m : ℕ) (s s' : Counts) : Type 0 where
-  pub sums : Stored m (λ j. get_or s.low j 0 + x j) s.low s'.low
+  pub sums : Stored m (λ j. get_or s.low j 0 + lows_both (x j)) s.low s'.low
   pub parity : Stored m (λ j. bit_xor (get_or s.odd j 0) (x j)) s.odd s'.odd
   pub owned : Stored m (λ j. get_or s.since j 0 + own_both (bit_xor (get_or s.odd j 0) (x j))) s.since s'.since
+
+-- of the parities below place m the two low bits alone are left, and all else is as it was
+pub record LowAlone (m : ℕ) (s s' : Counts) : Type 0 where
+  pub sums : s'.low ≡ s.low
+  pub parity : Stored m (λ j. lows_both (get_or s.odd j 0)) s.odd s'.odd
+  pub owned : s'.since ≡ s.since
 
 -- each half of the numbers has room for what a row adds
 pub record Room (s : Counts) : Type 0 where
   pub low_room : (h : Half) (j : ℕ) → j < at_once → half h (get_or s.low j 0) + 3 < 256
   pub since_room : (h : Half) (j : ℕ) → j < at_once → half h (get_or s.since j 0) + 1 < 256
 
--- a number adds to each half at most 3
-pub number_few : (both : Bool) (b : List ℕ) (at : ℕ) → number_in both b at ≤ 771
-number_few true b at = omega arith
-number_few false b at = omega arith
-
--- so a number that has not joined yet has room
+-- a row adds to each half at most 3, and a number that has not joined yet has room for that
 pub low_fits : (s : Counts) (x : ℕ → ℕ) (m : ℕ) (s' : Counts) → Room s → m < at_once → Joined x m s s' → get_or s'.low m 0 + 771 < 65536
 unfolding half
 low_fits s x m s' room l k = omega (arith, k.sums.above m (le_refl m), room.low_room lower m l, room.low_room upper m l)
@@ -100,7 +104,7 @@ unfolding half
 half_zero lower = refl
 half_zero upper = refl
 
--- Sums and exclusive or act on each half, where the lower halves leave no carry; the lowest bit of each half; and a half as the code takes it.
+-- Sums and exclusive or act on each half, where the lower halves leave no carry; the low bits of each half; and a half as the code takes it.
 half_add : (h : Half) (x y : ℕ) → half lower x + half lower y < 256 → half h (x + y) ≡ half h x + half h y
 unfolding half
 half_add lower x y l = omega arith
@@ -115,6 +119,11 @@ half_own : (h : Half) (x : ℕ) → half h (own_both x) ≡ half h x % 2
 unfolding half
 half_own lower x = omega arith
 half_own upper x = omega arith
+
+half_low : (h : Half) (x : ℕ) → half h (lows_both x) ≡ half h x % 4
+unfolding half
+half_low lower x = omega arith
+half_low upper x = omega arith
 
 half_taken : (h : Half) (x : ℕ) → half h x < 256 → x / unit_of h % 256 ≡ half h x
 unfolding half unit_of
@@ -135,22 +144,17 @@ paired_low (suc r) f = ap (λ (x : ℕ). bit_xor x (f r % 4)) (paired_low r f) �
 since_low : (r : ℕ) (f : ℕ → ℕ) → since r (λ v. bit 0 (f v % 4)) ≡ since r (λ v. bit 0 (f v))
 since_low r f = λ i. since r (λ v. (low_bits (f v)).0 i)
 
--- a half of a row's number is what the row adds to it, which is at most 3
-pub number_half : (both : Bool) (h : Half) (b : List ℕ) (m : Matrix) (c r at j : ℕ) → at ≡ row_place m r + 2 * c
+-- a half of a row's number is what the row has for it
+pub number_half : (both : Bool) (h : Half) (b : List ℕ) → Octets b → (m : Matrix) (c r at j : ℕ) → at ≡ row_place m r + 2 * c
     → half h (numbers_from both b at j) ≡ added both b m c h j r
 unfolding half added
-number_half true lower b m c r at j e = let q : get_or b (at + 2 * j + 1) 0 ≡ upper_at b m r (c + j) = ap (λ (i : ℕ). get_or b i 0) (omega arith) in omega arith
-number_half true upper b m c r at j e =
+number_half true lower b o m c r at j e = let q : get_or b (at + 2 * j + 1) 0 ≡ upper_at b m r (c + j) = ap (λ (i : ℕ). get_or b i 0) (omega arith) in omega arith
+number_half true upper b o m c r at j e =
     let q : get_or b (at + 2 * j + 2 * at_once + 1) 0 ≡ upper_at b m r (c + at_once + j) = ap (λ (i : ℕ). get_or b i 0) (omega arith) in omega arith
-number_half false lower b m c r at j e = let q : get_or b (at + 2 * j) 0 ≡ byte_at b m r (2 * (c + j)) = ap (λ (i : ℕ). get_or b i 0) (omega arith) in omega arith
-number_half false upper b m c r at j e = let q : get_or b (at + 2 * j + 1) 0 ≡ upper_at b m r (c + j) = ap (λ (i : ℕ). get_or b i 0) (omega arith) in omega arith
-
-added_low : (both : Bool) (h : Half) (b : List ℕ) (m : Matrix) (c j v : ℕ) → added both b m c h j v < 4
-unfolding added
-added_low true lower b m c j v = omega arith
-added_low true upper b m c j v = omega arith
-added_low false lower b m c j v = omega arith
-added_low false upper b m c j v = omega arith
+number_half false lower b o m c r at j e =
+    let q : get_or b (at + 2 * j) 0 ≡ byte_at b m r (2 * (c + j)) = ap (λ (i : ℕ). get_or b i 0) (omega arith) in omega (arith, o.octet (at + 2 * j))
+number_half false upper b o m c r at j e =
+    let q : get_or b (at + 2 * j + 1) 0 ≡ upper_at b m r (c + j) = ap (λ (i : ℕ). get_or b i 0) (omega arith) in omega (arith, o.octet (at + 2 * j))
 
 -- no row yet
 pub halves_none : (f : Half → ℕ → ℕ → ℕ) → Halves f 0 (record { low = replicate at_once 0; odd = replicate at_once 0; since = replicate at_once 0 })
@@ -168,9 +172,9 @@ halves_room f r n s k few l =
     }
 
 -- one row more has joined
-pub halves_next : (both : Bool) (b : List ℕ) (m : Matrix) (c r at : ℕ) (s s' : Counts) → at ≡ row_place m r + 2 * c → Halves (added both b m c) r s → Room s
+pub halves_next : (both : Bool) (b : List ℕ) → Octets b → (m : Matrix) (c r at : ℕ) (s s' : Counts) → at ≡ row_place m r + 2 * c → Halves (added both b m c) r s → Room s
     → Joined (numbers_from both b at) at_once s s' → Halves (added both b m c) (r + 1) s'
-halves_next both b m c r at s s' place k room joined = record { column = one }
+halves_next both b o m c r at s s' place k room joined = record { column = one }
   where
     x : ℕ → ℕ
     x j = numbers_from both b at j
@@ -178,23 +182,37 @@ halves_next both b m c r at s s' place k room joined = record { column = one }
     even : (h : Half) (j : ℕ) → half h (bit_xor (get_or s.odd j 0) (x j)) ≡ bit_xor (half h (get_or s.odd j 0)) (half h (x j))
     even h j = half_xor h (get_or s.odd j 0) (x j)
 
-    few : (h : Half) (j : ℕ) → half h (x j) < 4
-    few h j = omega (arith, number_half both h b m c r at j place, added_low both h b m c j r)
-
     one : (h : Half) (j : ℕ) → j < at_once
         → Column (added both b m c h j) (r + 1) (half h (get_or s'.low j 0)) (half h (get_or s'.odd j 0)) (half h (get_or s'.since j 0))
     one h j l =
         let y = bit_xor (get_or s.odd j 0) (x j) in
-        let f = column_next _ r _ _ _ (half h (x j)) (k.column h j l) (number_half both h b m c r at j place) in
+        let f = column_next _ r _ _ _ (half h (x j)) (k.column h j l) (number_half both h b o m c r at j place) in
         record {
           sum =
-              ap (λ (i : ℕ). half h i) (joined.sums.below j l) ∙ half_add h (get_or s.low j 0) (x j) (omega (arith, room.low_room lower j l, few lower j))
-              ∙ omega (arith, few h j) ∙ f.sum;
+              ap (λ (i : ℕ). half h i) (joined.sums.below j l)
+              ∙ half_add h (get_or s.low j 0) (lows_both (x j)) (omega (arith, room.low_room lower j l, half_low lower (x j)))
+              ∙ ap (λ (i : ℕ). half h (get_or s.low j 0) + i) (half_low h (x j)) ∙ f.sum;
           parity = ap (λ (i : ℕ). half h i) (joined.parity.below j l) ∙ even h j ∙ f.parity;
           owned =
               ap (λ (i : ℕ). half h i) (joined.owned.below j l) ∙ half_add h (get_or s.since j 0) (own_both y) (omega (arith, room.since_room lower j l, half_own lower y))
               ∙ ap (λ (i : ℕ). half h (get_or s.since j 0) + i) (half_own h y ∙ ap (λ (i : ℕ). i % 2) (even h j)) ∙ f.owned;
         }
+
+-- where of the parities the two low bits alone are left, each half counts the two low bits
+pub halves_low : (f : Half → ℕ → ℕ → ℕ) (r : ℕ) (s s' : Counts) → Halves f r s → LowAlone at_once s s' → Halves (λ h j v. f h j v % 4) r s'
+halves_low f r s s' k e =
+    record {
+      column =
+          λ h j l.
+          let c = k.column h j l in
+          record {
+            sum = ap (λ (x : List ℕ). half h (get_or x j 0)) e.sums ∙ c.sum ∙ sym (lows_low r (f h j));
+            parity =
+                ap (λ (i : ℕ). half h i) (e.parity.below j l) ∙ half_low h (get_or s.odd j 0) ∙ ap (λ (i : ℕ). i % 4) c.parity
+                ∙ sym (paired_low r (f h j));
+            owned = ap (λ (x : List ℕ). half h (get_or x j 0)) e.owned ∙ c.owned ∙ sym (since_low r (f h j));
+          };
+    }
 
 -- what the code takes from a half that counts the two low bits of numbers g
 module _ (g : ℕ → ℕ) (n : ℕ) (few : 3 * n < 256) (f : Half → ℕ → ℕ → ℕ) (s : Counts) (k : Halves f n s) (h : Half) (j : ℕ) (l : j < at_once) (e : f h j ≡ (λ v. g v % 4)) where

@@ -13,8 +13,8 @@ use lanes::{Lanes, UPPER};
 // The numbers that count at once, a lane or two each.
 pub const AT_ONCE: usize = 8;
 
-// What the numbers count of their lanes, each half for itself: the low bits of the lanes' upper bytes added up, which of these bits an odd number
-// of rows have, and up to how many rows an odd number had the lower one.
+// What the numbers count of their lanes, each half for itself: the two low bits added up, which bits an odd number of rows have, and up to how many
+// rows an odd number had the lowest one.
 #[derive(Clone, Copy)]
 pub struct Counts {
     pub low: [u16; AT_ONCE],
@@ -22,42 +22,53 @@ pub struct Counts {
     pub since: [u16; AT_ONCE],
 }
 
-// The two low bits of the bytes that a number counts. In its upper half it is the upper byte of the lane from byte `at` on, and in its lower half the
-// lower one, of which nothing is asked: so the compiler may read the lane at once. Where it counts both this lane and the one AT_ONCE lanes after it,
-// the halves have the upper bytes of the two.
+// What a number counts: the lane from byte `at` on as it is, so that the compiler reads it at once; nobody asks for what the lower half counts of its
+// lower byte. Where the number counts both this lane and the one AT_ONCE lanes after it, its halves have the two low bits of their upper bytes.
 #[inline(always)]
 fn number(b: &[u8], at: usize, both: bool) -> u16
     requires { at + last_at both + 1 < length b.now }
     ensures { result ≡ number_in both b.now at }
 {
-    let (low, high) = if both {
-        (at + 1, at + 2 * AT_ONCE)
+    if both {
+        lanes::lane(b, at + 1) % 4 + lanes::lane(b, at + 2 * AT_ONCE) / UPPER % 4 * UPPER
     } else {
-        (at, at)
-    };
-    lanes::lane(b, low) % 4 + lanes::lane(b, high) / UPPER % 4 * UPPER
+        lanes::lane(b, at)
+    }
 }
 
 impl Counts {
+    ghost use Rattle.matrix.specs.Shaped.{Octets};
     ghost use Rattle.tallies.specs.Blocks.{at_once};
-    ghost use Rattle.tallies.specs.Halves.{numbers_from, lanes_at, Joined, Room};
+    ghost use Rattle.tallies.specs.Halves.{numbers_from, lanes_at, Joined, Room, LowAlone};
 
-    // One row, whose lanes begin at byte `at`, joins what is counted. Only the two low bits join, so that no half grows beyond a byte.
+    // One row, whose lanes begin at byte `at`, joins what is counted. Only two low bits are added, so that no half grows beyond a byte.
     #[inline(always)]
     fn join(&mut self, b: &[u8], at: usize, both: bool)
         requires { (at + 2 * lanes_at both ≤ length b.now) × Room self.old }
-        ensures { Joined (numbers_from both b.now at) at_once self.old self.new }
+        ensures joined { Joined (numbers_from both b.now at) at_once self.old self.new }
+        ensures bytes { Octets b.now }
     {
         for j in 0..AT_ONCE {
             let v = number(b, at + 2 * j, both);
-            self.low[j] += v;
+            self.low[j] += v % 4 + v / UPPER % 4 * UPPER;
             self.odd[j] ^= v;
             self.since[j] += self.odd[j] % 2 + self.odd[j] / UPPER % 2 * UPPER;
         }
     }
+
+    // Of the bits that an odd number of rows have, the two low ones alone are left in each half.
+    #[inline(always)]
+    fn keep_low(&mut self)
+        ensures { LowAlone at_once self.old self.new }
+    {
+        for j in 0..AT_ONCE {
+            self.odd[j] = self.odd[j] % 4 + self.odd[j] / UPPER % 4 * UPPER;
+        }
+    }
 }
 
-// What is counted over all rows of the lanes from lane c on, in each number of one lane, or of both that lane and the one AT_ONCE lanes after it.
+// What is counted over all rows of the lanes from lane c on, in each number of one lane, or of both that lane and the one AT_ONCE lanes after it. Of
+// one lane the bits that an odd number of rows have are all those of its bytes, of both the two low ones of their upper bytes.
 #[inline(always)]
 pub fn rows(m: Lanes, c: usize, both: bool) -> Counts
     requires { (3 * m.matrix.rows < 256) × (c + lanes_at both ≤ m.matrix.lanes) }
@@ -129,11 +140,12 @@ pub fn several(tally: &mut [u8], odd: &mut [u8], marks: &mut [u8], m: Lanes, c: 
     ensures { Filling m.entry.bytes.now m.entry.matrix c (lanes_at both) tally.old odd.old marks.old tally.new odd.new marks.new }
 {
     let n = m.matrix.rows;
-    let counts = rows(m, c, both);
+    let mut counts = rows(m, c, both);
     if both {
         put_all(tally, odd, marks, c, &counts, 1, n);
         put_all(tally, odd, marks, c + AT_ONCE, &counts, UPPER, n);
     } else {
+        counts.keep_low();
         put_all(tally, odd, marks, c, &counts, UPPER, n);
     }
 }

@@ -21,7 +21,7 @@ use Rattle.columns.specs.Checks.{present, counts, count_test, subject_test}
 use Rattle.columns.specs.Loops.{counts_test}
 use Rattle.plains.specs.Checks.{plain_test}
 use Rattle.plains.specs.Parts.{lanes_single}
-use Rattle.few_subjects.specs.Counts.{few_test, tally_is, odd_is, since_is}
+use Rattle.few_subjects.specs.Counts.{few_test, tally_is, odd_is, since_is, counts_low}
 use Rattle.owner_table.specs.Table.{owner_in, lower_test, lower_rooted}
 use Rattle.validity.specs.Passed.{owner_at}
 use Rattle.validity.specs.Whole.{Scanned, owners_left}
@@ -97,8 +97,8 @@ module _ (b : List ℕ) (f : Shape) (m : Matrix) (station : Station b f) (few : 
   counts_same : (s : ℕ) → s < n → count_test 1 tally parity s ≡ few_test counted s
   unfolding count_test few_test
   counts_same s l =
-      ap₂ (λ (x y : ℕ). counts s x y) (filled_at _ s l ∙ sym (tally_is b m counted k small s (omega (arith, subjects_few))))
-      (filled_at _ s l ∙ sym (odd_is b m counted k small s (omega (arith, subjects_few))))
+      ap₂ (λ (x y : ℕ). counts s x y) (filled_at _ s l ∙ sym (tally_is b m counted k small s (omega (arith, subjects_few)))) (filled_at _ s l)
+      ∙ counts_low s _ _ _ (omega (arith, odd_is b m counted k small s (omega (arith, subjects_few))))
 
   -- where all subjects exist and their counts fit, they pass their tests
   subjects_pass : all n (present 1 b m) ≡ true → all n (few_test counted) ≡ true → all n (subject_test 1 b m (seen_at b m) tally parity) ≡ true

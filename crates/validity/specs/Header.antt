@@ -1,6 +1,6 @@
 -- The lanes of a record's bytes, and the refusals one by one.
 use Rattle.std.specs.Prelude.{ℕ, ◌+◌, ◌≤◌, ◌<◌, ◌≡◌, true, false, List, length}
-use Rattle.std.proofs.Common.{arith, sym, ◌∙◌, ap, le-leb}
+use Rattle.std.proofs.Common.{arith, sym, ◌∙◌, ap, subst, le-leb}
 use Rattle.std.proofs.Math.Path.{refl}
 use Rattle.std.proofs.lemmas.Bool.{lt-leb}
 use Rattle.matrix.specs.declared.Shape.{Shape}
@@ -9,11 +9,13 @@ use Rattle.matrix.specs.Reading.{state_of}
 use Rattle.matrix.specs.Tests.{first_failed}
 use Rattle.matrix.specs.Record.{valid_matrix, record_refusal}
 use Rattle.codec.specs.ShapeRight.{ShapeRight}
+use Rattle.codec.proofs.ShapeRight.{two_or_four}
 use Rattle.cells.specs.Station.{Station, right_shape}
 use Rattle.lanes.specs.declared.Matrix.{Matrix}
 use Rattle.lanes.specs.Lanes.{row_place, Laid}
-use Rattle.columns.specs.Cells.{cell_lanes, lanes_of, matrix_of, rows_size}
+use Rattle.columns.specs.Cells.{OneOrTwo, cell_lanes, lanes_of, matrix_of, lanes_more, lanes_of_width, rows_size}
 use Rattle.columns.specs.Checks.{Celled}
+use Rattle.plains.specs.Parts.{Columned}
 
 -- the lanes of the cells of a record's bytes
 pub lanes_laid : (b : List ℕ) (f : Shape) (m : Matrix) → Station b f → m ≡ matrix_of f → Laid b m
@@ -24,15 +26,22 @@ lanes_laid b f m s e =
     let rows : m.rows ≡ f.n = ap (λ (x : Matrix). x.rows) e in
     record { some = omega (arith, h.low); holds = omega arith }
 
-pub lanes_celled : (f : Shape) (m : Matrix) (q : ℕ) → ShapeRight f → m ≡ matrix_of f → q ≡ cell_lanes f → Celled q f.p m
-lanes_celled f m q h e c =
+pub lanes_columned : (f : Shape) (m : Matrix) (q : ℕ) → ShapeRight f → m ≡ matrix_of f → q ≡ cell_lanes f → Columned q m.rows f.p m
+lanes_columned f m q h e c =
     let rows : m.rows ≡ f.n = ap (λ (x : Matrix). x.rows) e in
     record {
-      subjects = omega (arith, h.high);
       few = omega (arith, h.high, h.plain);
       width =
           ap (λ (x : Matrix). x.lanes) e ∙ ap (λ (k : ℕ). lanes_of (cell_lanes f) (k + f.p)) (sym rows)
           ∙ ap (λ (i : ℕ). lanes_of i (m.rows + f.p)) (sym c);
+    }
+
+pub lanes_celled : (f : Shape) (m : Matrix) (q : ℕ) → ShapeRight f → m ≡ matrix_of f → q ≡ cell_lanes f → Celled q m
+lanes_celled f m q h e c =
+    let w = subst OneOrTwo (sym c) (lanes_of_width f (two_or_four f h)).0 in
+    record {
+      subjects = omega (arith, h.high, ap (λ (x : Matrix). x.rows) e);
+      inside = omega (arith, (lanes_columned f m q h e c).width, lanes_more w m.rows (m.rows + f.p) (omega arith));
     }
 
 -- ---- the refusals, one by one

@@ -17,6 +17,7 @@ ghost use Rattle.validity.specs.Whole.{Scanned};
 use columns::{COUNTED, Cells, OneLane, TwoLanes, Width};
 use lanes::{Lanes, Matrix, UPPER};
 use matrix::{HEADER_BYTES, MOST_SUBJECTS, Refusal, Shape};
+use plains::Columns;
 use std::marker::PhantomData;
 use tallies::AT_ONCE;
 
@@ -52,13 +53,18 @@ fn cells_valid<W: Width>(
 {
     let cells = Cells::<W> {
         lanes,
-        plain: f.p,
         width: PhantomData,
     };
     if !cells.subjects(tally, odd) {
         return false;
     }
-    if !plains::plains(&cells) {
+    let columns = Columns::<W> {
+        lanes,
+        subjects: lanes.matrix.rows,
+        plain: f.p,
+        width: PhantomData,
+    };
+    if !plains::plains(&columns) {
         return false;
     }
     columns::owners::<W>(owners, marks);
@@ -102,6 +108,11 @@ fn few_valid(b: &[u8], f: Shape, owners: &mut [u8; MOST_SUBJECTS]) -> bool
     let n = lanes.matrix.rows;
     let cells = Cells::<OneLane> {
         lanes,
+        width: PhantomData,
+    };
+    let columns = Columns::<OneLane> {
+        lanes,
+        subjects: n,
         plain: f.p,
         width: PhantomData,
     };
@@ -112,7 +123,7 @@ fn few_valid(b: &[u8], f: Shape, owners: &mut [u8; MOST_SUBJECTS]) -> bool
     if !few_subjects::counts_fit(&counts, n) {
         return false;
     }
-    if !plains::one_part(&cells) {
+    if !plains::one_part(&columns) {
         return false;
     }
     tallies::put_places(owners, 0, &counts.since, UPPER, n);

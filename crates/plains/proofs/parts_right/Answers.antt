@@ -22,9 +22,9 @@ step_is : (g : _) (c : After-LANES g) →
 step_is g c =
     subst (λ (k : ℕ). (lanes_of g.W.Width.LANES k ≡ c.lanes_for-lanes.result) × (1 ≤ k)) (sym (cells g c)) (whole_cells g.W.Width.one_or_two c.lanes_for-lanes.ensures.some)
 
-step_fits : (g : _) (c : After-LANES g) → let a = c.args.cells.now in c.lanes_for-lanes.result / c.LANES.result ≤ a.lanes.matrix.rows + a.plain
+step_fits : (g : _) (c : After-LANES g) → let a = c.args.cells.now in c.lanes_for-lanes.result / c.LANES.result ≤ a.subjects + a.plain
 step_fits g c =
-    cells_fewer g.W.Width.one_or_two _ _ (omega (arith, (step_is g c).0, c.lanes_for-lanes.ensures.inside, c.args.cells.now.celled.width))
+    cells_fewer g.W.Width.one_or_two _ _ (omega (arith, (step_is g c).0, c.lanes_for-lanes.ensures.inside, c.args.cells.now.columned.width))
 
 pub loop-c-init : goal.loop-c-init
 loop-c-init g c = (omega arith, tested_none _ _ _)
@@ -36,7 +36,7 @@ pub known_wrong-wrong-requires : goal.known_wrong-wrong-requires
 known_wrong-wrong-requires g c =
     let p = c.part-a.ensures in
     let w = g.W.Width.one_or_two in
-    let h = c.args.cells.now.celled in
+    let h = c.args.cells.now.columned in
     let d = goal.at.known_wrong-wrong-requires g c in
     let step = c.lanes_for-lanes.result / c.LANES.result in (
       record {
@@ -53,7 +53,7 @@ loop-c-preserved g c =
     let p = c.part-a.ensures in
     let a = c.part-a.result in
     let m = c.args.cells.now.lanes in
-    let n = m.matrix.rows in
+    let n = c.args.cells.now.subjects in
     let wrong : ℕ → ℕ = wrong_of (λ i. plain_wrong g.W.Width.LANES (seen_at m.bytes.now m.matrix) (a + i)) (c.loop-c.c - a) in (
       omega (arith, c.loop-c.invariant.0),
       subst (λ (v : ℕ). Tested (plain_test g.W.Width.LANES (seen_at m.bytes.now m.matrix)) n (n + c.args.cells.now.plain) (c.loop-c.c + c.lanes_for-lanes.result / c.LANES.result) (bit_or c.loop-c.wrong v))

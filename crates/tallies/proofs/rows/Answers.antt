@@ -18,4 +18,4 @@ join-requires c =
 
 pub loop-r-preserved : goal.loop-r-preserved
 loop-r-preserved c =
-    halves_next _ _ _ _ _ _ _ _ c.place.ensures c.loop-r.invariant (room (goal.at.loop-r-preserved c).In-loop-r) c.join.ensures
+    halves_next _ _ c.join.ensures.bytes _ _ _ _ _ _ c.place.ensures c.loop-r.invariant (room (goal.at.loop-r-preserved c).In-loop-r) c.join.ensures.joined

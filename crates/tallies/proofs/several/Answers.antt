@@ -4,7 +4,7 @@ use native.Mathlib.Omega.{arith}
 use mathlib.Core.Bool.{Bool, true, false}
 use mathlib.Core.Path.{refl, sym, ap, subst}
 use Rattle.tallies.specs.Blocks.{at_once, Filling, filling_both}
-use Rattle.tallies.specs.Halves.{lower, upper, unit_of, lanes_at, added, Halves, taken_few, put_filling, put_sized}
+use Rattle.tallies.specs.Halves.{lower, upper, unit_of, lanes_at, added, Halves, halves_low, taken_few, put_filling, put_sized}
 use Rattle.tallies.proofs.several.Goals as goal
 use Rattle.tallies.proofs.several.Goals.{Then-both, Else-both}
 
@@ -32,7 +32,8 @@ pub put_all-requires-else-both : goal.put_all-requires-else-both
 unfolding unit_of
 put_all-requires-else-both c =
     let p = c.requires in
-    (search rules, omega (arith, p.2, ap lanes_at c.if-both.false), p.3, omega (arith, p.0), taken_few _ p.0 _ _ c.rows-counts.ensures upper)
+    let k = halves_low _ _ _ _ c.rows-counts.ensures c.keep_low.ensures in
+    (search rules, omega (arith, p.2, ap lanes_at c.if-both.false), p.3, omega (arith, p.0), taken_few _ p.0 _ _ k upper)
 
 pub returns-then-both : goal.returns-then-both
 unfolding unit_of added
@@ -50,4 +51,5 @@ returns-else-both c =
     let a = c.args in
     let f = λ (t : Bool). Filling a.m.bytes.now a.m.matrix a.c (lanes_at t) a.tally.now a.odd.now a.marks.now c.put_all-else-both.new.tally c.put_all-else-both.new.odd c.put_all-else-both.new.marks in
     subst f (sym c.if-both.false)
-    (put_filling _ _ _ upper _ _ _ _ _ _ _ _ c.requires.0 (counted_single (goal.at.returns-else-both c).Else-both) (λ j. refl) c.put_all-else-both.ensures)
+    (put_filling _ _ _ upper _ _ _ _ _ _ _ _ c.requires.0 (halves_low _ _ _ _ (counted_single (goal.at.returns-else-both c).Else-both) c.keep_low.ensures) (λ j. refl)
+    c.put_all-else-both.ensures)

@@ -4,13 +4,14 @@ use Rattle.std.proofs.lemmas.List.{length-take-le, get_or-take}
 use Rattle.matrix.specs.Shape.{shape_of}
 use Rattle.matrix.specs.Reading.{state_of}
 use Rattle.matrix.specs.Record.{valid_matrix}
-use Rattle.cells.specs.Station.{Station}
+use Rattle.cells.specs.Station.{Station, right_shape}
 use Rattle.lanes.specs.declared.Matrix.{Matrix}
 use Rattle.columns.specs.Cells.{lanes_of}
 use Rattle.tallies.specs.Blocks.{at_once}
 use Rattle.plains.specs.Parts.{lanes_single}
 use Rattle.few_subjects.specs.Counts.{since_few}
 use Rattle.validity.specs.Few.{surely}
+use Rattle.validity.specs.Header.{lanes_celled}
 use Rattle.validity.proofs.few_valid.Goals as goal
 use Rattle.validity.proofs.few_valid.Goals.{After-lanes_in-lanes}
 
@@ -22,6 +23,14 @@ lanes_are : (c : After-lanes_in-lanes) → c.lanes_in-lanes.result.matrix.lanes 
 lanes_are c =
     let f = c.args.f in
     ap (λ (m : Matrix). m.lanes) c.lanes_in-lanes.ensures.place ∙ ap (λ (w : ℕ). lanes_of (w / 2) (f.n + f.p)) c.requires.1.width ∙ lanes_single (f.n + f.p)
+
+pub invariant_of-cells : goal.invariant_of-cells
+invariant_of-cells c =
+    record {
+      celled =
+          lanes_celled c.args.f c.lanes_in-lanes.result.matrix 1 (right_shape c.requires.0) c.lanes_in-lanes.ensures.place
+          (ap (λ (w : ℕ). w / 2) (sym c.requires.1.width));
+    }
 
 pub rows-counts-requires : goal.rows-counts-requires
 rows-counts-requires c =

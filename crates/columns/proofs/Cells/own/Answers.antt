@@ -9,13 +9,13 @@ use Rattle.columns.proofs.Cells.own.Goals.{Start, After-place}
 
 -- the cell lies in its row, and where the lane begins
 inside : (g : _) (c : Start g) → 2 * last_lane g.W.Width.LANES c.args.s + 1 < row_bytes c.args.self.now.lanes.matrix
-inside g c = cell_inside g.W.Width.one_or_two _ _ c.args.s c.args.self.now.celled c.requires
+inside g c = cell_inside g.W.Width.one_or_two _ c.args.s c.args.self.now.celled c.requires
 
 at : (g : _) (c : After-place g) → c.place.result ≡ row_place c.args.self.now.lanes.matrix c.args.s + 2 * last_lane g.W.Width.LANES c.args.s
 at g c = c.place.ensures ∙ ap (λ (j : ℕ). row_place c.args.self.now.lanes.matrix c.args.s + 2 * j) c.last_lane.ensures
 
 pub last_lane-requires : goal.last_lane-requires
-last_lane-requires g c = omega (arith, c.args.self.now.celled.few, c.requires)
+last_lane-requires g c = omega (arith, c.args.self.now.celled.subjects, c.requires)
 
 pub place-requires : goal.place-requires
 place-requires g c = (c.requires, omega (arith, c.last_lane.ensures, inside g (goal.at.place-requires g c).Start))

@@ -17,7 +17,7 @@ bounds-odd-j g c = last_counted g.W.Width.one_or_two c.args.s _ (omega (arith, c
 pub bits_of-requires : goal.bits_of-requires
 bits_of-requires g c =
     let l : c.args.s < most_subjects = omega (arith, c.args.self.now.celled.subjects, c.requires) in
-    (omega (arith, c.args.self.now.celled.few, c.requires), omega (arith, last_counted g.W.Width.one_or_two c.args.s _ l refl))
+    (omega arith, omega (arith, last_counted g.W.Width.one_or_two c.args.s _ l refl))
 
 pub returns-then-controls : goal.returns-then-controls
 returns-then-controls g c = subject_here _ _ _ _ _ _ _ _ _ c.last_lane-j.ensures (sym (ap (bit 1) c.own.ensures.upper) ∙ sym c.controls.ensures ∙ c.if-controls.true) c.counts.ensures

@@ -1,9 +1,9 @@
 -- `columns::Cells::with_absent` meets its contract. The list has what is seen in the lanes of the subjects.
-use Rattle.std.proofs.Common.{arith, ◌≡◌, ◌∙◌, ℕ, ◌+◌, sym, refl, subst, get_or}
+use Rattle.std.proofs.Common.{arith, ◌≡◌, ◌∙◌, ℕ, sym, refl, subst, get_or}
 use Rattle.matrix.specs.Bounded.{all}
 use Rattle.lanes.specs.Lanes.{Seen, seen_at}
 use Rattle.lanes.specs.Passing.{all_none, all_more, all_done, all_stop}
-use Rattle.columns.specs.Cells.{most_counted, counted_most, lanes_more}
+use Rattle.columns.specs.Cells.{most_counted, counted_most}
 use Rattle.columns.specs.Checks.{subject_test}
 use Rattle.columns.specs.Loops.{subjects_seen}
 use Rattle.columns.proofs.Cells.with_absent.Goals as goal
@@ -13,8 +13,7 @@ pub merge-requires : goal.merge-requires
 merge-requires g c =
     let h = c.args.self.now.celled in
     let w = g.W.Width.one_or_two in
-    let m = c.args.self.now.lanes.matrix in
-    (omega (arith, c.lanes_of.ensures, h.width, lanes_more w m.rows (m.rows + c.args.self.now.plain) (omega arith)), omega (arith, c.lanes_of.ensures, counted_most w _ h.subjects), refl)
+    (omega (arith, c.lanes_of.ensures, h.inside), omega (arith, c.lanes_of.ensures, counted_most w _ h.subjects), refl)
 
 -- the subjects' tests, by the list
 listed : (g : _) (c : After-merge g) →
