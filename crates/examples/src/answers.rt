@@ -1,5 +1,5 @@
 // What the calls answer, as it is printed. Every number of an answer that is printed is the answer's own.
-use matrix::{Refusal, Refused};
+use matrix::{Numbers, Refusal, Refused};
 use std::fmt;
 
 // Whether a record is valid.
@@ -53,10 +53,8 @@ pub struct Ran(pub Result<usize, Refused>);
 
 impl fmt::Display for Ran {
     fn fmt<W: fmt::Write>(&self, f: &mut fmt::Formatter<W>) -> fmt::Result {
-        match &self.0 {
-            Ok(accepted) => write!(f, "accepted {accepted}, refusal 0"),
-            Err(e) => write!(f, "accepted {}, refusal {}", e.value, e.refusal.number()),
-        }
+        let Numbers { refusal, value } = self.0.into();
+        write!(f, "accepted {value}, refusal {refusal}")
     }
 }
 
@@ -67,10 +65,11 @@ pub struct InNumbers(pub Result<usize, Refusal>);
 
 impl fmt::Display for InNumbers {
     fn fmt<W: fmt::Write>(&self, f: &mut fmt::Formatter<W>) -> fmt::Result {
-        match &self.0 {
-            Ok(value) => write!(f, "refusal 0, value {value}"),
-            Err(refusal) => write!(f, "refusal {}, value 0", refusal.number()),
-        }
+        let Numbers { refusal, value } = match self.0 {
+            Ok(value) => Numbers::value(value as u64),
+            Err(refusal) => Numbers::refused(refusal),
+        };
+        write!(f, "refusal {refusal}, value {value}")
     }
 }
 
