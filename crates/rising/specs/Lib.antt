@@ -1,3 +1,4 @@
+pub mod Spread
 pub mod Rises
 pub mod Shut
 pub mod Rising

@@ -16,7 +16,7 @@ mod path;
 mod valid;
 
 // The first untrusted subject that a way up meets, and the trusted ones that it passed.
-#[derive(Clone, Drop)]
+#[derive(Clone, Copy)]
 pub struct Met {
     pub subject: usize,
     pub passed: Path,

@@ -1,11 +1,13 @@
-ghost use Rattle.std.specs.Prelude.{◌≡◌, ◌≤◌, ◌<◌, List, ℕ, [], ◌∷◌, length, take, drop};
+ghost use Rattle.std.specs.Prelude.{◌≡◌, ◌-◌, ◌≤◌, ◌<◌, List, ℕ, [], ◌∷◌, ◌++◌, length, take, drop, replicate};
 ghost use Rattle.matrix.specs.Shape.{most_subjects};
+ghost use Rattle.rising.specs.Spread.{Spread, first_back, spread_back};
 
 use matrix::MOST_SUBJECTS;
 use std::marker::Model;
 
-// The subjects that a way up passed, the last first. They fill the array from its end on, so that each stands before those passed before it.
-#[derive(Clone, Drop)]
+// The subjects that a way up passed, the last first. They fill the array from its end on, so that each stands before those passed before it. Zeros
+// stand before them all, so that the subjects tell the bytes: a path is `Copy`.
+#[derive(Clone, Copy)]
 pub struct Path {
     subjects: [u8; MOST_SUBJECTS],
     first: usize,
@@ -16,7 +18,11 @@ impl Model for Path {
 
     ghost view = { λ p. drop p.first p.subjects };
 
-    ghost invariant = { λ p. p.first ≤ most_subjects };
+    ghost inverse = { λ ws. record { subjects = replicate (most_subjects - length ws) 0 ++ ws; first = most_subjects - length ws } };
+
+    ghost invariant = { λ p. Spread p.subjects p.first };
+
+    ghost inverse_ok = { λ p h i. record { subjects = spread_back p.subjects p.first h i; first = first_back p.subjects p.first h i } };
 }
 
 impl Path {
@@ -52,5 +58,6 @@ impl Path {
         let from = self.first;
         self.first = MOST_SUBJECTS - k;
         self.subjects.copy_within(from..from + k, self.first);
+        self.subjects[..self.first].fill(0);
     }
 }
