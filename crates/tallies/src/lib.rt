@@ -32,7 +32,7 @@ fn number(b: &[u8], at: usize, both: bool) -> u16
     if both {
         lanes::lane(b, at + 1) % 4 + lanes::lane(b, at + 2 * AT_ONCE) / UPPER % 4 * UPPER
     } else {
-        lanes::lane(b, at)
+        u16::from_le_bytes([b[at], b[at + 1]])
     }
 }
 
