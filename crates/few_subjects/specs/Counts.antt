@@ -8,7 +8,7 @@ use Rattle.lanes.specs.LaneLaws.{low_bits}
 use Rattle.columns.specs.Checks.{counts}
 use Rattle.tallies.specs.declared.Counts.{Counts}
 use Rattle.tallies.specs.Blocks.{at_once, Column, column_low, column_count}
-use Rattle.tallies.specs.Halves.{upper, half, added, taken, Halves}
+use Rattle.tallies.specs.Halves.{upper, half, row_half, taken, Halves}
 
 -- the counts of subject s fit: how many rows own it and control it, and the parities, are the upper halves of numbers
 unfoldable pub few_test : Counts → ℕ → Bool
@@ -19,9 +19,9 @@ unfolding few_test
 few_test_lem k s t e = e
 
 -- the numbers after all rows
-module _ (b : List ℕ) (m : Matrix) (k : Counts) (e : Halves (added false b m 0) m.rows k) (few : 3 * m.rows < 256) (s : ℕ) (l : s < at_once) where
+module _ (b : List ℕ) (m : Matrix) (k : Counts) (e : Halves (row_half false b m 0) m.rows k) (few : 3 * m.rows < 256) (s : ℕ) (l : s < at_once) where
   column : Column (λ v. upper_at b m v (0 + s)) m.rows (get_or k.low s 0 / 256) (get_or k.odd s 0 / 256) (get_or k.since s 0 / 256)
-  unfolding added half
+  unfolding row_half half
   column = e.column upper s l
 
   here : 0 + s ≡ s

@@ -35,10 +35,15 @@ unfoldable pub unit_of : Half → ℕ
 unit_of lower = 1
 unit_of upper = 256
 
--- What a number counts: the lane from byte `at` on, its lower and its upper byte in the two halves, or, where it counts both, the two low bits of the
--- upper bytes of that lane and of the lane so many lanes after it.
+-- What a number counts: in its two halves the lower and the upper byte of the lane from byte `at` on, each modulo 256, or, where it counts both, the two
+-- low bits of the upper bytes of that lane and of the lane so many lanes after it.
 abbrev pub number_in : Bool → List ℕ → ℕ → ℕ
-number_in both b at = cond both (get_or b (at + 1) 0 % 4 + get_or b (at + 2 * at_once + 1) 0 % 4 * 256) (lane_in b at)
+number_in both b at =
+    cond both (get_or b (at + 1) 0 % 4 + get_or b (at + 2 * at_once + 1) 0 % 4 * 256) (get_or b at 0 % 256 + get_or b (at + 1) 0 % 256 * 256)
+
+-- of bytes it is the lane as it is
+pub number_lane : (b : List ℕ) → Octets b → (at : ℕ) → number_in false b at ≡ lane_in b at
+number_lane b o at = omega (arith, o.octet at, o.octet (at + 1))
 
 -- the numbers of a row whose lanes begin at byte `at`
 abbrev pub numbers_from : Bool → List ℕ → ℕ → ℕ → ℕ
@@ -52,11 +57,16 @@ abbrev pub own_both : ℕ → ℕ
 own_both x = x % 2 + x / 256 % 2 * 256
 
 -- What row v has for a half of number j: a byte of a lane, or the two low bits of a lane's upper byte. The lanes begin with lane c.
+unfoldable pub row_half : Bool → List ℕ → Matrix → ℕ → Half → ℕ → ℕ → ℕ
+row_half true b m c lower j v = upper_at b m v (c + j) % 4
+row_half true b m c upper j v = upper_at b m v (c + at_once + j) % 4
+row_half false b m c lower j v = byte_at b m v (2 * (c + j))
+row_half false b m c upper j v = upper_at b m v (c + j)
+
+-- What the half takes of that: a byte of a lane modulo 256, as the list may hold any numbers, and the two low bits whole. Of bytes that is all of it.
 unfoldable pub added : Bool → List ℕ → Matrix → ℕ → Half → ℕ → ℕ → ℕ
-added true b m c lower j v = upper_at b m v (c + j) % 4
-added true b m c upper j v = upper_at b m v (c + at_once + j) % 4
-added false b m c lower j v = byte_at b m v (2 * (c + j))
-added false b m c upper j v = upper_at b m v (c + j)
+added true b m c h j v = row_half true b m c h j v
+added false b m c h j v = row_half false b m c h j v % 256
 
 -- a half of number j, as the code takes it
 abbrev pub taken : List ℕ → ℕ → ℕ → ℕ
@@ -79,7 +89,11 @@ pub record Room (s : Counts) : Type 0 where
   pub low_room : (h : Half) (j : ℕ) → j < at_once → half h (get_or s.low j 0) + 3 < 256
   pub since_room : (h : Half) (j : ℕ) → j < at_once → half h (get_or s.since j 0) + 1 < 256
 
--- a row adds to each half at most 3, and a number that has not joined yet has room for that
+-- a row adds to each half of a sum at most 3
+pub number_few : (both : Bool) (b : List ℕ) (at : ℕ) → lows_both (number_in both b at) ≤ 771
+number_few both b at = omega arith
+
+-- and a number that has not joined yet has room for that
 pub low_fits : (s : Counts) (x : ℕ → ℕ) (m : ℕ) (s' : Counts) → Room s → m < at_once → Joined x m s s' → get_or s'.low m 0 + 771 < 65536
 unfolding half
 low_fits s x m s' room l k = omega (arith, k.sums.above m (le_refl m), room.low_room lower m l, room.low_room upper m l)
@@ -144,17 +158,26 @@ paired_low (suc r) f = ap (λ (x : ℕ). bit_xor x (f r % 4)) (paired_low r f) �
 since_low : (r : ℕ) (f : ℕ → ℕ) → since r (λ v. bit 0 (f v % 4)) ≡ since r (λ v. bit 0 (f v))
 since_low r f = λ i. since r (λ v. (low_bits (f v)).0 i)
 
--- a half of a row's number is what the row has for it
-pub number_half : (both : Bool) (h : Half) (b : List ℕ) → Octets b → (m : Matrix) (c r at j : ℕ) → at ≡ row_place m r + 2 * c
+-- in any list, a half of a row's number is what the half takes of the row
+pub number_half : (both : Bool) (h : Half) (b : List ℕ) (m : Matrix) (c r at j : ℕ) → at ≡ row_place m r + 2 * c
     → half h (numbers_from both b at j) ≡ added both b m c h j r
-unfolding half added
-number_half true lower b o m c r at j e = let q : get_or b (at + 2 * j + 1) 0 ≡ upper_at b m r (c + j) = ap (λ (i : ℕ). get_or b i 0) (omega arith) in omega arith
-number_half true upper b o m c r at j e =
+unfolding half added row_half
+number_half true lower b m c r at j e = let q : get_or b (at + 2 * j + 1) 0 ≡ upper_at b m r (c + j) = ap (λ (i : ℕ). get_or b i 0) (omega arith) in omega arith
+number_half true upper b m c r at j e =
     let q : get_or b (at + 2 * j + 2 * at_once + 1) 0 ≡ upper_at b m r (c + at_once + j) = ap (λ (i : ℕ). get_or b i 0) (omega arith) in omega arith
-number_half false lower b o m c r at j e =
-    let q : get_or b (at + 2 * j) 0 ≡ byte_at b m r (2 * (c + j)) = ap (λ (i : ℕ). get_or b i 0) (omega arith) in omega (arith, o.octet (at + 2 * j))
-number_half false upper b o m c r at j e =
-    let q : get_or b (at + 2 * j + 1) 0 ≡ upper_at b m r (c + j) = ap (λ (i : ℕ). get_or b i 0) (omega arith) in omega (arith, o.octet (at + 2 * j))
+number_half false lower b m c r at j e = let q : get_or b (at + 2 * j) 0 ≡ byte_at b m r (2 * (c + j)) = ap (λ (i : ℕ). get_or b i 0) (omega arith) in omega arith
+number_half false upper b m c r at j e = let q : get_or b (at + 2 * j + 1) 0 ≡ upper_at b m r (c + j) = ap (λ (i : ℕ). get_or b i 0) (omega arith) in omega arith
+
+-- of bytes the half takes all that the row has for it, so that a half of the row's number is just that
+pub added_whole : (both : Bool) (h : Half) (b : List ℕ) → Octets b → (m : Matrix) (c j v : ℕ) → added both b m c h j v ≡ row_half both b m c h j v
+unfolding added row_half
+added_whole true h b o m c j v = refl
+added_whole false lower b o m c j v = omega (arith, o.octet (row_place m v + 2 * (c + j)))
+added_whole false upper b o m c j v = omega (arith, o.octet (row_place m v + (2 * (c + j) + 1)))
+
+pub number_whole : (both : Bool) (h : Half) (b : List ℕ) → Octets b → (m : Matrix) (c r at j : ℕ) → at ≡ row_place m r + 2 * c
+    → half h (numbers_from both b at j) ≡ row_half both b m c h j r
+number_whole both h b o m c r at j e = number_half both h b m c r at j e ∙ added_whole both h b o m c j r
 
 -- no row yet
 pub halves_none : (f : Half → ℕ → ℕ → ℕ) → Halves f 0 (record { low = replicate at_once 0; odd = replicate at_once 0; since = replicate at_once 0 })
@@ -171,32 +194,38 @@ halves_room f r n s k few l =
       since_room = λ h j g. omega (arith, column_count _ _ _ _ _ (k.column h j g));
     }
 
--- one row more has joined
-pub halves_next : (both : Bool) (b : List ℕ) → Octets b → (m : Matrix) (c r at : ℕ) (s s' : Counts) → at ≡ row_place m r + 2 * c → Halves (added both b m c) r s → Room s
-    → Joined (numbers_from both b at) at_once s s' → Halves (added both b m c) (r + 1) s'
-halves_next both b o m c r at s s' place k room joined = record { column = one }
+-- one row more has joined, where f says what each half of the row's numbers is
+pub halves_joined : (f : Half → ℕ → ℕ → ℕ) (x : ℕ → ℕ) (r : ℕ) (s s' : Counts) → ((h : Half) (j : ℕ) → half h (x j) ≡ f h j r) → Halves f r s → Room s → Joined x at_once s s'
+    → Halves f (r + 1) s'
+halves_joined f x r s s' has k room joined = record { column = one }
   where
-    x : ℕ → ℕ
-    x j = numbers_from both b at j
-
     even : (h : Half) (j : ℕ) → half h (bit_xor (get_or s.odd j 0) (x j)) ≡ bit_xor (half h (get_or s.odd j 0)) (half h (x j))
     even h j = half_xor h (get_or s.odd j 0) (x j)
 
-    one : (h : Half) (j : ℕ) → j < at_once
-        → Column (added both b m c h j) (r + 1) (half h (get_or s'.low j 0)) (half h (get_or s'.odd j 0)) (half h (get_or s'.since j 0))
+    one : (h : Half) (j : ℕ) → j < at_once → Column (f h j) (r + 1) (half h (get_or s'.low j 0)) (half h (get_or s'.odd j 0)) (half h (get_or s'.since j 0))
     one h j l =
         let y = bit_xor (get_or s.odd j 0) (x j) in
-        let f = column_next _ r _ _ _ (half h (x j)) (k.column h j l) (number_half both h b o m c r at j place) in
+        let next = column_next _ r _ _ _ (half h (x j)) (k.column h j l) (has h j) in
         record {
           sum =
               ap (λ (i : ℕ). half h i) (joined.sums.below j l)
               ∙ half_add h (get_or s.low j 0) (lows_both (x j)) (omega (arith, room.low_room lower j l, half_low lower (x j)))
-              ∙ ap (λ (i : ℕ). half h (get_or s.low j 0) + i) (half_low h (x j)) ∙ f.sum;
-          parity = ap (λ (i : ℕ). half h i) (joined.parity.below j l) ∙ even h j ∙ f.parity;
+              ∙ ap (λ (i : ℕ). half h (get_or s.low j 0) + i) (half_low h (x j)) ∙ next.sum;
+          parity = ap (λ (i : ℕ). half h i) (joined.parity.below j l) ∙ even h j ∙ next.parity;
           owned =
               ap (λ (i : ℕ). half h i) (joined.owned.below j l) ∙ half_add h (get_or s.since j 0) (own_both y) (omega (arith, room.since_room lower j l, half_own lower y))
-              ∙ ap (λ (i : ℕ). half h (get_or s.since j 0) + i) (half_own h y ∙ ap (λ (i : ℕ). i % 2) (even h j)) ∙ f.owned;
+              ∙ ap (λ (i : ℕ). half h (get_or s.since j 0) + i) (half_own h y ∙ ap (λ (i : ℕ). i % 2) (even h j)) ∙ next.owned;
         }
+
+-- so in any list, by what a half takes of a row
+pub halves_next : (both : Bool) (b : List ℕ) (m : Matrix) (c r at : ℕ) (s s' : Counts) → at ≡ row_place m r + 2 * c → Halves (added both b m c) r s → Room s
+    → Joined (numbers_from both b at) at_once s s' → Halves (added both b m c) (r + 1) s'
+halves_next both b m c r at s s' place = halves_joined (added both b m c) (numbers_from both b at) r s s' (λ h j. number_half both h b m c r at j place)
+
+-- and of bytes, by all that the row has
+pub halves_whole : (both : Bool) (b : List ℕ) → Octets b → (m : Matrix) (c r at : ℕ) (s s' : Counts) → at ≡ row_place m r + 2 * c → Halves (row_half both b m c) r s → Room s
+    → Joined (numbers_from both b at) at_once s s' → Halves (row_half both b m c) (r + 1) s'
+halves_whole both b o m c r at s s' place = halves_joined (row_half both b m c) (numbers_from both b at) r s s' (λ h j. number_whole both h b o m c r at j place)
 
 -- where of the parities the two low bits alone are left, each half counts the two low bits
 pub halves_low : (f : Half → ℕ → ℕ → ℕ) (r : ℕ) (s s' : Counts) → Halves f r s → LowAlone at_once s s' → Halves (λ h j v. f h j v % 4) r s'

@@ -6,7 +6,7 @@ ghost use Rattle.std.specs.Prelude.{◌≡◌, ℕ, ◌+◌, ◌-◌, ◌*◌, �
 ghost use Rattle.lanes.specs.Lists.{Filled};
 ghost use Rattle.lanes.specs.Lanes.{place_of};
 ghost use Rattle.tallies.specs.Blocks.{at_once, Sized, Filling};
-ghost use Rattle.tallies.specs.Halves.{number_in, last_at, lanes_at, added, taken, Halves, Put};
+ghost use Rattle.tallies.specs.Halves.{number_in, last_at, lanes_at, row_half, taken, Halves, Put};
 
 use lanes::{Lanes, UPPER};
 
@@ -72,7 +72,7 @@ impl Counts {
 #[inline(always)]
 pub fn rows(m: Lanes, c: usize, both: bool) -> Counts
     requires { (3 * m.matrix.rows < 256) × (c + lanes_at both ≤ m.matrix.lanes) }
-    ensures { Halves (added both m.entry.bytes.now m.entry.matrix c) m.entry.matrix.rows result }
+    ensures { Halves (row_half both m.entry.bytes.now m.entry.matrix c) m.entry.matrix.rows result }
 {
     let mut counts = Counts {
         low: [0; AT_ONCE],

@@ -15,7 +15,7 @@ use Rattle.lanes.specs.Lists.{Holds, Stored, stored_none, stored_step, Filled}
 use Rattle.lanes.specs.Lanes.{lows, paired, mark_of, place_of, upper_at, bit_in, seen_at}
 use Rattle.tallies.specs.declared.Counts.{Counts}
 use Rattle.tallies.specs.Blocks.{at_once}
-use Rattle.tallies.specs.Halves.{added, taken, Halves}
+use Rattle.tallies.specs.Halves.{row_half, taken, Halves}
 use Rattle.columns.specs.Cells.{most_counted, lanes_of, last_lane, matrix_of}
 use Rattle.columns.specs.Checks.{present, counts, count_test, subject_test}
 use Rattle.columns.specs.Loops.{counts_test}
@@ -55,7 +55,7 @@ unfolding last_lane
 single s = omega arith
 
 -- Such a record, whose lanes are counted over all rows.
-module _ (b : List ℕ) (f : Shape) (m : Matrix) (station : Station b f) (few : FewColumns f) (lanes : m ≡ matrix_of f) (counted : Counts) (k : Halves (added false b m 0) m.rows counted) where
+module _ (b : List ℕ) (f : Shape) (m : Matrix) (station : Station b f) (few : FewColumns f) (lanes : m ≡ matrix_of f) (counted : Counts) (k : Halves (row_half false b m 0) m.rows counted) where
   abbrev n : ℕ
   n = m.rows
 

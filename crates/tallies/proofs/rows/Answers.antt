@@ -1,7 +1,7 @@
 -- `tallies::rows` meets its contract.
 use native.Mathlib.Omega.{arith}
 use Rattle.lanes.specs.LaneLaws.{row_room}
-use Rattle.tallies.specs.Halves.{Room, halves_none, halves_room, halves_next}
+use Rattle.tallies.specs.Halves.{Room, halves_none, halves_room, halves_whole}
 use Rattle.tallies.proofs.rows.Goals as goal
 use Rattle.tallies.proofs.rows.Goals.{In-loop-r}
 
@@ -18,4 +18,4 @@ join-requires c =
 
 pub loop-r-preserved : goal.loop-r-preserved
 loop-r-preserved c =
-    halves_next _ _ c.join.ensures.bytes _ _ _ _ _ _ c.place.ensures c.loop-r.invariant (room (goal.at.loop-r-preserved c).In-loop-r) c.join.ensures.joined
+    halves_whole _ _ c.join.ensures.bytes _ _ _ _ _ _ c.place.ensures c.loop-r.invariant (room (goal.at.loop-r-preserved c).In-loop-r) c.join.ensures.joined

@@ -1,6 +1,6 @@
 -- The invariant: the halves of the numbers count the first r rows.
-use Rattle.tallies.specs.Halves.{added, Halves}
+use Rattle.tallies.specs.Halves.{row_half, Halves}
 use Rattle.tallies.proofs.rows.Given as goal
 
 abbrev pub invariant-loop-r : goal.invariant-loop-r
-invariant-loop-r l = Halves (added l.both l.m.bytes.now l.m.matrix l.c) l.r l.counts
+invariant-loop-r l = Halves (row_half l.both l.m.bytes.now l.m.matrix l.c) l.r l.counts

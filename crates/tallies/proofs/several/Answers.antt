@@ -4,17 +4,17 @@ use native.Mathlib.Omega.{arith}
 use mathlib.Core.Bool.{Bool, true, false}
 use mathlib.Core.Path.{refl, sym, ap, subst}
 use Rattle.tallies.specs.Blocks.{at_once, Filling, filling_both}
-use Rattle.tallies.specs.Halves.{lower, upper, unit_of, lanes_at, added, Halves, halves_low, taken_few, put_filling, put_sized}
+use Rattle.tallies.specs.Halves.{lower, upper, unit_of, lanes_at, row_half, Halves, halves_low, taken_few, put_filling, put_sized}
 use Rattle.tallies.proofs.several.Goals as goal
 use Rattle.tallies.proofs.several.Goals.{Then-both, Else-both}
 
-counted : (c : Then-both) → Halves (added true c.args.m.bytes.now c.args.m.matrix c.args.c) c.args.m.matrix.rows c.rows-counts.result
+counted : (c : Then-both) → Halves (row_half true c.args.m.bytes.now c.args.m.matrix c.args.c) c.args.m.matrix.rows c.rows-counts.result
 counted c =
-    subst (λ (t : Bool). Halves (added t c.args.m.bytes.now c.args.m.matrix c.args.c) c.args.m.matrix.rows c.rows-counts.result) c.if-both.true c.rows-counts.ensures
+    subst (λ (t : Bool). Halves (row_half t c.args.m.bytes.now c.args.m.matrix c.args.c) c.args.m.matrix.rows c.rows-counts.result) c.if-both.true c.rows-counts.ensures
 
-counted_single : (c : Else-both) → Halves (added false c.args.m.bytes.now c.args.m.matrix c.args.c) c.args.m.matrix.rows c.rows-counts.result
+counted_single : (c : Else-both) → Halves (row_half false c.args.m.bytes.now c.args.m.matrix c.args.c) c.args.m.matrix.rows c.rows-counts.result
 counted_single c =
-    subst (λ (t : Bool). Halves (added t c.args.m.bytes.now c.args.m.matrix c.args.c) c.args.m.matrix.rows c.rows-counts.result) c.if-both.false c.rows-counts.ensures
+    subst (λ (t : Bool). Halves (row_half t c.args.m.bytes.now c.args.m.matrix c.args.c) c.args.m.matrix.rows c.rows-counts.result) c.if-both.false c.rows-counts.ensures
 
 pub put_all-requires : goal.put_all-requires
 unfolding unit_of
@@ -36,7 +36,7 @@ put_all-requires-else-both c =
     (search rules, omega (arith, p.2, ap lanes_at c.if-both.false), p.3, omega (arith, p.0), taken_few _ p.0 _ _ k upper)
 
 pub returns-then-both : goal.returns-then-both
-unfolding unit_of added
+unfolding unit_of row_half
 returns-then-both c =
     let a = c.args in
     let k = counted (goal.at.returns-then-both c).Then-both in
@@ -46,7 +46,7 @@ returns-then-both c =
     (put_filling _ _ _ upper _ _ _ _ _ _ _ _ c.requires.0 k (λ j. refl) c.put_all-then-both.ensures))
 
 pub returns-else-both : goal.returns-else-both
-unfolding unit_of added
+unfolding unit_of row_half
 returns-else-both c =
     let a = c.args in
     let f = λ (t : Bool). Filling a.m.bytes.now a.m.matrix a.c (lanes_at t) a.tally.now a.odd.now a.marks.now c.put_all-else-both.new.tally c.put_all-else-both.new.odd c.put_all-else-both.new.marks in
